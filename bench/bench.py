@@ -1,150 +1,140 @@
 #!/usr/bin/env python3
-"""bench/bench.py [--restore PROGRAM] [--keep FOLDER]: how long the program takes, and how much memory.
+"""bench/bench.py [PROGRAM ..] [--times N] [--only PART] [--keep FOLDER]: how long the program takes, and how much memory.
 
-Makes a large release (seeded: every run has the same bytes) and runs the program on it: takes of a Full, of Differentials,
-of a late revision, of an Incremental and of repeats, each report and two exports of what they made, and a desk of its own
-on a socket of this machine, to which small Differentials are PUT and which is asked for reports. Prints for each task its
-time and its peak memory; where the task is mostly SQL also the ratio to the C library, which writes the same rows in the same
-run, one a statement (`raw.py`); for requests how many there were in a second, and the peak memory of the desk that served them;
-for the status of the large store the processor time of the first response and of a later one. At last a chain of 4,095 tiny
-Differentials is taken in order: all processor time, and that of an arrival where so many rows are held, with the ratio to
-one where 100 are; and bodies that no row lists yet are parked, as many as there is place for, and adopted by an amendment:
-all processor time, with the ratio to taking the same bodies where they are listed. It needs python3 alone, and the program,
-which `./build` builds: `./build && bench/bench.py`. With --only chain, or --only adopted, that task alone is
-run. Times of a busy machine say little; the ratios say more."""
-import os, re, shutil, subprocess, sys, tempfile, time
+Makes a large release (seeded: every run has the same bytes) and lets the program do each task: takes of Fulls, of Differentials, of
+a late revision, of an Incremental and of repeats; each report and two exports; a desk on a socket of this machine; a chain of
+4,095 tiny Differentials, in order; and bodies that no row lists yet, parked and then adopted. It prints for each task the time
+by the clock, the processor time and the peak memory, with a column of these for each PROGRAM (the one that was built in this
+checkout, if none is named), which do each task in turn; and of two the ratio of the second to the first. With --times the least of N
+runs stands there. Beside a Full stands what the C library takes to write the same rows, one a statement (`raw.py`).
 
-from running import Program, arrivals_where, ask, made_release
-from support import TOP, arguments_over_restore
+Times of a busy machine say little; the ratios within one run say more."""
+import os, shutil, subprocess, sys, tempfile, time
+
+from running import Program, Use, arrivals_where, ask, made_release
+from support import TOP, arguments_of, built, program
 from support.files import read
+from support.stores import copy
 
-arguments = arguments_over_restore(__doc__)
-arguments.add_argument('--keep', help='a folder to work in, which is kept')
-arguments.add_argument('--only', choices=['chain', 'adopted'], help='this task alone')
-given = arguments.parse_args()
-work = given.keep or tempfile.mkdtemp(prefix='restore-bench-')
-release = os.path.join(work, 'release')
-restore = Program(given.restore, work)
+SIZES = (12_500, 25_000, 50_000, 100_000)
 
 
 def raw(store):
-    """The milliseconds that the SQL statements of a store's content take alone. They run in a process of its own: the peak memory of a run
-    begins with the size of the process that starts it."""
-    said = subprocess.run([sys.executable, f'{TOP}/bench/raw.py', '--store', store], check=True, capture_output=True, text=True).stdout
-    return float(re.search(r'before-images and body: .*?([0-9.]+) ms', said)[1])
+    """What the SQL statements of a store's content take alone. They run in a process of its own: the peak memory of a run begins with
+    the size of the process that starts it."""
+    words = [sys.executable, f'{TOP}/bench/raw.py', '--store', store]
+    return Use(float(subprocess.run(words, check=True, capture_output=True, text=True).stdout))
 
 
-def tell(task, took, memory, ratio=None, to='raw'):
-    print(f'{task:44} {took:9.0f} ms {memory:6.0f} MB' + (f' {ratio:6.2f} x {to}' if ratio else ''), flush=True)
+def fulls(release, restore):
+    for rows in SIZES:
+        store = restore.fresh(f'growth-{rows}', f'{release}/growth/{rows}.csv')
+        yield f'Full of {rows} objects', restore.take(store, f'{release}/growth/{rows}')
+        yield '  the rows alone, by the C library', raw(store)
 
 
-def over_a_socket():
-    """Serves a desk of its own: PUTs in order, then as many GETs of each of some reports."""
-    small = os.path.join(release, 'small')
-    store = restore.fresh('small', os.path.join(small, 'manifest.csv'))
-    restore.run('take', '--store', store, os.path.join(small, 'full'))
-    bodies = []
-    for name in sorted(os.listdir(os.path.join(small, 'puts'))):
-        bodies.append((f'/arrivals/{name}', read(os.path.join(small, 'puts', name))))
-    asked = [('PUT of a small Differential', 'PUT', bodies)]
-    asked += [(f'GET {path}', 'GET', [(path, None)] * len(bodies)) for path in ('/status', '/gaps', '/export/domain')]
+def days(release, restore):
+    """A Full of most bytes, and what comes after it."""
+    store = restore.fresh('store', f'{release}/manifest.csv')
+    yield 'Full of 97000 rows, 16 MiB', restore.take(store, f'{release}/full')
+    yield '  the rows alone, by the C library', raw(store)
+    reverse, opened = (copy(store, restore.at(it)) for it in ('reverse', 'opened'))
+    clock, use = restore.arrivals(opened, f'{release}/diffs')
+    yield '30 Differentials of 300 objects, desk open', Use(0, clock[-1] - clock[0], use.memory)
+    for task, store_of, folder in (('30 Differentials of 300 objects', store, 'diffs'), ('30 Differentials, the last one first', reverse, 'late'),
+                                   ('a late revision of the first one', store, 'revision'), ('an Incremental of 3000 objects', store, 'incr'),
+                                   ('1000 arrivals of one small deposit', store, 'again'), ('1000 arrivals again', store, 'again')):
+        yield task, restore.take(store_of, f'{release}/{folder}')
+    for command, names in (('report', ('status', 'gaps', 'links', 'receipts')), ('export', ('domain', 'contact'))):
+        for name in names:
+            yield f'{command} of {name}', restore.run(command, '--store', store, name)
+    first, later, use = restore.status_of(store)
+    yield 'GET /status of that store', Use(0, first, use.memory)
+    yield '  each later one', Use(0, later, use.memory)
+
+
+def socket(release, restore):
+    """A desk on a socket: PUTs in order, then as many GETs of each of some reports."""
+    store, puts = restore.fresh('small', f'{release}/small/manifest.csv'), f'{release}/small/puts'
+    restore.take(store, f'{release}/small/full')
+    bodies = [(f'/arrivals/{name}', read(f'{puts}/{name}')) for name in sorted(os.listdir(puts))]
+    asked = [('PUTs of small Differentials', 'PUT', bodies)]
+    asked += [(f'GETs of {path}', 'GET', [(path, None)] * len(bodies)) for path in ('/status', '/gaps', '/export/domain')]
     _, port, ended = restore.serve(store, len(bodies) * len(asked))
     for task, method, requests in asked:
         begun = time.perf_counter()
         for path, body in requests:
             ask(port, method, path, body)
-        took = time.perf_counter() - begun
-        print(f'{len(requests)} times {task:34} {took * 1000:9.0f} ms {len(requests) / took:6.0f} a second', flush=True)
-    print(f'{"the desk that served them":44} {"":12} {ended().memory:6.0f} MB', flush=True)
+        yield f'{len(requests)} {task}', Use((time.perf_counter() - begun) * 1000)
+    yield '  the desk that served them', ended()
 
 
-def along_a_chain():
-    """Takes tiny Differentials in their order: what they all take, and an arrival where so many rows are held."""
-    chain = os.path.join(release, 'chain')
-    store = restore.fresh('chain', os.path.join(chain, 'manifest.csv'))
-    restore.run('take', '--store', store, os.path.join(chain, 'full'))
-    clock, use = restore.arrivals(store, os.path.join(chain, 'diffs'))
-    tell('4095 tiny Differentials in a chain, processor', use.processor, use.memory)
-    each = arrivals_where(clock)
-    for held, took in each.items():
-        print(f'{f"an arrival of one where {held} rows are held":44} {took:9.2f} ms {took / each[100]:10.2f} x that at 100', flush=True)
+def chain(release, restore):
+    """Tiny Differentials in their order, an arrival where so many rows are held, and a store of as many rows."""
+    store = copy(None, restore.at('chain'))
+    yield 'init, 4096 listed rows', restore.run('init', '--store', store, '--manifest', f'{release}/chain/manifest.csv')
+    yield 'report of status, 4096 listed rows', restore.run('report', '--store', store, 'status')
+    restore.take(store, f'{release}/chain/full')
+    clock, use = restore.arrivals(store, f'{release}/chain/diffs')
+    yield '4095 tiny Differentials in a chain', use
+    for held, took in arrivals_where(clock).items():
+        yield f'  one of them where {held} rows are held', Use(0, took, use.memory)
 
 
-def status_of(store):
-    first, later, _ = restore.status_of(store)
-    print(f'{"GET /status of that store, processor":44} {first:9.2f} ms, each later one {later:.2f} ms', flush=True)
+def adopted(release, restore):
+    """Parks bodies in a store that lists the Full alone, and amends it with the whole manifest. Beside it a store that lists them all
+    takes the same bodies."""
+    for task, of, most in (('tiny Differentials', 'chain', 1024), ('Differentials of 300 objects', '.', 30)):
+        manifest, first, bodies = f'{release}/{of}/manifest.csv', restore.at('first.csv'), restore.at('bodies')
+        shutil.rmtree(bodies, ignore_errors=True)
+        os.makedirs(bodies)
+        for name in sorted(os.listdir(f'{release}/{of}/diffs'))[:most]:
+            shutil.copy(f'{release}/{of}/diffs/{name}', bodies)
+        with open(manifest) as whole, open(first, 'w') as part:
+            part.writelines(whole.readline() for _ in range(2))
+        spare, listed = restore.fresh('adopted', first), restore.fresh('listed', manifest)
+        for store in (spare, listed):
+            restore.take(store, f'{release}/{of}/full')
+        yield f'{most} {task}, taken where listed', restore.take(listed, bodies)
+        yield '  parked', restore.take(spare, bodies, want=1)
+        yield '  adopted', restore.run('amend', '--store', spare, '--manifest', manifest)
+        if restore.printed('report', '--store', spare, 'gaps') != restore.printed('report', '--store', listed, 'gaps'):
+            sys.exit('bench: the gaps after the amendment are others than where all was listed')
 
 
-def adopted(task, release, folder, most):
-    """Parks the first bodies of a folder, at most so many, in a store that lists the Full alone, and amends it with the whole manifest.
-    Beside it a store that lists them all takes the same bodies."""
-    manifest, bodies = os.path.join(release, 'manifest.csv'), os.path.join(work, 'bodies')
-    shutil.rmtree(bodies, ignore_errors=True)
-    os.makedirs(bodies)
-    names = sorted(os.listdir(os.path.join(release, folder)))[:most]
-    for name in names:
-        shutil.copy(os.path.join(release, folder, name), bodies)
-    first = os.path.join(work, 'first.csv')
-    with open(manifest) as whole, open(first, 'w') as part:
-        part.writelines(whole.readline() for _ in range(2))
-    spare, listed = restore.fresh('adopted', first), restore.fresh('listed', manifest)
-    for store in (spare, listed):
-        restore.run('take', '--store', store, os.path.join(release, 'full'))
-    taken = restore.run('take', '--store', listed, bodies)
-    parked = restore.run('take', '--store', spare, bodies, want=1)
-    tell(f'{len(names)} {task}, parked, processor', parked.processor, parked.memory)
-    amended = restore.run('amend', '--store', spare, '--manifest', manifest)
-    tell(f'{len(names)} {task}, adopted, processor', amended.processor, amended.memory, amended.processor / taken.processor, 'taken where listed')
-    told = [subprocess.run([given.restore, 'report', '--store', it, 'gaps'], check=True, capture_output=True).stdout for it in (spare, listed)]
-    if told[0] != told[1]:
-        sys.exit('bench: the gaps after the amendment are others than where all was listed')
+PARTS = {it.__name__: it for it in (fulls, days, socket, chain, adopted)}
 
 
-def adoptions():
-    adopted('tiny Differentials', os.path.join(release, 'chain'), 'diffs', 1024)
-    adopted('Differentials of 300 objects', release, 'diffs', 1024)
+def tell(task, uses):
+    cells = ' '.join(f'{it.took:9.1f} {it.processor:9.1f} ms {it.memory:5.0f} MB' for it in uses)
+    kinds = ('processor', 'took') if uses[0].processor else ('took',)
+    ratio = f' {getattr(uses[1], kinds[0]) / getattr(uses[0], kinds[0]):6.3f}' if len(uses) == 2 else ''
+    print(f'{task:44} {cells}{ratio}', flush=True)
 
 
-def take(task, store, folder, want=0, compare=False):
-    use = restore.run('take', '--store', store, os.path.join(release, folder), want=want)
-    tell(task, use.took, use.memory, use.took / raw(store) if compare else None)
-
-
-def tell_run(task, *words):
-    use = restore.run(*words)
-    tell(task, use.took, use.memory)
+def measure(release, programs, given):
+    """Prints the least use of each program for each task."""
+    for part in (PARTS[it] for it in ([given.only] if given.only else PARTS)):
+        rounds = [zip(*(part(release, it) for it in programs)) for _ in range(given.times)]
+        # (The rounds go through the tasks one after the other.)
+        for seen in zip(*map(list, rounds)):
+            tell(seen[0][0][0], [Use.least([of_round[at][1] for of_round in seen]) for at in range(len(programs))])
 
 
 def main():
-    made_release(release)
-    if given.only == 'chain':
-        return along_a_chain()
-    if given.only == 'adopted':
-        return adoptions()
-    manifest = os.path.join(release, 'manifest.csv')
-    for rows in (12_500, 25_000, 50_000, 100_000):
-        store = restore.fresh(f'growth-{rows}', os.path.join(release, 'growth', f'{rows}.csv'))
-        take(f'Full of {rows} objects', store, f'growth/{rows}', compare=True)
-    store = restore.fresh('store', manifest)
-    take('Full of 100000 rows, 16 MiB', store, 'full', compare=True)
-    reverse = os.path.join(work, 'reverse')
-    shutil.copy(store, reverse)
-    take('30 Differentials of 300 objects', store, 'diffs')
-    take('30 Differentials, the last one first', reverse, 'late')
-    take('a late revision of the first Differential', store, 'revision')
-    take('an Incremental of 3000 objects', store, 'incr')
-    take('1000 arrivals of one small deposit', store, 'again')
-    take('1000 arrivals again', store, 'again')
-    for what in ('status', 'gaps', 'links', 'receipts'):
-        tell_run(f'report of {what}', 'report', '--store', store, what)
-    for kind in ('domain', 'contact'):
-        tell_run(f'export of {kind}', 'export', '--store', store, kind)
-    status_of(store)
-    over_a_socket()
-    along_a_chain()
-    adoptions()
+    arguments = arguments_of(__doc__)
+    arguments.add_argument('programs', nargs='*', type=program, metavar='PROGRAM')
+    arguments.add_argument('--times', type=int, default=1, metavar='N')
+    arguments.add_argument('--only', choices=PARTS, metavar='PART', help=', '.join(PARTS))
+    arguments.add_argument('--keep', metavar='FOLDER', help='a folder to work in, which is kept')
+    given = arguments.parse_args()
+    work = given.keep or tempfile.mkdtemp(prefix='restore-bench-')
+    made_release(f'{work}/release')
+    paths = given.programs or [program(built('restore'))]
+    measure(f'{work}/release', [Program(path, f'{work}/{at}') for at, path in enumerate(paths)], given)
+    if not given.keep:
+        shutil.rmtree(work)
 
 
-main()
-if not given.keep:
-    shutil.rmtree(work)
+if __name__ == '__main__':
+    main()

@@ -1,18 +1,23 @@
-"""Runs of the program that are measured: what bench.py, compare.py and statements.py share."""
+"""Runs of the program that are measured: what bench.py and statements.py share."""
 import http.client, os, subprocess, sys, time
 from dataclasses import dataclass
 
 sys.path.append(f'{sys.path[0]}/../tests')
 from support import TOP
 from support.sockets import HOST, free_port
+from support.stores import copy
 
 
 @dataclass
 class Use:
     """What a run used: milliseconds, milliseconds of processor time, and the peak memory in MB."""
     took: float
-    processor: float
-    memory: float
+    processor: float = 0
+    memory: float = 0
+
+    @staticmethod
+    def least(uses):
+        return Use(*(min(getattr(it, name) for it in uses) for name in ('took', 'processor', 'memory')))
 
 
 class Program:
@@ -20,12 +25,22 @@ class Program:
 
     def __init__(self, path, work):
         self.path, self.work = path, work
+        os.makedirs(work, exist_ok=True)
+
+    def at(self, name):
+        return os.path.join(self.work, name)
 
     def run(self, *words, want=0):
         """Runs it to its end, with what it prints in a file."""
         with open(os.path.join(self.work, 'out'), 'wb') as out:
             begun = time.perf_counter()
             return self.ended(subprocess.Popen([self.path, *words], stdout=out), words, begun, want)
+
+    def take(self, store, folder, want=0):
+        return self.run('take', '--store', store, folder, want=want)
+
+    def printed(self, *words):
+        return subprocess.run([self.path, *words], check=True, capture_output=True).stdout
 
     def ended(self, child, words, begun, want=0):
         """Waits for a run, whose status has to be the wanted one, and answers what it used."""
@@ -37,10 +52,7 @@ class Program:
 
     def fresh(self, name, manifest):
         """A new store of a manifest."""
-        store = os.path.join(self.work, name)
-        for path in (store, store + '-wal'):
-            if os.path.exists(path):
-                os.remove(path)
+        store = copy(None, self.at(name))
         self.run('init', '--store', store, '--manifest', manifest)
         return store
 

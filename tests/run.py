@@ -1,6 +1,7 @@
 #!/usr/bin/env python3
 """python3 tests/run.py [--restore FILE] [--harness FILE] [--pack FILE] [--handover FILE] [NAME ..]: plays the test cases on the programs
-`restore`, `desk_harness`, `pack` and `handover`: all of them, or those whose file or title has one of these names in it.
+`restore`, `desk_harness`, `pack` and `handover`: all of them, or those whose file or title has one of these names in it. With --list their
+titles are printed alone: what two trees list says what one has lost.
 
 The programs are those that `rt ci` built in this checkout (crates/restore/out/restore and so on), if no others are named.
 
@@ -131,9 +132,13 @@ def main():
     arguments = arguments_of(__doc__)
     for name in PROGRAMS:
         arguments.add_argument(f'--{name.removeprefix("desk_")}', dest=name, default=built(name), metavar='FILE')
+    arguments.add_argument('--list', action='store_true')
     arguments.add_argument('names', nargs='*', metavar='NAME')
     given = arguments.parse_args()
     programs, cases = {it: os.path.abspath(getattr(given, it)) for it in PROGRAMS}, cases_named(given.names)
+    if given.list:
+        print(*sorted(f'{it.file}: {it.title}' for it in cases), sep='\n')
+        return 0
     for program in programs.values():
         if any(it.has_programs for it in cases) and not os.access(program, os.X_OK):
             sys.exit(f'tests: there is no program {program}: `./check` builds it')

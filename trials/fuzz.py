@@ -7,7 +7,7 @@ N bundles (2,000) are damaged by `fuzzing/bundles.py` and listed by their SHA-25
 cut or broken off. `tests/support/formats.py` reads the same bytes by the definitions, in plain Python: from it comes, to the byte, what
 the program has to print or respond, and its status; where the outcome is plain from how the input was made that is asked
 too. So each crash, each other status, each other text is wrong, and so is what does not end in time. After each folder and
-each server the C library's `integrity_check` has to say ok and the folder, taken again, has to get the same receipts. Then
+each server the C library's checks have to pass and the folder, taken again, has to get the same receipts. Then
 a client of each kind holds its connection (`fuzzing/clients.py`), with a good one behind it, which has to get its response within a
 deadline. At last some bundles as large as a bundle may be are taken one by one, with their time and peak memory.
 
@@ -22,44 +22,50 @@ from fuzzing.desk import over_requests
 from fuzzing.folders import over_bundles
 from fuzzing.largest import over_largest
 from fuzzing.manifests import over_manifest
-from fuzzing.trial import Trial
 from support import arguments_over_restore
-
-arguments = arguments_over_restore(__doc__)
-arguments.add_argument('--bundles', type=int, default=2000)
-arguments.add_argument('--manifests', type=int, default=500)
-arguments.add_argument('--requests', type=int, default=2000)
-arguments.add_argument('--seed', type=int, default=1)
-arguments.add_argument('--memory', type=int, default=6, help='GB that a run may have')
-arguments.add_argument('--without-largest', action='store_true')
-arguments.add_argument('--without-clients', action='store_true', help='leave out those that hold their connection')
-arguments.add_argument('--keep', help='where wrong inputs are kept')
-given = arguments.parse_args()
+from trial import Trial
 
 
-def main():
-    trial = Trial(given.restore, given.memory, given.keep)
+def batches(count, most):
+    """The numbers and sizes of the batches that so many inputs make."""
+    return [(at, min(most, count - at * most)) for at in range(-(-count // most))]
+
+
+def over_all(trial, given):
     rng, begun, counts = random.Random(given.seed), time.perf_counter(), trial.counts
-    said = lambda what: print(f'{time.perf_counter() - begun:5.0f} s: {what}', flush=True)
-    for batch in range(-(-given.bundles // 100)):
-        over_bundles(trial, batch, rng, min(100, given.bundles - 100 * batch))
+
+    def said(what):
+        print(f'{time.perf_counter() - begun:5.0f} s: {what}', flush=True)
+    for batch, many in batches(given.bundles, 100):
+        over_bundles(trial, batch, rng, many)
     said(f'{given.bundles} bundles: ' + ', '.join(f'{verdict} {counts[verdict]}' for verdict in ('A1', 'A3', 'A4')))
     for number in range(given.manifests):
         over_manifest(trial, rng, number)
     said(f'{given.manifests} manifests, {counts["accepted manifests"]} accepted')
-    for batch in range(-(-given.requests // 250)):
-        over_requests(trial, batch, rng, mutated_release(rng, 25), min(250, given.requests - 250 * batch))
-    arrivals = 25 * -(-given.requests // 250)
-    said(f'{given.requests} requests and {arrivals} arrivals before them, the slowest {counts["slowest"]:.2f} s')
-    if not given.without_clients:
-        over_clients(trial)
-        said('clients that hold their connection')
-    if not given.without_largest:
-        over_largest(trial)
-        said('the largest bundles')
-    print(f'{counts["inputs"]} inputs, wrong {counts["wrong"]}')
-    trial.clean()
-    return 1 if counts['wrong'] else 0
+    for batch, many in batches(given.requests, 250):
+        over_requests(trial, batch, rng, mutated_release(rng, 25), many)
+    said(f'{given.requests} requests and the arrivals before them, the slowest {counts["slowest"]:.2f} s')
+    for over, leaves_out, what in ((over_clients, given.without_clients, 'clients that hold their connection'),
+                                   (over_largest, given.without_largest, 'the largest bundles')):
+        if not leaves_out:
+            over(trial)
+            said(what)
 
 
-sys.exit(main())
+def main():
+    arguments = arguments_over_restore(__doc__)
+    for name, count in (('bundles', 2000), ('manifests', 500), ('requests', 2000), ('seed', 1)):
+        arguments.add_argument(f'--{name}', type=int, default=count, metavar='N')
+    arguments.add_argument('--memory', type=int, default=6, help='GB that a run may have')
+    arguments.add_argument('--without-largest', action='store_true')
+    arguments.add_argument('--without-clients', action='store_true', help='leave out those that hold their connection')
+    arguments.add_argument('--keep', help='where wrong inputs are kept')
+    given = arguments.parse_args()
+    with Trial(given.restore, given.memory, given.keep) as trial:
+        over_all(trial, given)
+    print(f'{trial.counts["inputs"]} inputs, wrong {trial.counts["wrong"]}')
+    return trial.counts['wrong'] > 0
+
+
+if __name__ == '__main__':
+    sys.exit(main())

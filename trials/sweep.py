@@ -1,43 +1,39 @@
 #!/usr/bin/env python3
-"""trials/sweep.py [OPTION ..] [TESTS ..]: refuses one growth of memory after the other, then lets one call of the database after the other
-fail.
+"""trials/sweep.py [OPTION ..]: refuses one growth of memory after the other, then lets one call of the database after the other fail.
 
 Looked for is an answer that changes in place of the error.
 
 Every growth is refused in turn in `init`, `take`, each `report` and `export`, and `serve` with a request to each route, on the
 first sample; in `init` and `take` with four arrivals of which the last takes two steps back; in `amend`, `as-of` and `report
 parked` over a release in two parts; in `migrate` of a store of version 1, and in `take` of the arrivals that it kept as A2. On
-the second sample and over the test programs TESTS (as `crates/core_tests/out/core_tests_tests`, which `rt test` leaves there,
-or `crates/desk_harness/out/desk_harness`, which `./check` leaves there), every growth up to the 400th is refused, and every
-N-th beyond (by itself so that it is 200 at most, or what --beyond says). Then each call of the database fails in turn in `init`
-and `take` with the four arrivals, `export`, `amend`, `as-of`, `migrate` and the `take` after it.
-`--some N` makes at most N refusals in each part, evenly; `--only PART` takes the parts with that in their names; `--alone` takes
-the test programs alone, and needs no other program.
+the second sample every growth up to the 400th is refused, and every N-th beyond (by itself so that it is 200 at most, or what
+--beyond says). Then each call of the database fails in turn in `init` and `take` with the four arrivals, `export`, `amend`, `as-of`,
+`migrate` and the `take` after it. `--harness FILE` is over the program of the tests alone, as on the second sample
+(`crates/desk_harness/out/desk_harness`, which `./check` leaves there). `--some N` makes at most N refusals in each part, evenly;
+`--only PART` takes the parts with that in their names.
 
 A command has to do what it does undisturbed, or to end with status 3 and `S2` (for the database `S1`) after a beginning of what it
 prints; a client of `serve` has to see the whole response, or 503 `S2`. The same again, undisturbed, has to give what it gives at
-first, and to leave the same rows: it is run once for each content of the store's two files that a refusal leaves. A test has to
-pass, or to say that memory was refused. The files are in memory (/dev/shm). It needs gcc, python3 and the program, which `./build`
-builds. The last line is 'N passed, M failed': each refusal counts once."""
+first, and to leave the same rows: it is run once for each content of the store's two files that a refusal leaves. The files are in
+memory (/dev/shm). It needs gcc, python3 and the program, which `./build` builds. The last line is 'N passed, M failed': each refusal
+counts once."""
 import os, shutil, sys
 
 sys.path.append(f'{sys.path[0]}/../tests')
-from support import TOP, arguments_of, built
+from support import TOP, arguments_over_restore, program
 from sweeping.commands import over_change, over_commands, over_init, over_migrate, over_reading, over_take
+from sweeping.harness import over_harness
 from sweeping.refusals import Sweep
 from sweeping.releases import Parts, Release, Unkept, write_four
 from sweeping.responses import over_parked, over_routes
-from sweeping.test_programs import HARNESS, over_harness, over_tests
 
-arguments = arguments_of(__doc__)
-arguments.add_argument('--restore', default=built('restore'))
+arguments = arguments_over_restore(__doc__)
 arguments.add_argument('--every', type=int, default=0, help='beyond the 400th growth, every N-th')
 arguments.add_argument('--beyond', type=int, default=200, help='beyond the 400th growth, at most so many, evenly')
 arguments.add_argument('--some', type=int, default=0, help='at most N refusals in each part, for a look at it')
 arguments.add_argument('--jobs', type=int, default=os.cpu_count() or 1, help='refusals side by side')
 arguments.add_argument('--only', default='', help='the parts whose names have this in them')
-arguments.add_argument('--alone', action='store_true', help='the test programs alone')
-arguments.add_argument('tests', nargs='*')
+arguments.add_argument('--harness', type=program, metavar='FILE', help='this program of the tests alone')
 
 
 def over_program(sweep):
@@ -70,27 +66,19 @@ def over_parts(sweep, parts):
         over_take(sweep, unkept, fault)
 
 
-def check_needs(given):
-    """Ends the run if something is missing that it needs."""
-    if not shutil.which('gcc'):
-        sys.exit('sweep: gcc is missing')
-    for program in [*([] if given.alone else [given.restore]), *given.tests]:
-        if not os.access(program, os.X_OK):
-            sys.exit(f'sweep: there is no program {program}')
-
-
 def main():
     given = arguments.parse_args()
-    check_needs(given)
+    if not shutil.which('gcc'):
+        sys.exit('sweep: gcc is missing')
     sweep = Sweep(TOP, given)
     try:
         sweep.build_library()
-        if not given.alone:
+        if given.harness:
+            over_harness(sweep, given.harness)
+        else:
             over_program(sweep)
-        for program in given.tests:
-            (over_harness if os.path.basename(program) == HARNESS else over_tests)(sweep, program)
         if not sweep.parts:
-            sys.exit(f'sweep: no part has {given.only!r} in its name' if given.only else 'sweep: nothing was swept')
+            sys.exit(f'sweep: no part has {given.only!r} in its name')
         print(f'{sweep.passed} passed, {sweep.failed} failed')
     finally:
         shutil.rmtree(sweep.work)

@@ -4,9 +4,9 @@ import random
 from collections import defaultdict
 
 from support import formats
-from support.acceptance import Kept, beginning, is_accepted, is_bundle, read_record, seen_of, tests_of, word_of
+from support.acceptance import beginning, is_accepted, is_bundle, read_record, seen_of, tests_of, word_of
 from support.files import read
-from support.first_store import record
+from support.first_store import First, record
 from support.flawed import draw_release, misnamed_releases
 from support.stage import Failed, case, compare, text_of
 from support.stores import EMPTY_LOG, change_row, make_store
@@ -26,7 +26,7 @@ def make(stage, store, release):
 
 def kept_of(release):
     moment = release.moment and formats.moment(release.moment)
-    return Kept(release.manifest(), [(f'{at}', body) for at, body in enumerate(release.bodies)], moment)
+    return First(release.manifest(), [(f'{at}', body) for at, body in enumerate(release.bodies)], moment)
 
 
 # ---- what goes bad in it: in the file, and in what the model keeps

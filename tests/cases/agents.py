@@ -1,17 +1,15 @@
-"""From an agent's deposits to the registry: `unpack_rde`, `pack` and `restore` one after the other, and the page that tells how."""
-import csv, io, json, os, random, re, shutil, subprocess, sys
+"""From an agent's deposits to the registry: `unpack_rde`, `pack` and `restore` one after the other."""
+import csv, io, json, os, random, shutil, subprocess, sys
 
 from support import TOP
+from support.documents import document
 from support.escrow import KEYS, as_written, some_objects, told
-from support.stage import Failed, Wanted, case, compare
-from documents import document
+from support.stage import Failed, Wanted, case
 
 UNPACK = [sys.executable, f'{TOP}/packaging/unpack_rde']
 KINDS = ('registrar', 'contact', 'host', 'domain', 'idn', 'nndn')
-PAGE = f'{TOP}/docs/FROM_ESCROW.md'
 # Kinds whose keys are told apart without regard to case.
 LOWERED = ('host', 'domain')
-OWN_KEY = 'desk@registry.example'
 
 
 def run(stage, *words):
@@ -184,44 +182,3 @@ def test_findings(stage):
     run(stage, stage.programs['restore'], 'init', '--store', 'desk.db', '--manifest', 'manifest.csv')
     run(stage, stage.programs['restore'], 'take', '--store', 'desk.db', 'bundles')
     stage.check('report --store desk.db links', Wanted(0, FINDINGS))
-
-
-def environment(stage):
-    """The programs by their names, and a key that is made for this page, if there is gpg."""
-    os.mkdir(stage.at('programs'))
-    for name in ('pack', 'restore'):
-        os.symlink(stage.programs[name], stage.at(f'programs/{name}'))
-    stage.write('programs/unpack_rde', f'#!/bin/sh\nexec {" ".join(UNPACK)} "$@"\n'.encode())
-    os.chmod(stage.at('programs/unpack_rde'), 0o755)
-    os.mkdir(stage.at('keys'), 0o700)
-    return dict(os.environ, PATH=f'{stage.at("programs")}:{os.environ["PATH"]}', LC_ALL='C', GNUPGHOME=stage.at('keys'), KEY=OWN_KEY)
-
-
-def in_page(stage, given, command):
-    """What a command of the page prints."""
-    return subprocess.run(['bash', '-c', command], cwd=stage.at('work'), env=given, stdin=subprocess.DEVNULL, stdout=subprocess.PIPE,
-                          stderr=subprocess.STDOUT, encoding='utf-8').stdout
-
-
-def without_gpg(command):
-    """The command for archives that are not encrypted."""
-    return re.sub(r'gpg \S+ \S+ --decrypt (\S+)', r'cat \1', command.replace(' "$KEY"', '; for it in mail/*; do mv $it ${it%.tar}.ryde; done'))
-
-
-def test_page(stage):
-    """The commands of docs/FROM_ESCROW.md print what stands there."""
-    with open(PAGE) as file:
-        blocks = re.findall(r'```\n(\$ .*?)```', file.read(), re.S)
-    given, has_gpg = environment(stage), shutil.which('gpg') is not None
-    os.mkdir(stage.at('work'))
-    os.symlink(f'{TOP}/samples', stage.at('work/samples'))
-    if has_gpg:
-        in_page(stage, given, 'gpg --batch --quiet --passphrase "" --quick-generate-key "$KEY" default default never')
-    try:
-        for block in blocks:
-            for command, _, wanted in (it.partition('\n') for it in block.removeprefix('$ ').split('\n$ ')):
-                printed = in_page(stage, given, command if has_gpg else without_gpg(command))
-                compare(f'$ {command}', wanted.rstrip('\n'), printed.rstrip('\n'))
-    finally:
-        if has_gpg:
-            in_page(stage, given, 'gpgconf --kill all')

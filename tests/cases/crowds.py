@@ -54,7 +54,7 @@ def set_up(stage, receipt):
 
 def look(desk):
     """What is seen of a desk."""
-    parked, receipts = (desk.ask(it).split('\n')[:-1] for it in ('parked', 'receipts'))
+    parked, receipts = (desk.ask(it).split('\n')[1:-1] for it in ('parked', 'receipts'))
     numbers = dict(it.split(' ', 1) for it in desk.ask('status').split('\n')[:-1])
     of_more = sum(it.split(',')[1] == 'more' for it in receipts)
     return f'{len(parked)} parked, {numbers["listed"]} listed, {numbers["held"]} held, {numbers["receipts"]} receipts, {of_more} of more'

@@ -135,9 +135,10 @@ def test_deletes_of_differentials(stage):
             compare('objects', text_of(objects), desk.ask('tables'))
 
 
-def end_with(desk, body):
+def end_with(stage, desk, body):
     """How the chain ends with another body in the place of the one that is held."""
-    for line, wanted in (('close', ''), (f"sql UPDATE held SET body = X'{body.hex()}'", '1 changed\n'), ('open', 'opened\n')):
+    stage.write('end.sql', f"UPDATE held SET body = X'{body.hex()}';\n".encode())
+    for line, wanted in (('close', ''), ('script end.sql', ''), ('open', 'opened\n')):
         desk.check(line, wanted)
     return desk.ask('end')
 
@@ -152,7 +153,7 @@ def test_envelopes_alone(stage):
         compare('reply to the Full', 'A1,,F1,0,new,0', reply_to(stage, desk, 1, full))
         compare('end of the Full', '2024-03-10T00:00:00Z\n', desk.ask('end'))
         for body, end in ends:
-            compare(f'end with {body}', end, end_with(desk, body))
+            compare(f'end with {body}', end, end_with(stage, desk, body))
 
 
 def check_size(stage, letters, count, deletes_too, fault):

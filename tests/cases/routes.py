@@ -6,7 +6,8 @@ from support.clients import (
     AMPLE, HELD, READ_FAULT, RECEIPTS, SAMPLE, WRITE_FAULT, RequestDesk, Wire, export, gaps, get, links, list_sample, moment,
     new_desk, parked, parked_bodies, receipts, refusal, status)
 from support.events import check
-from support.stage import Failed, text_of
+from support.reports import report
+from support.stage import Failed
 
 
 @dataclass(frozen=True)
@@ -104,7 +105,7 @@ def refusals_of(desk, route):
     refuses each call tells none."""
     if is_answered(desk, route):
         return 0
-    check(desk, 'receipts', text_of(RECEIPTS[:route.before]), 'S1\n')
+    check(desk, 'receipts', report('receipts', RECEIPTS[:route.before]), 'S1\n')
     return 1 if is_answered(desk, route) else 2
 
 
@@ -134,7 +135,7 @@ def has_failed(stage, file, calls, most):
         # (Where a call may fail the store is opened once more.)
         count = count_answered(desk, most) if is_opened(desk) or is_opened(desk) else 0
         if count < len(ROUTES):
-            check(desk, 'sound', '')
+            check(desk, 'crash written', '')
             if not is_opened(desk):
                 raise Failed('sound files are refused')
         for route in ROUTES[count:]:

@@ -22,7 +22,7 @@ RECORD_OF_R7 = b'\0\0\0\x01\0\0\0\x07contact\0\0\0\x02\0\0\0\x02id\0\0\0\x02C1\0
 # What a desk that took F1 is told, and what it answers: its contact has another registrar since.
 MOVED = (
     ('close', ''),
-    (f'sql UPDATE object SET record = {literal(RECORD_OF_R7)} WHERE kind = 1', '1 changed\n'),
+    ('script moved.sql', ''),
     ('open', 'opened\n'),
     (TAKEN_D2.line(), TAKEN_D2.answer()),
     ('tables', text_of([R1, 'contact C1: contact id=C1 clID=R7', DOMAIN_A, DOMAIN_B])),
@@ -99,6 +99,7 @@ def test_what_stood_before_each_step(stage):
 def test_tables_are_moved_and_not_read_again(stage):
     """Tables are moved, and not read again."""
     stage.write('D2', bytes_of('D2'))
+    stage.write('moved.sql', f'UPDATE object SET record = {literal(RECORD_OF_R7)} WHERE kind = 1;\n'.encode())
     with desk_of(stage, FORWARD.listed) as desk:
         take(stage, desk, TAKEN_F1)
         for line, wanted in MOVED:
@@ -109,10 +110,9 @@ def test_a_run(stage):
     """Arrivals that are given to a desk in one call."""
     for taken in RESENT.taken:
         stage.write(taken.body, bytes_of(taken.body))
-    for call in ('arrivals', 'run'):
-        with desk_of(stage, RESENT.listed) as desk:
-            desk.check(f'{call} {len(RESENT.taken)}', text_of(RESENT.replies()), *(it.line() for it in RESENT.taken))
-            desk.check('tables', text_of(RESENT.tables))
+    with desk_of(stage, RESENT.listed) as desk:
+        desk.check(f'run {len(RESENT.taken)}', text_of(RESENT.replies()), *(it.line() for it in RESENT.taken))
+        check_state(desk, RESENT)
 
 
 def test_the_empty_body(_):

@@ -11,6 +11,7 @@ from support import first_store
 from support.bodies import bytes_of, manifest_text
 from support.events import FILES, FIRST_TABLES, NOON, check, compare_any, is_answered, put_files, put_first_store, query, run, run_line
 from support.harness import Harness
+from support.reports import report
 from support.stage import Failed, text_of
 from support.worked_rows import C1, DOMAIN_A, DOMAIN_B, DOMAIN_C, R1, RESENT, RESENT_IMAGES, told
 
@@ -79,7 +80,8 @@ def count_answered(desk):
 def check_receipts(desk, count):
     """The receipts that were answered, or one more; where there was no store to begin with, none."""
     replies = RESENT.replies()
-    check(desk, 'receipts', *([''] if count is None else [text_of(replies[:count]), text_of(replies[:count + 1])]))
+    counts = (0,) if count is None else (count, count + 1)
+    check(desk, 'receipts', *(report('receipts', replies[:it]) for it in counts))
 
 
 def play_arrivals(desk, stop):
@@ -114,14 +116,14 @@ class Step:
 
 RECEIPTS = ('1,1,A1,,F1,0,new,0', '2,2,A5,,,,,', '3,3,A5,,,,,', '4,4,A5,,,,,', '5,5,A1,,D3,0,new,0', '6,6,A1,,D2,1,new,0')
 # The digests and the lengths of the bodies that are parked.
-D2 = 'a71a79bf7e6f48c5f58832524f5d5af5a3db414f590148a0d0eca3adb2404e64 298'
-ABC = 'ba7816bf8f01cfea414140de5dae2223b00361a396177a9cb410ff61f20015ad 3'
-EMPTY = 'e3b0c44298fc1c149afbf4c8996fb92427ae41e4649b934ca495991b7852b855 0'
+D2 = 'a71a79bf7e6f48c5f58832524f5d5af5a3db414f590148a0d0eca3adb2404e64,298'
+ABC = 'ba7816bf8f01cfea414140de5dae2223b00361a396177a9cb410ff61f20015ad,3'
+EMPTY = 'e3b0c44298fc1c149afbf4c8996fb92427ae41e4649b934ca495991b7852b855,0'
 
 
 def state(parked, moment, receipts, rows, *tables):
     """What a desk has: parked bodies, a moment, so many of the receipts, rows and objects."""
-    return text_of([*parked, moment, *RECEIPTS[:receipts], rows, *tables])
+    return report('parked', parked) + text_of([moment]) + report('receipts', RECEIPTS[:receipts]) + text_of([rows, *tables])
 
 
 BEGINNING = state([], 'latest', 0, 'lists 3, holds')
@@ -189,15 +191,15 @@ def play_events(desk, stop):
 LOST = (('2', 'D2'),)
 # What the desk over the migrated store is told, and what it answers.
 AFTER = (
-    ('parked', []),
-    ('comes 2 D2', ['2,2,A2,,,,,']),
-    ('parked', [D2]),
-    ('amend amended.csv', ['added 1']),
-    ('parked', []),
-    ('receipts', ['1,1,A1,,F1,0,new,0', '2,2,A2,,,,,']),
-    ('held', ['lists 2, holds 0 1']),
-    ('tables', [R1, C1, DOMAIN_A, DOMAIN_B]),
-    ('chain', ['step 0 2024-03-03T00:00:00Z FULL 0', 'step 1 2024-03-04T00:00:00Z DIFF 0']),
+    ('parked', report('parked')),
+    ('comes 2 D2', '2,2,A2,,,,,\n'),
+    ('parked', report('parked', [D2])),
+    ('amend amended.csv', 'added 1\n'),
+    ('parked', report('parked')),
+    ('receipts', report('receipts', ['1,1,A1,,F1,0,new,0', '2,2,A2,,,,,'])),
+    ('held', 'lists 2, holds 0 1\n'),
+    ('tables', text_of([R1, C1, DOMAIN_A, DOMAIN_B])),
+    ('chain', 'step 0 2024-03-03T00:00:00Z FULL 0\nstep 1 2024-03-04T00:00:00Z DIFF 0\n'),
 )
 IMAGES_AFTER = RESENT_IMAGES[:4]
 
@@ -226,7 +228,7 @@ def look(desk, is_migrated):
     check_rows(desk)
     check(desk, 'open', 'opened\n')
     for line, wanted in AFTER:
-        check(desk, line, text_of(wanted))
+        check(desk, line, wanted)
     check_images(desk, IMAGES_AFTER)
     return is_first
 

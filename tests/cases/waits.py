@@ -1,7 +1,7 @@
 """How long the desk waits for slow clients, by a clock that moves only while one is waited for."""
 from dataclasses import dataclass
 
-from support.clients import READ_FAULT, SERVED, WRITE_FAULT, get, list_sample, new_desk, parked, put, status
+from support.clients import READ_FAULT, SERVED, WRITE_FAULT, Wire, get, list_sample, new_desk, parked, put, refusal, status
 
 GET_STATUS, LONG_REQUEST = get('/status'), put('n1', 700_000 * b'x')
 # The responses to them, where nothing else has come.
@@ -28,6 +28,14 @@ HEADS = (
     Slow(9_999, 1, READ_FAULT, 10_000),
     Slow(3_600_000, 24, READ_FAULT, 10_000),
 )
+# What is refused by its head alone, and the response: nothing is read past the piece that ends the head.
+REFUSALS = (
+    (get('/none'), refusal('404 Not Found', 'not found')),
+    (b'PUT /status HTTP/1.1\r\nContent-Length: 5\r\n\r\n', refusal('405 Method Not Allowed', 'method not allowed', 'Allow: GET\r\n')),
+    (b'PUT /arrivals/n1 HTTP/1.1\r\n\r\n', refusal('411 Length Required', 'length required')),
+    (b'PUT /arrivals/n1 HTTP/1.1\r\nContent-Length: 16777217\r\n\r\n', refusal('413 Content Too Large', 'too large')),
+    (b'PUT /arrivals/a%20b HTTP/1.1\r\nContent-Length: 5\r\n\r\n', refusal('400 Bad Request', 'N1')),
+)
 # Of a body of 700,000 bytes.
 BODIES = (
     # 8,192 bytes come with the head, the others in eleven seconds: more than ten, but the bytes that came earned more.
@@ -43,23 +51,25 @@ TAKERS = (
     Slow(1_000, 10, WRITE_FAULT, 10_000),
     Slow(3_600_000, 500, WRITE_FAULT, 10_000),
 )
-# Milliseconds before each byte that a client sends after it has its response, and after how many milliseconds nothing is read any more.
-RESTS = ((900, 10_000), (1_000, 10_000), (1_001, 1_000))
 
 
 def check_requests(stage, request, clients, response):
     """A request that comes in parts. There is no response where it doesn't come."""
     list_sample(stage)
-    stage.write('request', request)
     with new_desk(stage) as desk:
         for it in clients:
-            size = len(response) if it.came == SERVED else 0
-            desk.check(f'slow request {it.pause} {it.at_once}', f'{it.came}, {size} bytes after {it.time} milliseconds\n')
+            desk.check_served(Wire(request, it.at_once, it.pause), response if it.came == SERVED else '', came=it.came, time=it.time)
 
 
 def test_heads(stage):
     """A head is waited for as a whole."""
     check_requests(stage, GET_STATUS, HEADS, STATUS)
+
+
+def test_refusals(stage):
+    """A request that is refused by its head is answered once the head has come."""
+    for request, response in REFUSALS:
+        check_requests(stage, request, [Slow(400, len(request), SERVED, 400), Slow(40, 1, SERVED, 40 * len(request))], response)
 
 
 def test_bodies(stage):
@@ -74,12 +84,3 @@ def test_responses(stage):
     with new_desk(stage) as desk:
         for it in TAKERS:
             desk.check(f'taken request {it.pause} {it.at_once}', f'{it.came} after {it.time} milliseconds\n')
-
-
-def test_rests(stage):
-    """What comes after the response is read for ten seconds."""
-    list_sample(stage)
-    stage.write('rest', GET_STATUS)
-    with new_desk(stage) as desk:
-        for pause, time in RESTS:
-            desk.check(f'rest rest {pause} 1', f'read after {time} milliseconds\n')

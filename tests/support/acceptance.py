@@ -1,11 +1,12 @@
 """A plain model of `handover check`, by the words of docs/HANDOVER.md and docs/DEFINITIONS.md.
 
-It makes of a manifest and of arrivals what a store keeps, looks at that, and says how each line begins. Nothing of the program is used."""
+It looks at what a store keeps of a manifest and of arrivals (first_store.py), and says how each line begins. Nothing of the program is
+used."""
 import datetime, hashlib, struct
 from dataclasses import dataclass
 
 from support import formats
-from support.first_store import Deposit, First, in_order
+from support.first_store import Deposit, in_order
 from support.formats import KINDS
 
 # The fields by which links, statuses and dates go: the kind of the objects, the child table, or none where the parent rows have it, and
@@ -31,28 +32,6 @@ STATUSES = {'host': HOST_STATUSES, 'contact': CONTACT_STATUSES,
 
 
 # ---- what a store keeps
-
-
-class Kept(First):
-    """What a store keeps of a manifest and of arrivals, numbers with bodies, as of a moment: the held bodies by the rows that list them,
-    the rows of the chain, and the record of each object. All of it may be changed, as that of a file that goes bad."""
-
-    def __init__(self, manifest, arrivals, moment=None):
-        self.moment = moment
-        super().__init__(manifest, arrivals)
-        digests = {hashlib.sha256(body).hexdigest() for _, body in arrivals}
-        self.parked = digests - {it[4] for it in self.listed}
-
-    def latest_chain(self):
-        """The chain whose end is the greatest place, of those up to the moment."""
-        places = sorted({self.place(at) for at in self.held if self.is_by_moment(self.place(at))}, key=in_order, reverse=True)
-        return next(filter(None, (self.chain_to(self.used(it)) for it in places)), [])
-
-    def place(self, row):
-        return self.listed[row][1]
-
-    def is_by_moment(self, place):
-        return self.moment is None or place[0] <= self.moment
 
 
 def read_record(record):

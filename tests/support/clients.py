@@ -5,11 +5,12 @@ from dataclasses import dataclass
 from support import messages
 from support.events import check, compare_any
 from support.harness import Harness
+from support.reports import report
 from support.stage import text_of
 from support.steps import Copy
 
 # More bytes than a request or a response has.
-AMPLE = 100_000
+AMPLE = 10_000_000
 # What comes of a request: its response goes out whole, a read fails, or else a write or the flush does.
 SERVED, READ_FAULT, WRITE_FAULT = 'served', 'read fault', 'write fault'
 
@@ -48,29 +49,29 @@ def parked(receipt, number):
     return not_held('202 Accepted', receipt, number, 'A5')
 
 
-def table(heading, *rows):
+def table(name, *rows):
     """A report in rows."""
-    return response('200 OK', 'text/csv', text_of([heading, *rows]))
+    return response('200 OK', 'text/csv', report(name, rows))
 
 
 def export(*rows):
-    return table('kind,key,table,row,field,value', *rows)
+    return table('export', *rows)
 
 
 def receipts(*rows):
-    return table('receipt,number,verdict,fault,id,resend,copy,orphans', *rows)
+    return table('receipts', *rows)
 
 
 def gaps(*rows):
-    return table('watermark,type,used,state,blocker,awaited', *rows)
+    return table('gaps', *rows)
 
 
 def links(*rows):
-    return table('code,kind,key,field,value,other', *rows)
+    return table('links', *rows)
 
 
 def parked_bodies(*rows):
-    return table('sha256,bytes', *rows)
+    return table('parked', *rows)
 
 
 def moment(word):
@@ -103,10 +104,12 @@ def list_sample(stage):
 
 @dataclass(frozen=True)
 class Wire:
-    """How a request comes, and how its response goes: a read and a write move at most `piece` bytes, so many bytes are read before a read
-    fails, so many are written before a write does, and nothing can be handed on where it is stuck."""
+    """How a request comes, and how its response goes: a read and a write move at most `piece` bytes, the client is waited for so many
+    milliseconds before each read, so many bytes are read before a read fails, so many are written before a write does, and nothing can be
+    handed on where it is stuck."""
     request: bytes
     piece: int = AMPLE
+    pause: int = 0
     readable: int = AMPLE
     writable: int = AMPLE
     is_stuck: bool = False
@@ -115,7 +118,8 @@ class Wire:
         """What a harness is told."""
         if self == Wire(self.request):
             return 'request request'
-        return f'request request {self.piece} {self.readable} {self.writable} {"stuck" if self.is_stuck else "flowing"}'
+        end = 'stuck' if self.is_stuck else 'flowing'
+        return f'request request {self.pause} {self.piece} {self.readable} {self.writable} {end}'
 
 
 def shown(answer):
@@ -141,13 +145,15 @@ class RequestDesk(Harness):
             self.sent = wire.request
         return shown(self.ask(wire.line()))
 
-    def check_served(self, wire, *responses, came=SERVED):
-        """Sends a request, and compares what comes of it. Its response must be one of these: which one it is."""
-        got = compare_any(f'{wire.line()}\n{wire.request!r:.400}', self.serve(wire), *(f'{came}\n{it}' for it in responses))
-        return got.removeprefix(f'{came}\n')
+    def check_served(self, wire, *responses, came=SERVED, time=0):
+        """Sends a request, and compares what comes of it, and after how many milliseconds. Its response must be one of these: which one it
+        is."""
+        told = f'{came} after {time} milliseconds\n'
+        got = compare_any(f'{wire.line()}\n{wire.request!r:.400}', self.serve(wire), *(f'{told}{it}' for it in responses))
+        return got.removeprefix(told)
 
     def check_receipts(self, *receipts):
-        check(self, 'receipts', text_of(receipts))
+        check(self, 'receipts', report('receipts', receipts))
 
 
 @contextlib.contextmanager

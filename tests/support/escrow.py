@@ -1,10 +1,7 @@
-"""Registry objects at random, as samples/agent/documents.py writes them into escrow deposits, and as they are read from a folder."""
-import csv, json, os, string, sys
+"""Registry objects at random, as documents.py writes them into escrow deposits, and as they are read from a folder."""
+import csv, json, os, string
 
-from support import TOP
-
-sys.path.insert(0, f'{TOP}/samples/agent')
-from documents import KEYS
+from support.documents import KEYS
 
 # What texts are made of: letters of several alphabets, and what means something in XML or CSV.
 LETTERS = string.ascii_letters + 'éßЖ漢\U0001f600'

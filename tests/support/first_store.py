@@ -66,16 +66,19 @@ def in_order(place):
 
 
 class First:
-    """What version 1 keeps of a manifest and of arrivals: the rows of its tables."""
+    """What version 1 keeps of a manifest and of arrivals: the rows of its tables. What this version keeps as of a moment, in nanoseconds, has
+    the same held bodies, the rows of the chain, and the record of each object; and the digests of parked bodies. All of it may be changed,
+    as that of a file that goes bad."""
 
-    def __init__(self, manifest, arrivals):
-        self.listed = formats.manifest(manifest)
+    def __init__(self, manifest, arrivals, moment=None):
+        self.listed, self.moment = formats.manifest(manifest), moment
         self.receipts, self.held, known = [], {}, set()
         for name, body in arrivals:
             digest = hashlib.sha256(body).hexdigest()
             if (name, digest) not in known:
                 known.add((name, digest))
                 self.take(name, digest, body)
+        self.parked = {digest for _, digest in known} - {it[4] for it in self.listed}
         self.steps = self.latest_chain()
         self.objects, self.undo = {}, []
         for pos, row in enumerate(self.steps, 1):
@@ -119,9 +122,13 @@ class First:
             chain.insert(0, before)
         return chain
 
+    def place(self, row):
+        return self.listed[row][1]
+
     def latest_chain(self):
-        for place in sorted({self.listed[at][1] for at in self.held}, key=in_order, reverse=True):
-            if chain := self.chain_to(self.used(place)):
+        """The chain whose end is the greatest place, of those up to the moment."""
+        for place in sorted({self.place(at) for at in self.held}, key=in_order, reverse=True):
+            if (self.moment is None or place[0] <= self.moment) and (chain := self.chain_to(self.used(place))):
                 return chain
         return []
 

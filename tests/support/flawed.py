@@ -47,8 +47,9 @@ class Contents:
     def __init__(self, registry, objects):
         self.rows, self.shapes = {it: [] for it in TABLES}, dict(TABLES)
         for kind, key in objects:
-            for name, row in ((kind, registry.row(kind, key)), *registry.children(kind, key)):
-                self.rows[name].append(row)
+            for name, row in registry.objects[kind][key]:
+                self.rows[name].append([*row])
+        self.rows['contactStatuses'] = [[row[0], 'linked'] for row in self.rows['contact']]
 
     def index(self, guide):
         return self.shapes[table_of(guide)][2].index(guide[2])
@@ -87,7 +88,7 @@ class Contents:
 
     def body(self, header, deletes, counts):
         rows = {name: it for name, it in self.rows.items() if it or header['type'] == 'FULL'}
-        return deposit(header, rows, {'domain': deletes} if deletes else {}, counts, self.shapes)
+        return deposit(header, rows, {'domain': deletes}, counts, self.shapes)
 
 
 def day_text(day, hour=0):
@@ -99,10 +100,7 @@ class Agent:
 
     def __init__(self, seed, flaws=()):
         self.random, self.flaws = random.Random(seed), flaws
-        self.registry = Registry(seed, words=-1)
-        for kind, count in FIRST.items():
-            for _ in range(count):
-                self.registry.add(kind)
+        self.registry = Registry(seed, FIRST, words=0)
         self.deleted, self.last_id, self.release = [], '', Release()
         # The field of this guide is misnamed, in this way.
         self.guide, self.other_name = self.random.choice(GUIDES), self.random.choice(TABLE_NAMES)
@@ -120,6 +118,8 @@ class Agent:
         self.deleted += gone
         made = [(kind, self.registry.add(kind)) for kind in ('contact', 'domain')]
         changed = [(kind, self.registry.some(kind)) for kind in ('contact', 'host')]
+        for it in changed:
+            self.registry.change(*it)
         return list(dict.fromkeys(made + changed)), gone
 
     def all_objects(self):

@@ -2,11 +2,12 @@
 
 Nothing of the program is used: `fuzz.py` expects of the program what this says. Each part is the definition's words and is
 slow."""
-import calendar, datetime, json, math, re
+import calendar, csv, datetime, io, json, math, re
 
 KINDS = ('registrar', 'contact', 'host', 'domain', 'idn', 'nndn')
 TYPES = ('DIFF', 'INCR', 'FULL')
 MOST_BYTES = 16_777_216
+csv.field_size_limit(MOST_BYTES)
 HEADING = b'id type watermark prevId resend sha256'.split()
 
 
@@ -38,29 +39,8 @@ def moment(text):
 
 def records(text):
     """The records of a CSV text: commas, double quotes, no trimming, no empty lines."""
-    found, fields, field, state = [], [], bytearray(), 'new'
-    for byte in text.removeprefix(b'\xef\xbb\xbf'):
-        if state == 'quoted':
-            if byte == 0x22:
-                state = 'closed'
-            else:
-                field.append(byte)
-        elif state == 'closed' and byte == 0x22:
-            field.append(byte)
-            state = 'quoted'
-        elif byte in b'\r\n':
-            if state != 'new':
-                found.append([*fields, bytes(field)])
-            fields, field, state = [], bytearray(), 'new'
-        elif byte == 0x2C:
-            fields.append(bytes(field))
-            field, state = bytearray(), 'field'
-        elif byte == 0x22 and state in ('new', 'field'):
-            state = 'quoted'
-        else:
-            field.append(byte)
-            state = 'plain'
-    return found if state == 'new' else [*found, [*fields, bytes(field)]]
+    lines = io.StringIO(text.removeprefix(b'\xef\xbb\xbf').decode('latin-1'), newline='')
+    return [[field.encode('latin-1') for field in row] for row in csv.reader(lines) if row]
 
 
 def sections(body):

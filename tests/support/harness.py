@@ -51,7 +51,7 @@ class Harness:
         return self.answer()
 
     def check(self, line, wanted, *events):
-        """Compares the answer to a line. Events follow it if it is `run N` or `arrivals N`, and parts if it is `store change N`."""
+        """Compares the answer to a line. Events follow it if it is `run N`."""
         for it in (line, *events):
             self.tell(it)
         if found := difference('answer', wanted, self.answer().encode()):

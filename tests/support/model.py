@@ -4,6 +4,7 @@ It keeps whole lists, of the rows that are listed and of all that came, and make
 chain, each table."""
 from dataclasses import dataclass, replace
 
+from support.reports import HEADINGS
 from support.universe import KEYS, Amendment, Arrival, Form, Moment, Row, day_text, is_contact, moment_text
 
 
@@ -300,7 +301,7 @@ def object_text(key, rows):
 
 def parked_lines(book):
     """Digest and length of each parked body."""
-    return [f'{it.digest} {len(it.bytes)}' for it in parked_bodies(book)]
+    return [HEADINGS['parked'], *(f'{it.digest},{len(it.bytes)}' for it in parked_bodies(book))]
 
 
 def status(book, chain):
@@ -321,7 +322,7 @@ def state(book):
         'end': [day_text(chain[-1].place.day), f'domain {chain[-1].body.index}'] if chain else ['none'],
         'moment': [moment_text(book.moment)],
         'parked': parked_lines(book),
-        'receipts': [receipt_text(it) for it in receipts(book)],
+        'receipts': [HEADINGS['receipts'], *map(receipt_text, receipts(book))],
         'held': [f'lists {len(book.rows)}, holds{held}'],
         'tables': [object_text(key, rows) for key, rows in tables(chain).items()],
         'chain': [f'step {book.rows.index(it)} {place_text(it)}' for it in chain],

@@ -1,6 +1,6 @@
 """What a transcript does beside running the programs: the files that it makes and changes."""
-import contextlib, hashlib, os, shutil, sqlite3
-from dataclasses import dataclass
+import contextlib, hashlib, inspect, os, shutil, sqlite3
+from dataclasses import field, make_dataclass
 
 from support import TESTS, first_store
 from support.bodies import bytes_of, manifest_text
@@ -9,119 +9,82 @@ from support.files import read
 FILES = f'{TESTS}/files'
 
 
-@dataclass(frozen=True)
-class Folder:
-    path: str
+def step(play):
+    """A kind of step, by what it does on a stage with its values: `Folder('a').do(stage)`."""
+    _, *values = inspect.signature(play).parameters.values()
+    fields = [(it.name, object, field() if it.default is it.empty else field(default=it.default)) for it in values]
+    return make_dataclass(play.__name__, fields, frozen=True, namespace={
+        '__doc__': play.__doc__, 'do': lambda self, stage: play(stage, *(getattr(self, it.name) for it in values))})
 
-    def do(self, stage):
-        os.makedirs(stage.at(self.path))
+
+@step
+def Folder(stage, path):
+    os.makedirs(stage.at(path))
 
 
-@dataclass(frozen=True)
-class Copy:
+@step
+def Copy(stage, path, name):
     """A file of tests/files, under another name."""
-    path: str
-    name: str
-
-    def do(self, stage):
-        shutil.copyfile(f'{FILES}/{self.name}', stage.at(self.path))
+    shutil.copyfile(f'{FILES}/{name}', stage.at(path))
 
 
-@dataclass(frozen=True)
-class Text:
-    path: str
-    text: str
-
-    def do(self, stage):
-        write_new(stage, self.path, self.text.encode())
+@step
+def Text(stage, path, text):
+    write_new(stage, path, text.encode())
 
 
-@dataclass(frozen=True)
-class Zeros:
+@step
+def Zeros(stage, path, count):
     """A file of this many zero bytes, which takes no room on the disk."""
-    path: str
-    count: int
-
-    def do(self, stage):
-        with open(stage.at(self.path), 'xb') as file:
-            file.truncate(self.count)
+    with open(stage.at(path), 'xb') as file:
+        file.truncate(count)
 
 
-@dataclass(frozen=True)
-class Link:
-    path: str
-    target: str
-
-    def do(self, stage):
-        os.symlink(self.target, stage.at(self.path))
+@step
+def Link(stage, path, target):
+    os.symlink(target, stage.at(path))
 
 
-@dataclass(frozen=True)
-class Statements:
+@step
+def Statements(stage, path, text):
     """Statements of SQL, over a database that is made if it isn't there."""
-    path: str
-    text: str
-
-    def do(self, stage):
-        with contextlib.closing(sqlite3.connect(stage.at(self.path))) as database:
-            database.executescript(self.text)
+    with contextlib.closing(sqlite3.connect(stage.at(path))) as database:
+        database.executescript(text)
 
 
-@dataclass(frozen=True)
-class FirstStore:
+@step
+def FirstStore(stage, path, manifest, bodies):
     """A store of version 1 that was made of a manifest and took bodies, each under its number."""
-    path: str
-    manifest: str
-    bodies: tuple
-
-    def do(self, stage):
-        kept = first_store.First(contents(self.manifest), [(number, contents(name)) for number, name in self.bodies])
-        first_store.write_store(stage.at(self.path), kept.rows())
+    kept = first_store.First(contents(manifest), [(number, contents(name)) for number, name in bodies])
+    first_store.write_store(stage.at(path), kept.rows())
 
 
-@dataclass(frozen=True)
-class Bodies:
+@step
+def Bodies(stage, names):
     """Worked bodies, each in a file of its name."""
-    names: tuple
-
-    def do(self, stage):
-        for name in self.names:
-            write_new(stage, name, bytes_of(name))
+    for name in names:
+        write_new(stage, name, bytes_of(name))
 
 
-@dataclass(frozen=True)
-class Manifest:
+@step
+def Manifest(stage, path, names, more=''):
     """A manifest that lists worked bodies, and then has further rows."""
-    path: str
-    names: tuple
-    more: str = ''
-
-    def do(self, stage):
-        write_new(stage, self.path, manifest_text(self.names, self.more).encode())
+    write_new(stage, path, manifest_text(names, more).encode())
 
 
-@dataclass(frozen=True)
-class FirstScript:
+@step
+def FirstScript(stage, path, manifest, bodies):
     """The statements that make a store of version 1, which was made of a manifest and took worked bodies, each under its number. The
     manifest is a file in the folder."""
-    path: str
-    manifest: str
-    bodies: tuple
-
-    def do(self, stage):
-        kept = first_store.First(read(stage.at(self.manifest)), [(number, bytes_of(name)) for number, name in self.bodies])
-        write_new(stage, self.path, first_script(kept.rows()).encode())
+    kept = first_store.First(read(stage.at(manifest)), [(number, bytes_of(name)) for number, name in bodies])
+    write_new(stage, path, first_script(kept.rows()).encode())
 
 
-@dataclass(frozen=True)
-class Parked:
+@step
+def Parked(stage, path, count):
     """Parks the bodies 0001, 0002 .. in a store without receipts, each with its receipt, as their arrivals would."""
-    path: str
-    count: int
-
-    def do(self, stage):
-        parked = parked_script(1, [f'{number:04}' for number in range(1, self.count + 1)])
-        Statements(self.path, f'BEGIN;\n{parked}COMMIT;\n').do(stage)
+    parked = parked_script(1, [f'{number:04}' for number in range(1, count + 1)])
+    Statements(path, f'BEGIN;\n{parked}COMMIT;\n').do(stage)
 
 
 def write_new(stage, path, content):

@@ -1,11 +1,58 @@
-"""Stores in files: rebuilt by `restore` from a release, and changed behind its back."""
-import contextlib, os, sqlite3
+"""Stores in files: rebuilt by `restore` from a release, changed behind its back, and read by the C library."""
+import contextlib, os, shutil, sqlite3
 
+from support.files import read
 from support.formats import KINDS
 from support.stage import Failed
 
 # The length of a log in which nothing is.
 EMPTY_LOG = 41
+# How the names of a store's two files end.
+ENDS = ('', '-wal')
+REPORTS = ('status', 'gaps', 'links', 'receipts', 'parked')
+READINGS = [*(('report', it) for it in REPORTS), *(('export', it) for it in KINDS)]
+
+
+# ---- files
+
+def copy(old, new):
+    """A store's two files under another name, in place of those that are there; without an old one they are removed alone."""
+    for end in ENDS:
+        if os.path.lexists(new + end):
+            os.remove(new + end)
+        if old and os.path.exists(old + end):
+            shutil.copy(old + end, new + end)
+    return new
+
+
+def contents(store):
+    """The bytes of a store's two files, or None for one that is not there."""
+    return tuple(read(store + end) if os.path.exists(store + end) else None for end in ENDS)
+
+
+def opened(store):
+    return contextlib.closing(sqlite3.connect(f'file:{store}?mode=ro', uri=True))
+
+
+def is_whole(store):
+    """Whether the C library's checks of a store pass."""
+    with opened(store) as database:
+        return [database.execute(f'pragma {it}').fetchall() for it in ('integrity_check', 'foreign_key_check')] == [[('ok',)], []]
+
+
+def rows(store):
+    """The rows of each table, as the C library reads them."""
+    with opened(store) as database:
+        tables = [it for it, in database.execute("select name from sqlite_master where type = 'table'")]
+        return {table: sorted(database.execute(f'select * from {table}').fetchall(), key=repr) for table in tables}
+
+
+def readings(run, store):
+    """What each report and export says, by what runs the program."""
+    return {f'{command} {what}': run(command, '--store', store, what) for command, what in READINGS}
+
+
+# ---- in the folder of a case
 
 
 def run(stage, line, program='restore', statuses=(0,)):

@@ -21,8 +21,8 @@
     ! TEXT                          .. a line of standard error; `! ...` is any text, but some
     ? STATUS                        .. the status, if it isn't 0
     $ desk_harness                  runs desk_harness. Up to an empty line there follow
-    > LINE                          .. what it is told, with the lines of its answer below. Below `run N`, `arrivals N` or `store
-                                    change N` are N lines that it is told, and then the lines of the one answer
+    > LINE                          .. what it is told, with the lines of its answer below. Below `run N` are N lines that it is told, and
+                                    then the lines of the one answer
 
 A word or a text in quotes is a JSON string: the empty word is "". A line of standard output or of an answer that is empty, or begins
 like a line of another kind, has a backslash before it; so has a line of standard error after its mark."""
@@ -70,8 +70,8 @@ class Exchange:
 
     def is_told(self):
         """Whether all events are there."""
-        run = re.fullmatch('(run|arrivals|store change) ([0-9]+)', self.told[0])
-        return len(self.told) == 1 + (int(run[2]) if run else 0)
+        run = re.fullmatch('run ([0-9]+)', self.told[0])
+        return len(self.told) == 1 + (int(run[1]) if run else 0)
 
 
 @dataclass(frozen=True)

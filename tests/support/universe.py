@@ -1,7 +1,7 @@
 """A tiny universe: bodies, rows that list them, and events, all of them drawn by a seed.
 
 Of a body its values are kept beside its bytes. A model speaks of the values alone, a desk is given the bytes."""
-import hashlib
+import hashlib, random
 from dataclasses import dataclass, replace
 from enum import IntEnum
 
@@ -196,22 +196,12 @@ def bundle(index, header, contents, fault):
 
 # ---- chance
 
-class Chance:
-    """Numbers that a seed determines (splitmix64)."""
-
-    def __init__(self, seed):
-        self.state = seed
-
-    def draw(self):
-        self.state = (self.state + 0x9e37_79b9_7f4a_7c15) % 2**64
-        mixed = (self.state ^ (self.state >> 30)) * 0xbf58_476d_1ce4_e5b9 % 2**64
-        mixed = (mixed ^ (mixed >> 27)) * 0x94d0_49bb_1331_11eb % 2**64
-        return mixed ^ (mixed >> 31)
+class Chance(random.Random):
+    """Numbers that a seed determines."""
 
     def below(self, count):
-        """A number below a count, or 0. (One is drawn in any case.)"""
-        drawn = self.draw()
-        return drawn % count if count else 0
+        """A number below a count, or 0."""
+        return self.randrange(count) if count else 0
 
     def low_below(self, count):
         """A number below a count, or 0: low ones more often."""

@@ -4,6 +4,7 @@ from dataclasses import dataclass
 
 from support.bodies import BODIES, bytes_of, manifest_text
 from support.harness import Harness
+from support.reports import report
 from support.stage import Failed, text_of
 
 NO_WORK = (False, 0, 0, 0)
@@ -46,7 +47,7 @@ class Row:
     def state(self):
         """What the desk is asked in the end, and what it must answer."""
         return {
-            'receipts': text_of(self.replies()),
+            'receipts': report('receipts', self.replies()),
             'held': text_of([' '.join([f'lists {len(self.listed)}, holds', *map(str, self.held)])]),
             'tables': text_of(self.tables),
             'chain': text_of(step_of(at, self.listed[at]) for at in self.chain),

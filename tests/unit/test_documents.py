@@ -6,6 +6,8 @@ import pathlib
 import re
 import unittest
 
+from support.crates import listed
+
 TOP = pathlib.Path(__file__).resolve().parents[2]
 DOCUMENTS = [TOP / 'README.md', TOP / 'CONTRIBUTING.md', TOP / 'CHANGELOG.md', *sorted(TOP.glob('docs/*.md'))]
 
@@ -25,6 +27,11 @@ CODE_SPAN = re.compile(r'(?<!`)(`+)(?!`)(?:(?!\n\s*\n).)+?(?<!`)\1(?!`)', re.S)
 # [text](target), also where the text goes on in the next line, and [name]: target.
 LINK = re.compile(r'\[(?:[^\[\]]|\[[^\[\]]*\])*\]\(<?([^\s()<>]+)>?\)|^\[[^\[\]]+\]: *(\S+)', re.M)
 SCHEME = re.compile(r'[a-z][a-z0-9+.-]*:', re.I)
+
+# The crates that a page names, and the files of this checkout: `tests/run.py`. A name in capitals, or a
+# star, stands for others; what is built is not there yet.
+CRATE = re.compile(r'\b(?:esc_\w+|(?:core|desk|store)_(?:tests|lines|harness))\b')
+FILE = re.compile(r'`((?:crates|tests|trials|bench|samples|packaging|docs)/[a-z0-9_./-]+)')
 
 
 def prose(text):
@@ -98,6 +105,14 @@ class Documents(unittest.TestCase):
                     self.assertEqual(operating.count(f'### {code}'), 1, code)
                     rows = [it for it in formats if it.startswith(f'| {code} |')]
                     self.assertEqual(len(rows), int(letter in LISTED), code)
+
+    def test_crates_are_there(self):
+        named = {(it.name, crate) for it in DOCUMENTS for crate in CRATE.findall(it.read_text('utf-8'))}
+        self.assertEqual({it for it in named if it[1] not in listed()}, set())
+
+    def test_files_are_there(self):
+        named = {(it.name, file) for it in DOCUMENTS for file in FILE.findall(it.read_text('utf-8'))}
+        self.assertEqual({it for it in named if '/out' not in it[1] and not (TOP / it[1]).exists()}, set())
 
     def test_words(self):
         counts = {it.name: len(WORD.findall(it.read_text('utf-8'))) for it in DOCUMENTS}

@@ -1,11 +1,14 @@
 """Tests of packaging/unpack_rde: what it writes of deposits of both models, and what it refuses."""
-import gzip, hashlib, os, random, subprocess, sys, tempfile, unittest, zlib
+import contextlib, gzip, hashlib, io, os, random, runpy, subprocess, sys, tempfile, unittest, zlib
 
 from support import TOP
+from support.documents import URIS, document, element
 from support.escrow import as_written, description_in, objects_in, rows_in, some_objects
-from documents import URIS, document, element
 
 PROGRAM = f'{TOP}/packaging/unpack_rde'
+# The program is run in this process: to start another one for each case would take ten times as long.
+sys.path.insert(0, PROGRAM)
+MAIN = runpy.run_path(f'{PROGRAM}/__main__.py')['main']
 SPACES = {f'xmlns:{it}': uri for it, uri in URIS.items()}
 HEADER = {'type': 'FULL', 'id': 'F1'}
 MENU = element('rde:rdeMenu', within=element('rde:version', '1.0') + element('rde:objURI', URIS['rdeDomain']))
@@ -64,8 +67,16 @@ class Unpacked:
         self.run(words)
 
     def run(self, words):
-        ran = subprocess.run([sys.executable, PROGRAM, *words, 'd.xml', 'out'], cwd=self.folder, capture_output=True, encoding='utf-8')
-        self.status, self.lines, self.told = ran.returncode, ran.stderr.splitlines(), ran.stdout
+        before, err = os.getcwd(), io.StringIO()
+        os.chdir(self.folder)
+        try:
+            with contextlib.redirect_stdout(io.StringIO()), contextlib.redirect_stderr(err):
+                self.status = MAIN([*words, 'd.xml', 'out'])
+        except SystemExit as ended:
+            self.status = ended.code
+        finally:
+            os.chdir(before)
+        self.lines = err.getvalue().splitlines()
 
 
 class Case(unittest.TestCase):

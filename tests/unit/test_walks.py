@@ -3,66 +3,34 @@ borrow check, before any proof; and an edit of a crate that does not compile cou
 import pathlib, shutil, subprocess, tempfile, unittest
 
 from support import TOP
+from support.crates import listed, with_below
 
 # How many seconds the compiler may take.
 SECONDS = 300
 ARRIVAL = '    desk.arrive(alloc, number, body)?;'
-PROGRAM = f'''//! Walks over a desk's objects, and arrivals.
+HEAD = '''//! Walks over a desk's objects, and arrivals.
 #![tactic(auto)]
 
 use esc_apply::Objects;
 use esc_desk::Desk;
-use esc_store::{{Number, SFault}};
+use esc_store::{Number, SFault};
 use sqlite::Alter;
 use std::alloc::Global;
-
-pub fn arrive_after_walk<S: Alter>(
-    alloc: Global,
-    desk: &mut Desk<S>,
-    number: &Number<'_>,
-    body: &[u8],
-) -> Result<(), SFault> {{
-    let mut walk = desk.walk(alloc, None)?;
-    walk.next()?;
-    walk.next()?;
-    drop(walk);
-{ARRIVAL}
-    Ok(())
-}}
-
-pub fn arrive_during_walk<S: Alter>(
-    alloc: Global,
-    desk: &mut Desk<S>,
-    number: &Number<'_>,
-    body: &[u8],
-) -> Result<(), SFault> {{
-    let mut walk = desk.walk(alloc, None)?;
-    walk.next()?;
-{ARRIVAL}
-    walk.next()?;
-    Ok(())
-}}
 '''
+FUNCTION = '''
+pub fn arrive_@<S: Alter>(alloc: Global, desk: &mut Desk<S>, number: &Number<'_>, body: &[u8]) -> Result<(), SFault> {
+    let mut walk = desk.walk(alloc, None)?;
+    walk.next()?;
+'''
+AFTER = f'    walk.next()?;\n    drop(walk);\n{ARRIVAL}\n    Ok(())\n}}\n'
+DURING = f'{ARRIVAL}\n    walk.next()?;\n    Ok(())\n}}\n'
+PROGRAM = HEAD + FUNCTION.replace('@', 'after_walk') + AFTER + FUNCTION.replace('@', 'during_walk') + DURING
 REFUSED = 'error[borrow-e0499]: cannot borrow `*desk` as mutable more than once at a time'
-
-
-def listed_crates():
-    """The crates of this checkout, each with the libraries that it uses."""
-    lines = pathlib.Path(TOP, 'crates.txt').read_text().splitlines()
-    crates = (it.split(':') for it in lines if it and not it.startswith('#'))
-    return {head.split()[0]: uses.split() for head, uses in crates}
-
-
-def with_those_below(crates, name):
-    """A crate and those below it, the lowest first."""
-    below = [it for used in crates[name] if used in crates for it in with_those_below(crates, used)]
-    return list(dict.fromkeys([*below, name]))
 
 
 def words_over_desk(kit):
     """The words by which the compiler reads a crate over the desk, and the sources of the crates below. It proves none of its functions."""
-    crates = listed_crates()
-    own = with_those_below(crates, 'esc_desk')
+    crates, own = listed(), with_below(['esc_desk'])
     libraries = dict.fromkeys(['core', 'std', *(it for name in own for it in crates[name] if it not in crates)])
     words = ['check', '--crate-name', 'walks', 'src/lib.rt', '--links', 'walks=', '--jobs', '1', '--only', '']
     words += ['--antt-project', f'{kit}/rattle/logic/antt-project.json', '--logic-built', f'{kit}/logic_built']

@@ -2,7 +2,7 @@
 import json, os, subprocess, sys, time
 
 from fuzzing.receipts import RECEIPTS
-from fuzzing.sections import table_of
+from fuzzing.damage import table_of
 from support.bundles import HEADING, row_of, sealed
 from support.files import write
 

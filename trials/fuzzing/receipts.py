@@ -1,8 +1,6 @@
 """The receipts that a desk has to give, by the definitions: of each arrival, and of a folder that is taken."""
 import hashlib
 
-from support import formats
-
 RECEIPTS = 'receipt,number,verdict,fault,id,resend,copy,orphans\n'
 
 
@@ -44,25 +42,7 @@ def receipt_line(reply):
     return ','.join('' if cell is None else str(cell) for cell in cells) + '\n'
 
 
-def names_one_line(name):
-    """A name as a refusal tells it: in one line."""
-    escapes = {'\\': '\\\\', '\n': '\\n', '\r': '\\r', '\t': '\\t'}
-    is_control = lambda letter: letter < ' ' or '\x7f' <= letter <= '\x9f'
-    if not any(map(is_control, name)):
-        return name
-    return ''.join(escapes.get(it, f'\\u{{{ord(it):x}}}') if is_control(it) or it == '\\' else it for it in name)
-
-
 def expected_take(files, receipts):
     """Status, output and refusals of a folder's take."""
-    lines, refusals, held = [], [], True
-    for name in sorted(files):
-        if not formats.is_utf8(name):
-            refusals.insert(0, b'N1 (a name that is no UTF-8)\n')
-        elif not formats.is_id(name.decode()):
-            refusals.append(f'N1 {names_one_line(name.decode())}\n'.encode())
-        else:
-            reply = receipts.arrive(name.decode(), files[name])
-            lines.append(receipt_line(reply))
-            held &= reply['verdict'] == 'A1'
-    return int(bool(refusals) or not held), (RECEIPTS + ''.join(lines)).encode(), b''.join(refusals)
+    replies = [receipts.arrive(name, files[name]) for name in sorted(files)]
+    return int(any(it['verdict'] != 'A1' for it in replies)), (RECEIPTS + ''.join(map(receipt_line, replies))).encode(), b''

@@ -1,8 +1,8 @@
 """What a command does where a call is refused: what it does undisturbed, or the fault after a beginning of what it prints. The same
 again, undisturbed, gives what it gives at first, and leaves the same rows. The fault says what is refused: S1 a call of the database's
 files, S2 memory."""
-from stores import REPORTS, rows
 from support.formats import KINDS
+from support.stores import REPORTS, rows
 
 
 def stops(said, whole, fault):

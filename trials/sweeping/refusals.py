@@ -1,9 +1,9 @@
 """The refusals: a program runs with `refuse.c` loaded into it, once so that its calls are counted, then once for each call that is refused.
 
 Refusals are judged side by side, in processes of their own; what they find wrong comes back to the one that prints."""
-import contextlib, hashlib, os, pickle, signal, subprocess, tempfile
+import contextlib, hashlib, multiprocessing, os, subprocess, tempfile, threading
 
-from stores import contents, copy
+from support.stores import contents, copy
 
 HERE = os.path.dirname(os.path.abspath(__file__))
 LIMIT = 400
@@ -39,13 +39,11 @@ class Sweep:
 
     def run(self, *words, program=None, folder=None, told=os.devnull, **given_settings):
         """Status, standard output and standard error of a run, whose standard input is the file `told`."""
-        out_path, error_path = (os.path.join(self.work, f'{it}{os.getpid()}') for it in ('out', 'err'))
-        with open(out_path, 'w+b') as out, open(error_path, 'w+b') as error, open(told, 'rb') as input_:
-            with subprocess.Popen([program or self.given.restore, *words], env=self.settings(**given_settings), cwd=folder,
-                                  stdin=input_, stdout=out, stderr=error, close_fds=False) as ran, ended_in(300, ran):
-                status = ran.wait()
-            out.seek(0), error.seek(0)
-            return status, out.read().decode(errors='replace'), error.read().decode(errors='replace')
+        with open(told, 'rb') as input_, subprocess.Popen(
+                [program or self.given.restore, *words], env=self.settings(**given_settings), cwd=folder, stdin=input_,
+                stdout=subprocess.PIPE, stderr=subprocess.PIPE, close_fds=False) as ran, ended_in(300, ran):
+            out, error = ran.communicate()
+        return ran.returncode, out.decode(errors='replace'), error.decode(errors='replace')
 
     def own(self):
         """The path of a store that no other refusal uses."""
@@ -80,8 +78,12 @@ class Sweep:
             return
         self.parts += 1
         calls = self.count_of(tell)
-        numbers, jobs = self.numbers(calls, is_whole), self.given.jobs
-        wrong = sorted(it for job in [begin(judge, numbers[at::jobs]) for at in range(jobs)] for it in job())
+        numbers = self.numbers(calls, is_whole)
+        # (The processes that judge are forked here, and have the function from then on.)
+        global judging
+        judging = judge
+        with multiprocessing.get_context('fork').Pool(self.given.jobs) as pool:
+            wrong = [(at, it) for at, it in zip(numbers, pool.imap(judge_at, numbers)) if it]
         self.passed += len(numbers) - len(wrong)
         self.failed += len(wrong)
         print(f'{name}: {len(numbers)} of {calls}, {len(wrong)} failed', flush=True)
@@ -111,35 +113,20 @@ class Sweep:
         self.refuse(f'{name}, {fault}', tell, judge, is_whole)
 
 
+def judge_at(at):
+    """What is wrong with the refusal of this number, as a text, or nothing."""
+    return (found := judging(at)) and repr(found)
+
+
 @contextlib.contextmanager
 def ended_in(seconds, ran):
     """Kills what runs longer."""
-    signal.signal(signal.SIGALRM, lambda *_: ran.kill())
-    signal.alarm(seconds)
-    yield
-    signal.alarm(0)
-
-
-def begin(judge, numbers):
-    """Judges these refusals in a process of its own. Returns what waits for it: those that are wrong, and what is."""
-    told, telling = os.pipe()
-    if not (job := os.fork()):
-        # Whatever comes, the parent alone goes on.
-        try:
-            os.close(told)
-            wrong = [(at, repr(it)) for at in numbers if (it := judge(at))]
-            with os.fdopen(telling, 'wb') as pipe:
-                pickle.dump(wrong, pipe)
-        finally:
-            os._exit(0)
-    os.close(telling)
-
-    def wait():
-        with os.fdopen(told, 'rb') as pipe:
-            text = pipe.read()
-        os.waitpid(job, 0)
-        return pickle.loads(text) if text else [(at, 'not judged') for at in numbers]
-    return wait
+    timer = threading.Timer(seconds, ran.kill)
+    timer.start()
+    try:
+        yield
+    finally:
+        timer.cancel()
 
 
 class Again:

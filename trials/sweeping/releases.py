@@ -2,47 +2,22 @@
 which the last takes two steps back, a release in two parts, and a store of version 1."""
 import os
 
-from stores import copy, rows
-from support import first_store
-from support.bundles import HEADING, row_of, sealed, table
+from support import TOP, first_store
+from support.bodies import bytes_of, manifest_text
 from support.files import read, write
+from support.stores import copy, rows
 
-# The four arrivals: a Full, two Differentials, and the first of these once more, at resend 1.
-
-def bundle(header, contents, deletes):
-    """A deposit of parent tables: of each its kind, its fields, and its rows."""
-    declared = {part: [table(kind, kind, 'parent', fields, f'{part}-{kind}') for kind, fields, _ in tables]
-                for part, tables in (('contents', contents), ('deletes', deletes))}
-    files = [(f'{part}-{kind}', rows.encode()) for part, tables in (('contents', contents), ('deletes', deletes)) for kind, _, rows in tables]
-    return sealed(header | declared, files)
-
-
-def header(id, type, day, prev='', resend=0):
-    made = dict(id=id, type=type, watermark=f'2024-03-{day:02d}T00:00:00Z', resend=resend)
-    return made | {'prevId': prev} if prev else made
-
-
-def domains(*rows):
-    return 'domain', ['name', 'clID', 'registrant'], ''.join(row + '\n' for row in rows)
+SAMPLES = f'{TOP}/samples'
+# A Full, two Differentials, and the first of these once more, at resend 1.
+FOUR = ('F1', 'D2', 'D3', 'D2Resent')
 
 
 def write_four(work):
     """A folder with a manifest and four arrivals."""
-    full = [('registrar', ['id'], 'R1\n'), ('contact', ['id', 'clID'], 'C1,R1\n'), domains('a.example,R1,C1')]
-    bodies = [
-        (header('F1', 'FULL', 3), full, []),
-        (header('D2', 'DIFF', 4, 'F1'), [domains('b.example,R1,C1')], []),
-        (header('D3', 'DIFF', 5, 'D2'), [], [('domain', ['name'], 'a.example\n')]),
-        (header('D2', 'DIFF', 4, 'F1', 1), [domains('b.example,R1,C1', 'c.example,R1,C1')], []),
-    ]
-    folder = os.path.join(work, 'four')
-    lines = [HEADING]
-    for at, (head, contents, deletes) in enumerate(bodies, 1):
-        body = bundle(head, contents, deletes)
-        write(os.path.join(folder, 'deposits', str(at)), body)
-        lines.append(row_of(f'{head["id"]},{head["type"]},{head["watermark"]},{head.get("prevId", "")},{head["resend"]}', body))
-    write(os.path.join(folder, 'manifest.csv'), ''.join(lines).encode())
-    return folder
+    for at, name in enumerate(FOUR, 1):
+        write(f'{work}/four/deposits/{at}', bytes_of(name))
+    write(f'{work}/four/manifest.csv', manifest_text(FOUR).encode())
+    return f'{work}/four'
 
 
 class Release:
@@ -50,8 +25,8 @@ class Release:
 
     def __init__(self, sweep, name, folder, is_whole):
         self.name, self.is_whole = name, is_whole
-        self.manifest, self.deposits = os.path.join(folder, 'manifest.csv'), os.path.join(folder, 'deposits')
-        self.fresh, self.taken = os.path.join(sweep.work, name + '-fresh'), os.path.join(sweep.work, name + '-taken')
+        self.manifest, self.deposits = f'{folder}/manifest.csv', f'{folder}/deposits'
+        self.fresh, self.taken = (f'{sweep.work}/{name}-{it}' for it in ('fresh', 'taken'))
         self.listed = sweep.run('init', '--store', self.fresh, '--manifest', self.manifest)
         copy(self.fresh, self.taken)
         self.lines = sweep.run('take', '--store', self.taken, self.deposits)
@@ -60,18 +35,17 @@ class Release:
 
 
 class Parts:
-    """A release in two parts: a store of the first, in which bodies wait for the second."""
+    """A release in two parts: a store of the first, in which bodies wait for the second; and as version 1 had it."""
 
     def __init__(self, sweep):
-        self.name, self.is_whole = 'parts', True
-        samples = os.path.join(sweep.top, 'samples')
-        part = [os.path.join(samples, 'parts', f'{it}.csv') for it in ('first', 'second')]
-        self.more, self.taken = part[1], os.path.join(sweep.work, 'parts-taken')
-        self.first, self.deposits = os.path.join(sweep.work, 'parts-first'), os.path.join(samples, 'release', 'deposits')
-        listed = sweep.run('init', '--store', self.taken, '--manifest', part[0])
+        self.name, self.is_whole, self.deposits = 'parts', True, f'{SAMPLES}/release/deposits'
+        first, self.more = (f'{SAMPLES}/parts/{it}.csv' for it in ('first', 'second'))
+        self.taken, self.first = f'{sweep.work}/parts-taken', f'{sweep.work}/parts-first'
+        listed = sweep.run('init', '--store', self.taken, '--manifest', first)
         lines = sweep.run('take', '--store', self.taken, self.deposits)
         assert listed == (0, 'listed 3\n', '') and lines[0] == 1 and lines[1].count(',A5,') == 3, (listed, lines)
-        write_first(self.first, part[0], self.deposits)
+        arrivals = [(name, read(f'{self.deposits}/{name}')) for name in sorted(os.listdir(self.deposits))]
+        first_store.write_store(self.first, first_store.First(read(first), arrivals).rows())
 
 
 class Unkept:
@@ -79,17 +53,10 @@ class Unkept:
 
     def __init__(self, sweep, parts):
         self.name, self.is_whole, self.deposits = 'A2 again', True, parts.deposits
-        self.fresh, taken = os.path.join(sweep.work, 'unkept-fresh'), os.path.join(sweep.work, 'unkept-taken')
-        copy(parts.first, self.fresh)
+        self.fresh = copy(parts.first, f'{sweep.work}/unkept-fresh')
         migrated = sweep.run('migrate', '--store', self.fresh)
-        copy(self.fresh, taken)
+        taken = copy(self.fresh, f'{sweep.work}/unkept-taken')
         self.lines = sweep.run('take', '--store', taken, self.deposits)
         self.told = rows(taken)
         assert migrated == (0, 'migrated\n', '') and self.lines[1].count(',A2,') == 3, (migrated, self.lines)
         assert len(self.told['parked']) == 3, self.told
-
-
-def write_first(store, manifest, deposits):
-    """A store of version 1, as it kept this manifest and these arrivals."""
-    arrivals = [(name, read(os.path.join(deposits, name))) for name in sorted(os.listdir(deposits))]
-    first_store.write_store(store, first_store.First(read(manifest), arrivals).rows())

@@ -2,10 +2,10 @@
 then gets the whole response, and the store has the same rows."""
 import os, socket, subprocess
 
-from stores import REPORTS, rows
 from support.files import read
 from support.formats import KINDS
 from support.sockets import HOST, received
+from support.stores import REPORTS, rows
 from sweeping.refusals import ended_in
 
 REFUSED = (b'HTTP/1.1 503 Service Unavailable\r\nContent-Type: text/plain\r\nContent-Length: 3\r\n'

@@ -1,15 +1,8 @@
-//! The tests, a module for each library or type, and how they compare.
+//! The tests, a module for each library, and how they compare.
 
 mod apply;
 mod asserts;
 mod bodies;
-mod bundles;
 mod chain;
 mod check;
-mod envelopes;
-mod lines;
 mod packing;
-mod pairs;
-mod record;
-mod shown;
-mod words;

@@ -1,16 +1,19 @@
 //! A database, or a desk over it, and what lines ask of these.
 
-use crate::requests::request;
-use crate::waits::wait;
-use desk_lines::{answer_of_desk, answer_of_store_below, connection_of, migrated_desk};
+use crate::database::{push_query, run_script};
+use crate::events::{push_event, push_run};
+use crate::input::split;
+use crate::looks::{look, push_chain};
+use crate::requests::{push_request, push_taken};
 use esc_desk::{Desk, SFault};
-use esc_kept::{new_desk, open_desk};
 use esc_manifest::read_manifest;
+use esc_recovery::{new_desk, open_desk};
+use esc_store::Store;
 use sqlite::{Alter, Connection};
+use std::alloc::Global;
 use std::fmt::Write;
 use std::fs;
 use std::test::Fail;
-use store_lines::{answer_of_database, split};
 
 /// What lines are about.
 #[derive(Drop)]
@@ -43,16 +46,14 @@ fn answer_without_desk<S: Alter + Drop>(
 ) -> Result<Place<S>, Fail> {
     let (word, rest) = split(line);
     match word {
-        "create" => create(rt, text, connection, rest),
-        "open" => opened(text, open_desk(rt.alloc(), connection), "opened"),
-        "migrate" => opened(text, migrated_desk(rt.alloc(), connection), "migrated"),
-        _ => {
-            if !answer_of_database(rt, text, &mut connection, word, rest)? {
-                text.push_str("no desk\n")?;
-            }
-            Ok(Place::Database(connection))
-        }
+        "create" => return create(rt, text, connection, rest),
+        "open" => return opened(text, open_desk(rt.alloc(), connection), "opened"),
+        "migrate" => return opened(text, migrated_desk(rt.alloc(), connection), "migrated"),
+        "script" => run_script(rt, &mut connection, rest)?,
+        "query" => push_query(text, &mut connection, rest)?,
+        _ => text.push_str("no desk\n")?,
     }
+    Ok(Place::Database(connection))
 }
 
 fn opened<S: Alter + Drop>(
@@ -88,6 +89,17 @@ fn create<S: Alter + Drop>(
     }
 }
 
+// A desk over a store of version 1 that is migrated, or the refusal.
+fn migrated_desk<S: Alter + Drop>(
+    alloc: Global,
+    connection: Connection<S>,
+) -> Result<Desk<S>, (SFault, Connection<S>)> {
+    match Store::migrate(alloc, connection) {
+        Ok(store) => Ok(Desk::open(store)),
+        Err(refused) => Err(refused),
+    }
+}
+
 // ---- at a desk
 
 fn answer_at_desk<S: Alter + Drop>(
@@ -96,31 +108,30 @@ fn answer_at_desk<S: Alter + Drop>(
     mut desk: Desk<S>,
     line: &str,
 ) -> Result<Place<S>, Fail> {
-    let (word, rest) = split(line);
-    match word {
+    match line {
         "close" => return Ok(Place::Database(connection_of(desk))),
-        "chain" => desk = answer_of_store_below(rt, text, desk, line)?,
-        "store" => desk = answer_of_store_below(rt, text, desk, rest)?,
-        _ => answer(rt, text, &mut desk, word, rest)?,
+        "chain" => desk = push_chain(rt.alloc(), text, desk)?,
+        _ => answer(rt, text, &mut desk, line)?,
     }
     Ok(Place::Desk(desk))
+}
+
+fn connection_of<S: Alter + Drop>(desk: Desk<S>) -> Connection<S> {
+    desk.into_store().into_connection()
 }
 
 fn answer<S: Alter + Drop>(
     rt: &HostRuntime,
     text: &mut String,
     desk: &mut Desk<S>,
-    word: &str,
-    rest: &str,
+    line: &str,
 ) -> Result<(), Fail> {
+    let (word, rest) = split(line);
     match word {
-        "request" => request(rt, text, desk, rest),
-        "slow" | "taken" | "rest" => wait(rt, text, desk, word, rest),
-        _ => {
-            if !answer_of_desk(rt, text, desk, word, rest)? {
-                text.push_str("a desk is open\n")?;
-            }
-            Ok(())
-        }
+        "comes" | "amend" | "as-of" => push_event(rt, text, desk, line),
+        "run" => push_run(rt, text, desk, rest),
+        "request" => push_request(rt, text, desk, rest),
+        "taken" => push_taken(rt, text, desk, rest),
+        _ => look(rt.alloc(), text, desk, word),
     }
 }

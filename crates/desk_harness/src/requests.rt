@@ -1,107 +1,249 @@
-//! Requests to a desk, over memory.
+//! Requests to a desk, over memory: of clients that break off, and of slow ones, by a clock that moves
+//! only while one is waited for.
 
+use crate::input::split;
+use crate::texts::push_bytes;
+use esc_client::{TimeBudget, Timed, TimedStream};
 use esc_desk::Desk;
-use esc_flaky::{FailingReader, FailingWriter};
 use esc_http::{ServeFault, serve_one};
 use sqlite::Alter;
 use std::alloc::Global;
+use std::cell::Cell;
+use std::fmt::Write as _;
 use std::fs;
-use std::io::Read;
+use std::io::{self, ErrorKind, Read, Write};
 use std::test::Fail;
-use store_lines::{split, tell_bytes};
+use std::time::{Clock, Duration};
 
-/// How a client sends a request, and takes the response.
+/// A clock that is set.
+#[derive(Drop)]
+struct Hands {
+    time: Cell<Duration>,
+}
+
+impl Hands {
+    fn new() -> Hands {
+        Hands {
+            time: Cell::new(Duration::ZERO),
+        }
+    }
+}
+
+impl Clock for Hands {
+    fn monotonic(&self) -> io::Result<Duration> {
+        Ok(self.time.get())
+    }
+
+    fn since_1970(&self) -> io::Result<Duration> {
+        Ok(self.time.get())
+    }
+}
+
+/// How a client sends, or takes.
 #[derive(Clone, Copy)]
-struct Client {
-    /// A read and a write move at most so many bytes.
+struct Manner {
+    /// Before each piece, which has at most so many bytes.
+    pause: Duration,
     piece: usize,
-    /// So many bytes are read before a read fails, and written before a write does.
-    readable: usize,
-    writable: usize,
+    /// After so many bytes each call fails.
+    most: usize,
     /// Whether nothing can be handed on.
     is_stuck: bool,
 }
 
-/// More bytes than a request or a response has.
-pub const PLENTY: usize = 100_000_000;
-
-const OPEN: Client = Client {
-    piece: PLENTY,
-    readable: PLENTY,
-    writable: PLENTY,
+/// At once, and all.
+const OPEN: Manner = Manner {
+    pause: Duration::ZERO,
+    piece: usize::MAX,
+    most: usize::MAX,
     is_stuck: false,
 };
 
-impl Client {
-    // What takes the response.
-    fn writer(self, alloc: Global) -> FailingWriter {
-        FailingWriter::new(alloc, self.piece, self.writable, self.is_stuck)
+/// A client, which sends bytes and keeps those that it takes.
+#[derive(Drop)]
+struct Peer<'a> {
+    clock: &'a Hands,
+    manner: Manner,
+    unsent: &'a [u8],
+    taken: Vec<u8>,
+    /// How long one read or write waits for it at most.
+    limit: Cell<Duration>,
+}
+
+impl<'a> Peer<'a> {
+    fn new(alloc: Global, clock: &'a Hands, manner: Manner, unsent: &'a [u8]) -> Peer<'a> {
+        Peer {
+            clock,
+            manner,
+            unsent,
+            taken: Vec::new(alloc),
+            limit: Cell::new(Duration::MAX),
+        }
+    }
+
+    // Waits for the client, within the limit; unless it has broken off.
+    fn wait(&self) -> io::Result<()> {
+        if self.manner.most == 0 {
+            return Err(io::Error::from(ErrorKind::ConnectionReset));
+        }
+        let (pause, limit) = (self.manner.pause, self.limit.get());
+        let time = self.clock.time.get().saturating_add(pause.min(limit));
+        self.clock.time.set(time);
+        if pause > limit {
+            return Err(io::Error::from(ErrorKind::WouldBlock));
+        }
+        Ok(())
     }
 }
 
-// The client of these words.
-fn client_of(words: &str) -> Result<Client, Fail> {
-    if words.is_empty() {
-        return Ok(OPEN);
+impl Timed for Peer<'_> {
+    fn limit_reads(&self, time: Duration) -> io::Result<()> {
+        self.limit.set(time);
+        Ok(())
     }
-    let (piece, rest) = split(words);
+
+    fn limit_writes(&self, time: Duration) -> io::Result<()> {
+        self.limit.set(time);
+        Ok(())
+    }
+}
+
+impl Read for Peer<'_> {
+    fn read(&mut self, buf: &mut [u8]) -> io::Result<usize> {
+        self.wait()?;
+        let most = self.manner.piece.min(self.manner.most);
+        let count = most.min(self.unsent.len()).min(buf.len());
+        buf[..count].copy_from_slice(&self.unsent[..count]);
+        self.unsent = &self.unsent[count..];
+        self.manner.most -= count;
+        Ok(count)
+    }
+}
+
+impl Write for Peer<'_> {
+    fn write(&mut self, buf: &[u8]) -> io::Result<usize> {
+        self.wait()?;
+        let count = self.manner.piece.min(self.manner.most).min(buf.len());
+        if self.taken.extend_from_slice(&buf[..count]).is_err() {
+            return Err(io::Error::from(ErrorKind::OutOfMemory));
+        }
+        self.manner.most -= count;
+        Ok(count)
+    }
+
+    fn flush(&mut self) -> io::Result<()> {
+        if self.manner.is_stuck {
+            return Err(io::Error::from(ErrorKind::BrokenPipe));
+        }
+        Ok(())
+    }
+}
+
+// ---- what is served
+
+// Adds what came of a request, and after how many milliseconds.
+fn push_served(
+    text: &mut String,
+    served: Result<(), ServeFault>,
+    clock: &Hands,
+) -> Result<(), Fail> {
+    let word = match served {
+        Ok(()) => "served",
+        Err(fault) => fault.words(),
+    };
+    let time = clock.time.get().as_millis();
+    writeln!(text, "{word} after {time} milliseconds")?;
+    Ok(())
+}
+
+// How the client of these words sends, and how it takes.
+fn manners_of(words: &str) -> Result<(Manner, Manner), Fail> {
+    if words.is_empty() {
+        return Ok((OPEN, OPEN));
+    }
+    let (pause, rest) = split(words);
+    let (piece, rest) = split(rest);
     let (readable, rest) = split(rest);
     let (writable, word) = split(rest);
-    Ok(Client {
-        piece: piece.parse::<usize>()?,
-        readable: readable.parse::<usize>()?,
-        writable: writable.parse::<usize>()?,
+    let slow = manner_of(pause, piece)?;
+    let sends = Manner {
+        most: readable.parse::<usize>()?,
+        ..slow
+    };
+    let takes = Manner {
+        pause: Duration::ZERO,
+        most: writable.parse::<usize>()?,
         is_stuck: word == "stuck",
+        ..sends
+    };
+    Ok((sends, takes))
+}
+
+fn manner_of(pause: &str, piece: &str) -> Result<Manner, Fail> {
+    Ok(Manner {
+        pause: Duration::from_millis(pause.parse::<u64>()?),
+        piece: piece.parse::<usize>()?,
+        ..OPEN
     })
 }
 
-/// Why the response did not go out whole, if it didn't, and what of it did.
-pub fn served<S: Alter, R: Read>(
-    alloc: Global,
-    desk: &mut Desk<S>,
-    reader: &mut R,
-    mut writer: FailingWriter,
-) -> Result<(Option<ServeFault>, Vec<u8>), Fail> {
-    let fault = serve_one(alloc, desk, reader, &mut writer).err();
-    if writer.wants_memory() {
-        return Err(Fail::new("a writer: OutOfMemory"));
-    }
-    Ok((fault, writer.into_text()))
-}
-
-/// Whether the response went out whole, or why it didn't.
-pub fn tell_served(text: &mut String, fault: Option<ServeFault>) -> Result<(), Fail> {
-    match fault {
-        None => text.push_str("served")?,
-        Some(fault) => text.push_str(fault.words())?,
-    }
-    Ok(())
-}
-
-fn tell_response(
-    text: &mut String,
-    fault: Option<ServeFault>,
-    response: &[u8],
-) -> Result<(), Fail> {
-    tell_served(text, fault)?;
-    text.push_str("\nx")?;
-    tell_bytes(text, response)?;
-    text.push_str("\n")?;
-    Ok(())
-}
-
-/// Serves the request in a file, and tells what came of it.
-pub fn request<S: Alter + Drop>(
+/// Serves the request in a file, and adds what came of it, the time, and the response.
+pub fn push_request<S: Alter + Drop>(
     rt: &HostRuntime,
     text: &mut String,
     desk: &mut Desk<S>,
     rest: &str,
 ) -> Result<(), Fail> {
     let (path, words) = split(rest);
-    let input = fs::read(rt, path)?;
-    let client = client_of(words)?;
-    let mut reader = FailingReader::new(input.as_slice(), client.piece, client.readable);
-    let writer = client.writer(rt.alloc());
-    let (fault, response) = served(rt.alloc(), desk, &mut reader, writer)?;
-    tell_response(text, fault, response.as_slice())
+    let manners = manners_of(words)?;
+    let request = fs::read(rt, path)?;
+    push_response(rt.alloc(), text, desk, manners, request.as_slice())
+}
+
+fn push_response<S: Alter + Drop>(
+    alloc: Global,
+    text: &mut String,
+    desk: &mut Desk<S>,
+    manners: (Manner, Manner),
+    request: &[u8],
+) -> Result<(), Fail> {
+    let clock = Hands::new();
+    let sender = Peer::new(alloc, &clock, manners.0, request);
+    let mut reader = TimedStream::new(&clock, sender, TimeBudget::for_request());
+    let mut taker = Peer::new(alloc, &clock, manners.1, &[]);
+    let served = serve_one(alloc, desk, &mut reader, &mut taker);
+    push_served(text, served, &clock)?;
+    push_bytes(text, taker.taken.as_slice())?;
+    text.push_str("\n")?;
+    Ok(())
+}
+
+/// Serves the request in a file to a client that takes its response slowly, and adds what came of it,
+/// and the time.
+pub fn push_taken<S: Alter + Drop>(
+    rt: &HostRuntime,
+    text: &mut String,
+    desk: &mut Desk<S>,
+    rest: &str,
+) -> Result<(), Fail> {
+    let (path, words) = split(rest);
+    let (pause, piece) = split(words);
+    let takes = manner_of(pause, piece)?;
+    let request = fs::read(rt, path)?;
+    push_slow(rt.alloc(), text, desk, takes, request.as_slice())
+}
+
+fn push_slow<S: Alter + Drop>(
+    alloc: Global,
+    text: &mut String,
+    desk: &mut Desk<S>,
+    takes: Manner,
+    request: &[u8],
+) -> Result<(), Fail> {
+    let clock = Hands::new();
+    let taker = Peer::new(alloc, &clock, takes, &[]);
+    let mut writer = TimedStream::new(&clock, taker, TimeBudget::for_response());
+    let mut reader = request;
+    let served = serve_one(alloc, desk, &mut reader, &mut writer);
+    push_served(text, served, &clock)
 }

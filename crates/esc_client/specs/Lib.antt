@@ -1,2 +1,2 @@
-pub mod Client
-pub mod Patience
+pub mod TimeBudget
+pub mod TimedStream

@@ -1,7 +1,7 @@
 //! The beginning and the end of a connection over TCP.
 
-use crate::client::Client;
-use crate::patience::Patience;
+use crate::budget::TimeBudget;
+use crate::stream::TimedStream;
 use std::io::{Error, ErrorKind, Read};
 use std::net::{Shutdown, TcpStream};
 
@@ -40,7 +40,7 @@ pub fn drain(rt: &HostRuntime, stream: &TcpStream) {
     if stream.shutdown(Shutdown::Write).is_err() {
         return;
     }
-    let mut reader = Client::new(rt, stream, Patience::for_rest());
+    let mut reader = TimedStream::new(rt, stream, TimeBudget::for_rest());
     let mut rest = [0; BYTES_AT_ONCE];
     for _ in 0..READS_AFTER {
         if !matches!(reader.read(&mut rest), Ok(1..)) {

@@ -1,13 +1,14 @@
-//! The commands, each over a store in a file.
+//! The commands, from the words to the status.
 
-use crate::jobs::{Closed, DeskTask, Ended, Job};
+use crate::ended::Ended;
 use crate::run::Run;
-use esc_console::USAGE;
-use esc_manifest::Manifest;
-use esc_usage::{
-    Invocation, Stop, Task, manifest_in, manifest_of, moment_named, parse, read_manifest_text,
-    tell_error, tell_stop,
+use esc_arguments::{
+    Command, Invocation, Stop, check_access, invocation_of, matches_of, print_error, print_stop,
 };
+use esc_cli::USAGE;
+use esc_desk::{Desk, SFault};
+use esc_recovery::{PathFault, close_desk, migrated_desk_at, new_desk_at, open_desk_at};
+use sqlite::{File, FileStore, Unknown};
 use std::alloc::{AllocError, Global};
 use std::io::Write;
 use std::net::{Net, TcpListener, TcpStream};
@@ -26,13 +27,17 @@ where
     O: Write,
     E: Write,
 {
-    match parse(rt.alloc(), words) {
+    let matches = match matches_of(rt.alloc(), words) {
+        Ok(matches) => matches,
+        Err(error) => return print_error(rt, &error, out, err),
+    };
+    match invocation_of(rt, &matches) {
         Ok(Some(invocation)) => {
             let mut run = Run { rt, net, out, err };
-            run.perform(invocation)
+            run.finish(&invocation)
         }
         Ok(None) => USAGE,
-        Err(error) => tell_error(rt, &error, out, err),
+        Err(stop) => print_stop(rt, err, &stop),
     }
 }
 
@@ -43,81 +48,89 @@ where
     E: Write,
 {
     // Does what is asked for. Returns the status.
-    fn perform(&mut self, invocation: Invocation<'_>) -> u8 {
-        match self.finish(invocation) {
+    fn finish(&mut self, invocation: &Invocation<'_>) -> u8 {
+        match self.perform(invocation) {
             Ok(status) => status,
-            Err(stop) => tell_stop(self.rt, self.err, &stop),
+            Err(stop) => print_stop(self.rt, self.err, &stop),
         }
     }
 
     // Does what is asked for, and prints what that leaves to be printed.
-    fn finish(&mut self, invocation: Invocation<'_>) -> Result<u8, Stop> {
-        let ended = self.command(invocation)?;
+    fn perform(&mut self, invocation: &Invocation<'_>) -> Result<u8, Stop> {
+        let ended = self.use_store(invocation.store, &invocation.command)?;
         self.print(&ended.text)?;
         Ok(ended.status)
     }
 
-    fn command(&mut self, invocation: Invocation<'_>) -> Result<Ended, Stop> {
-        let Invocation { store, task } = invocation;
-        match task {
-            Task::Init { manifest } => self.init(store, manifest),
-            Task::Migrate => self.migrate(store),
-            Task::Amend { manifest } => self.amend(store, manifest),
-            Task::AsOf { moment } => self.as_of(store, moment),
-            Task::Take { folder } => self.use_store(store, DeskTask::Take { folder }),
-            Task::Serve { port, count } => self.use_store(store, DeskTask::Serve { port, count }),
-            Task::Tell { report } => self.use_store(store, DeskTask::Tell { report }),
-        }
-    }
-
-    // `init --store FILE --manifest FILE`: makes a store of a manifest, and prints how many rows
-    // that lists. A store that was made is in the file or in its log, so a close that fails refuses
-    // nothing.
-    fn init(&mut self, store: &str, manifest: &str) -> Result<Ended, Stop> {
-        let manifest = manifest_of(self.rt, manifest)?;
-        let line = listed(self.rt.alloc(), &manifest)?;
-        let made = self.use_file(store, Job::Create(&manifest))?;
-        made.outcome?;
-        Ok(Ended::done(line))
-    }
-
-    // `migrate --store FILE`: makes a store of version 1 one of this version, and says so. As with
-    // `init`, a close that fails refuses nothing: the store is there.
-    fn migrate(&mut self, store: &str) -> Result<Ended, Stop> {
-        let line = String::from_str(self.rt.alloc(), "migrated\n")?;
-        let made = self.use_store_file(store, Job::Migrate)?;
-        made.outcome?;
-        Ok(Ended::done(line.into_bytes()))
-    }
-
-    // `amend --store FILE --manifest FILE`: lists the rows of one more manifest, and prints how many
-    // are new. The faults that its text has by itself come before those of the store.
-    fn amend(&mut self, store: &str, manifest: &str) -> Result<Ended, Stop> {
-        let text = read_manifest_text(self.rt, manifest)?;
-        let _ = manifest_in(self.rt.alloc(), &text)?;
-        self.use_store(store, DeskTask::List { text: &text })
-    }
-
-    // `as-of --store FILE MOMENT`: rebuilds the registry as of a moment, and prints where its chain
-    // ends then.
-    fn as_of(&mut self, store: &str, moment: &str) -> Result<Ended, Stop> {
-        let moment = moment_named(self.rt.alloc(), moment)?;
-        self.use_store(store, DeskTask::Move { moment })
-    }
-
-    // Does a task with the desk of the store in a file. What was answered before a stop is kept, and
-    // a stop is reported rather than a close that fails after it.
-    fn use_store(&mut self, path: &str, task: DeskTask<'_>) -> Result<Ended, Stop> {
-        let Closed { outcome, closed } = self.use_store_file(path, Job::Desk(task))?;
+    // Opens the store at a path, or makes it, does a command with its desk, and closes it: what is
+    // still in its log is copied into the database. What was answered before a stop is kept, and a
+    // stop is reported rather than a close that fails after it.
+    fn use_store(&mut self, path: &str, command: &Command<'_>) -> Result<Ended, Stop> {
+        let line = made_line(self.rt.alloc(), command)?;
+        let mut desk = match opened(self.rt, path, command) {
+            Ok(desk) => desk,
+            Err(fault) => return Err(stop_of(self.rt, path, fault)),
+        };
+        let outcome = self.use_desk(&mut desk, command, line);
+        let closed = close_desk(desk);
         let ended = outcome?;
-        closed?;
-        Ok(ended)
+        match closed {
+            Err(fault) if !makes_store(command) => Err(Stop::Store(fault)),
+            _ => Ok(ended),
+        }
     }
 }
 
-// The line that says how many rows a manifest lists.
-fn listed(alloc: Global, manifest: &Manifest) -> Result<Vec<u8>, AllocError> {
-    let count = manifest.rows().len();
-    let line = format!(in alloc; "listed {count}\n")?;
-    Ok(line.into_bytes())
+// Whether a command makes a store. One that was made is in the file or in its log, so a close that
+// fails refuses nothing.
+fn makes_store(command: &Command<'_>) -> bool {
+    matches!(command, Command::Init { .. } | Command::Migrate)
+}
+
+// The line that is printed once a store is made, and no text for another command. It is written
+// before, so that no memory is wanted once the store is there.
+fn made_line(alloc: Global, command: &Command<'_>) -> Result<Vec<u8>, AllocError> {
+    match command {
+        Command::Init { manifest } => {
+            let count = manifest.rows().len();
+            let line = format!(in alloc; "listed {count}\n")?;
+            Ok(line.into_bytes())
+        }
+        Command::Migrate => {
+            let line = String::from_str(alloc, "migrated\n")?;
+            Ok(line.into_bytes())
+        }
+        _ => Ok(Vec::new(alloc)),
+    }
+}
+
+// The desk over the store at a path, which the command opens or makes.
+fn opened(
+    rt: &HostRuntime,
+    path: &str,
+    command: &Command<'_>,
+) -> Result<Desk<FileStore<File>>, PathFault> {
+    match command {
+        Command::Init { manifest } => new_desk_at(rt, path, Unknown, manifest),
+        Command::Migrate => migrated_desk_at(rt, path, Unknown),
+        _ => open_desk_at(rt, path, Unknown),
+    }
+}
+
+// Why there is no desk: `E1` if the system doesn't let the files be read and written, else the
+// store's fault.
+fn stop_of(rt: &HostRuntime, path: &str, fault: PathFault) -> Stop {
+    match fault {
+        PathFault::Store(fault) => Stop::Store(fault),
+        PathFault::Unopened if names_no_file(path) => Stop::Store(SFault::S1),
+        PathFault::Unopened => match check_access(rt, path) {
+            Ok(()) => Stop::Store(SFault::S1),
+            Err(stop) => stop,
+        },
+    }
+}
+
+// Whether a path means something else to SQLite than a file of that name.
+fn names_no_file(path: &str) -> bool {
+    path == ":memory:" || path.starts_with("file:")
 }

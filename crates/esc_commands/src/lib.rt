@@ -11,16 +11,15 @@
 //!
 //! | Module | Does |
 //! |---|---|
-//! | `commands` | the commands: from what is asked for to the status |
-//! | `jobs` | opens the file of a store and closes it, once for each command; what is done in between |
-//! | `store_file` | makes the store in the database of a file or opens it, and says why that failed |
-//! | `events` | arrivals, amendments and moments, each a run of the desk of its own |
+//! | `commands` | from the words to the status: opens the store at a path, or makes it, and closes it |
+//! | `desk` | what a command does with the desk of its store |
 //! | `take` | takes the plain files of a folder, in byte order of names |
 //! | `serve` | serves connections on a port, one after the other, each within a time |
 //! | `run` | one run of the program: the runtime, the network and its two streams |
+//! | `ended` | what a command leaves at its end: a status, and a text to be printed |
 //!
 //! What the words ask for, the reading of manifests and bodies, and what a command stops for are in
-//! [`esc_usage`]. What `pack` does alike is in [`esc_console`].
+//! [`esc_arguments`].
 //!
 //! # Example
 //!
@@ -43,20 +42,21 @@
 //! # What is promised
 //!
 //! By proof: that no call is unsafe and that each ends, whatever the words, files and requests are.
-//! What a store stands for after an arrival, an amendment or a moment is the contract of
-//! [`esc_desk::Desk::arrive`], [`esc_desk::Desk::amend`] and [`esc_desk::Desk::as_of`], and after a
-//! migration that of [`esc_store::Store::migrate`].
-//! What a request is answered is that of [`esc_http::serve_one`], how long its client is waited for
-//! that of [`esc_client::Client`], and the texts of reports are that of [`esc_http::report`]. No
-//! contract can say what a file holds or what is printed, so the texts, statuses and the order of
-//! refusals are tested on the built program, by the cases of `tests/`.
+//! What the store at a path serves, and what is left of it, is the contract of
+//! [`esc_recovery::open_desk_at`], [`esc_recovery::new_desk_at`] and [`esc_recovery::close_desk`]; what
+//! it stands for after an arrival, an amendment or a moment that of [`esc_desk::Desk::arrive`],
+//! [`esc_desk::Desk::amend`] and [`esc_desk::Desk::as_of`], and after a migration that of
+//! [`esc_recovery::migrated_desk`]. What a request is answered is that of [`esc_http::serve_one`], how
+//! long its client is waited for that of [`esc_client::TimedStream`], and the texts of reports are that
+//! of [`esc_reports::report`]. No contract can say what a file holds or what is printed, so the texts,
+//! statuses and the order of refusals are tested on the built program, by the cases of `tests/`.
 #![tactic(auto)]
 
 mod commands;
-mod jobs;
+mod desk;
+mod ended;
 mod run;
 mod serve;
-mod store_file;
 mod take;
 
 pub use commands::run_words;

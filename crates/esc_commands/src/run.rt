@@ -1,7 +1,7 @@
 //! What every command works with.
 
-use esc_console::OneLine;
-use esc_usage::{Stop, or_stop};
+use esc_arguments::{Stop, or_stop};
+use esc_cli::OneLine;
 use std::io::Write;
 
 /// One run of the program: the runtime, the network, and the two streams that it writes to. The
@@ -22,7 +22,7 @@ impl<N, O: Write, E: Write> Run<'_, N, O, E> {
 
     /// Prints a refusal that doesn't stop the program. A failure of standard error is ignored: there
     /// is nowhere to report it.
-    pub fn tell(&mut self, refusal: &str, name: &str) -> Result<(), Stop> {
+    pub fn print_refusal(&mut self, refusal: &str, name: &str) -> Result<(), Stop> {
         let line = format!(in self.rt.alloc(); "{refusal} {}\n", OneLine(name))?;
         let _ = self.err.write_all(line.as_bytes());
         Ok(())

@@ -1,11 +1,11 @@
 //! The desk on a port.
 
 use crate::run::Run;
-use esc_client::{Client, Patience, drain, is_of_connection};
-use esc_console::DONE;
+use esc_arguments::{Stop, or_stop};
+use esc_cli::DONE;
+use esc_client::{TimeBudget, TimedStream, drain, is_of_connection};
 use esc_desk::Desk;
 use esc_http::{ServeFault, serve_one};
-use esc_usage::{Stop, or_stop};
 use sqlite::Alter;
 use std::io::{Error, Write};
 use std::net::{Net, TcpListener, TcpStream};
@@ -46,7 +46,7 @@ where
     ) -> Result<(), Error> {
         match listener.accept() {
             Ok((stream, _address)) => self.serve_connection(desk, &stream),
-            Err(error) if is_of_connection(&error) => self.tell_fault(ServeFault::Read),
+            Err(error) if is_of_connection(&error) => self.print_fault(ServeFault::Read),
             Err(error) => return Err(error),
         }
         Ok(())
@@ -54,15 +54,15 @@ where
 
     // Serves one request over a connection. One that fails is reported.
     fn serve_connection<S: Alter>(&mut self, desk: &mut Desk<S>, stream: &TcpStream) {
-        let mut reader = Client::new(self.rt, stream, Patience::for_request());
-        let mut writer = Client::new(self.rt, stream, Patience::for_response());
+        let mut reader = TimedStream::new(self.rt, stream, TimeBudget::for_request());
+        let mut writer = TimedStream::new(self.rt, stream, TimeBudget::for_response());
         match serve_one(self.rt.alloc(), desk, &mut reader, &mut writer) {
             Ok(()) => drain(self.rt, stream),
-            Err(fault) => self.tell_fault(fault),
+            Err(fault) => self.print_fault(fault),
         }
     }
 
-    fn tell_fault(&mut self, fault: ServeFault) {
+    fn print_fault(&mut self, fault: ServeFault) {
         // A failure of standard error is ignored: there is nowhere to report it.
         let _ = self.err.write_all(fault.words().as_bytes());
         let _ = self.err.write_all(b"\n");

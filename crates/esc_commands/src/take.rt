@@ -1,10 +1,10 @@
 //! Taking a folder of deposits.
 
 use crate::run::Run;
-use esc_console::{DONE, path_in, plain_files};
+use esc_arguments::{REFUSED, Stop, or_stop, read_body};
+use esc_cli::{DONE, path_in, plain_files};
 use esc_desk::{Desk, Verdict, number};
-use esc_texts::{receipt_line, receipts_heading};
-use esc_usage::{REFUSED, Stop, or_stop, read_body};
+use esc_reports::{receipt_line, receipts_heading};
 use sqlite::Alter;
 use std::io::Write;
 
@@ -15,7 +15,7 @@ impl<N, O: Write, E: Write> Run<'_, N, O, E> {
     pub fn take_folder<S: Alter>(&mut self, desk: &mut Desk<S>, folder: &str) -> Result<u8, Stop> {
         let listing = or_stop(self.rt, folder, plain_files(self.rt, folder))?;
         self.print(&receipts_heading(self.rt.alloc())?)?;
-        self.tell_unnamed(listing.unnamed)?;
+        self.refuse_unnamed(listing.unnamed)?;
         let are_held = self.take_files(desk, folder, &listing.names)?;
         if listing.unnamed == 0 && are_held {
             Ok(DONE)
@@ -25,9 +25,9 @@ impl<N, O: Write, E: Write> Run<'_, N, O, E> {
     }
 
     // Reports so many names that are not UTF-8, and so no numbers.
-    fn tell_unnamed(&mut self, count: usize) -> Result<(), Stop> {
+    fn refuse_unnamed(&mut self, count: usize) -> Result<(), Stop> {
         for _ in 0..count {
-            self.tell("N1", "(a name that is no UTF-8)")?;
+            self.print_refusal("N1", "(a name that is no UTF-8)")?;
         }
         Ok(())
     }
@@ -56,12 +56,12 @@ impl<N, O: Write, E: Write> Run<'_, N, O, E> {
     ) -> Result<bool, Stop> {
         let alloc = self.rt.alloc();
         let Ok(number) = number(name) else {
-            self.tell("N1", name)?;
+            self.print_refusal("N1", name)?;
             return Ok(false);
         };
         let path = path_in(alloc, folder, name)?;
         let Some(body) = read_body(self.rt, path.as_str())? else {
-            self.tell("E2", name)?;
+            self.print_refusal("E2", name)?;
             return Ok(false);
         };
         let (reply, _work) = desk.arrive(alloc, &number, &body)?;

@@ -22,12 +22,12 @@ use Rattle.esc_events.specs.Works.{MentionsFew}
 use Rattle.esc_desk.proofs.AmendedBooks.{kept_bodies, books_amended}
 use Rattle.esc_desk.proofs.AmendingKept.{StayBesides, rest_stays}
 use Rattle.esc_desk.proofs.Deciding.{decided_moved, decision_by}
+use Rattle.esc_desk.proofs.Moving.{IsMove}
 use Rattle.esc_desk.proofs.MovingLemmas.{held_within}
 use Rattle.esc_desk.specs.declared.judging.Judged.{Judged}
 use Rattle.esc_desk.specs.declared.edit.Storing.TheVariants.{Nothing}
 use Rattle.esc_desk.specs.Decisions.{IsDecided}
 use Rattle.esc_desk.specs.Edits.{IsSoundPlan}
-use Rattle.esc_desk.specs.EventLaws.{IsMove}
 use Rattle.esc_desk.specs.DepositSources.{AreJudged}
 use Rattle.esc_desk.proofs.AmendedRows.{held_with_adopted}
 

@@ -28,17 +28,6 @@ use Rattle.esc_desk.proofs.Members.{distinct_among}
 use Rattle.esc_desk.proofs.Telling.{any_of_row}
 use Rattle.esc_desk.proofs.EventLemmas.{union-listed, comings-listed, moment-listed, union-moved, comings-moved, moment-moved}
 
--- by the definitions: the bodies that are held after an amendment are those that were held, and for
--- each new row the parked body with its digest, if that is its deposit; and the parked ones are
--- those that no row lists then
-pub amended_are_held : (e : List EventValue) (more : List MRow) → IsAccepted (union e) → IsAccepted (extended (union e) more) → IsApart sha256 reading e → (r : ℕ)
-    → amended_bodies (extended (union e) more) (parked_body sha256 reading e) (length (union e)) (held_body sha256 reading e) r ≡ held_body sha256 reading (e ++ listed more ∷ []) r
-amended_are_held e more ok okn apart r = held_is sha256 e more ok okn apart r
-
-pub amended_are_parked : (e : List EventValue) (more : List MRow) → IsAccepted (union e) → IsAccepted (extended (union e) more) → (d : List ℕ)
-    → still_parked (extended (union e) more) (parked_body sha256 reading e) d ≡ parked_body sha256 reading (e ++ listed more ∷ []) d
-amended_are_parked e more ok okn d = parked_is sha256 e more ok okn d
-
 no_shorter : (m more : List MRow) → length m ≤ length (extended m more)
 no_shorter m more = omega (arith, length-append m (new_rows m more))
 
@@ -103,7 +92,7 @@ books_amended e k more books ok okn = record {
         ∙ ap (λ (m : List MRow). amended_bodies (extended m more) k.parked (length m) k.bodies r) books.listed
         ∙ ap (λ (g : List ℕ → Option (List ℕ)). amended_bodies (extended (union e) more) g (length (union e)) k.bodies r) same_parked
         ∙ ap (λ (b : ℕ → Option (List ℕ)). amended_bodies (extended (union e) more) (parked_body sha256 reading e) (length (union e)) b r) same_bodies
-        ∙ amended_are_held e more ok okn apart r
+        ∙ held_is sha256 e more ok okn apart r
 
     was_listed : (d : List ℕ) (q : ℕ) → row_of (extended k.listed more) d ≡ Some q → q < length k.listed → row_of (union e) d ≡ Some q
     was_listed d q row lt =
@@ -116,7 +105,7 @@ books_amended e k more books ok okn = record {
         parked_are n okk k (length k.listed) (no_shorter k.listed more) d none
         ∙ ap (λ (m : List MRow). still_parked m k.parked d) rows_k
         ∙ ap (λ (o : Option (List ℕ)). cond (is_some (row_of (extended (union e) more) d)) None o) (books.parked apart d)
-        ∙ amended_are_parked e more ok okn d
+        ∙ parked_is sha256 e more ok okn d
       where
         none : (q : ℕ) → row_of (extended k.listed more) d ≡ Some q → q < length k.listed → k.parked d ≡ None
         none q row lt = books.parked apart d ∙ ap (λ (o : Option ℕ). cond (is_some o) None (came_under sha256 (kept_arrivals sha256 reading e) d)) (was_listed d q row lt)

@@ -9,11 +9,11 @@ use Rattle.std.proofs.lemmas.Bool.{eqb-true, false_from_ne_true}
 use Rattle.esc_manifest.specs.declared.row.MRow.{MRow}
 use Rattle.esc_manifest.specs.ManifestRows.{row_at}
 use Rattle.esc_manifest.specs.Accepted.{IsAccepted}
-use Rattle.esc_store.specs.Kept.{Kept, parked_put, with_listed, with_parked}
+use Rattle.esc_store.specs.Kept.{Kept, parked_put, with_adopted, with_listed, with_parked}
 use Rattle.esc_events.specs.Assessment.{row_of}
 use Rattle.esc_events.specs.Stands.{Among}
 use Rattle.esc_events.specs.Amended.{judged, numbers_from, is_adopted, is_dropped, adopted_rows, dropped_rows}
-use Rattle.esc_events.specs.Amended.{amended_bodies, still_parked, with_adopted, with_all_adopted, with_all_dropped}
+use Rattle.esc_events.specs.Amended.{amended_bodies, still_parked, with_all_adopted, with_all_dropped}
 use Rattle.esc_desk.proofs.AmendingLemmas.{row_is, row_has, judged_some}
 
 none_both : (t : Bool) (o : Option (List ℕ)) → o ≡ None → cond t None o ≡ None

@@ -12,9 +12,8 @@ use Rattle.std.proofs.lemmas.Bool.{eqb-true}
 use Rattle.sha2.specs.Sha256.{sha256}
 use Rattle.esc_tables.specs.DepositValue.{DepositValue}
 use Rattle.esc_tables.specs.Reading.{reading}
-use Rattle.esc_store.specs.declared.reply.Verdict.TheVariants.{A2}
 use Rattle.esc_store.specs.Kept.{Kept, SaysHeld, TellsUnlisted, is_unlisted, AreHeldBy, body_put, parked_put, with_body, with_receipt}
-use Rattle.esc_store.specs.ReplyValue.{ReplyValue, ReceiptValue, reply_alike}
+use Rattle.esc_store.specs.ReplyValue.{ReplyValue, ReceiptValue}
 use Rattle.esc_events.specs.declared.assessment.Assessment.{Assessment}
 use Rattle.esc_events.specs.declared.assessment.Assessment.TheVariants.{Unlisted, Holding}
 use Rattle.esc_events.specs.declared.known.Known.{Known}
@@ -33,7 +32,7 @@ use Rattle.esc_events.specs.HeldLaws.{same_self, exact, holding_listed}
 use Rattle.esc_desk.proofs.AmendingLemmas.{same_bool, row_found}
 use Rattle.esc_desk.proofs.HeldReceipts.{holds_from_says, any_holds, any_says}
 use Rattle.esc_desk.proofs.HeldRows.{is_row_of, listed_row, unlisted_row}
-use Rattle.esc_desk.proofs.OneArrival.{OldOrHolds, OldOrHas, old_body, new_body, old_parked, new_parked, repeated, books_again, books_with}
+use Rattle.esc_desk.proofs.OneArrival.{OldOrHolds, OldOrHas, old_body, new_body, old_parked, new_parked, books_again, books_with}
 use Rattle.esc_desk.proofs.Telling.{any_of_row, told_again}
 
 -- ---- the receipt
@@ -225,11 +224,6 @@ books_held e a k row d known receipt is none =
     told r (inr says) =
         let same : row ≡ r = same_Some _ _ (says_found is r says) in
         ap (λ b. is_some (cond b (Some a.body) (k.bodies r))) (ap (λ (q : ℕ). r == q) same ∙ same_self r)
-
--- a duplicate of an earlier arrival changes nothing, unless that one's verdict is A2
-pub books_repeated : (e : List EventValue) (a : ArrivalValue) (k : Kept) → AreBooks sha256 reading e k → (r : ReplyValue)
-    → reply_alike (union e) 1 a.number (sha256 a.body) k.receipts ≡ Some r → (r.verdict ≡ A2 → ⊥) → AreBooks sha256 reading (e ++ arrived a ∷ []) k
-books_repeated e a k books r told other = repeated sha256 reading e k a books r told other
 
 -- ---- an arrival whose body was not kept comes again
 

@@ -35,19 +35,18 @@ still_full same full = record {
 }
 
 module _ (e : List EventValue) (a : ArrivalValue) (k : Kept) (books : AreBooks sha256 reading e k) where
-  pub crowded_of : IsApart sha256 reading e → HasNoPlace e a → IsCrowded k (sha256 a.body)
-  crowded_of apart full = record {
-    unlisted = ap (λ (m : List MRow). row_of m (sha256 a.body)) books.listed ∙ full.to_be_parked.unlisted;
-    not_parked = books.parked apart (sha256 a.body) ∙ full.to_be_parked.not_parked;
-    full = still_full (λ d. sym (books.parked apart d)) full.full;
-  }
+  pub crowded_of : IsApart sha256 reading e → HasNoPlace e a → IsCrowded k.listed k.parked (sha256 a.body)
+  crowded_of apart full =
+      let (unlisted, there) = full.crowded in (
+        ap (λ (m : List MRow). row_of m (sha256 a.body)) books.listed ∙ unlisted,
+        (books.parked apart (sha256 a.body) ∙ there.0, still_full (λ d. sym (books.parked apart d)) there.1),
+      )
 
-  pub no_place_of : IsUnkept e a → IsCrowded k (sha256 a.body) → WhereApart e (HasNoPlace e a)
-  no_place_of unkept crowded apart = record {
-    to_be_parked = record {
-      unkept = unkept;
-      unlisted = ap (λ (m : List MRow). row_of m (sha256 a.body)) (sym books.listed) ∙ crowded.unlisted;
-      not_parked = sym (books.parked apart (sha256 a.body)) ∙ crowded.not_parked;
-    };
-    full = still_full (books.parked apart) crowded.full;
+  pub no_place_of : IsUnkept e a → IsCrowded k.listed k.parked (sha256 a.body) → WhereApart e (HasNoPlace e a)
+  no_place_of unkept (unlisted, there) apart = record {
+    unkept = unkept;
+    crowded = (
+      ap (λ (m : List MRow). row_of m (sha256 a.body)) (sym books.listed) ∙ unlisted,
+      (sym (books.parked apart (sha256 a.body)) ∙ there.0, still_full (books.parked apart) there.1),
+    );
   }

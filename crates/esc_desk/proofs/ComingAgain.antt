@@ -1,5 +1,5 @@
 -- An arrival that comes again after it was answered A2: its body is there or needn't be, or it is taken in.
-use Rattle.std.proofs.Common.{◌≡◌, ◌⊎◌, inl, inr, ℕ, true, List, [], Option, Some, None, IsSome, is_some, refl, sym, ap, subst, ◌∙◌, true≢false}
+use Rattle.std.proofs.Common.{◌≡◌, ◌⊎◌, inl, inr, ℕ, true, List, [], Option, Some, None, IsSome, is_some, is_none, refl, sym, ap, subst, ◌∙◌, true≢false}
 use Rattle.std.specs.List.{list_any}
 use Rattle.std.specs.Str.{bytes_eq}
 use Rattle.std.specs.Cmp.Lexicographic.{bytes_decides}
@@ -22,7 +22,7 @@ use Rattle.esc_events.specs.Taking.{IsAgain}
 use Rattle.esc_desk.proofs.HeldRows.{is_row_of, listed_row}
 use Rattle.esc_desk.proofs.Lost.{alike_counts, came_counts}
 use Rattle.esc_desk.proofs.Members.{any_of, distinct_among}
-use Rattle.esc_desk.specs.Again.{IsMissing, IsMissingAfter}
+use Rattle.esc_desk.specs.Again.{is_missing, is_missing_after}
 use Rattle.esc_desk.proofs.Holding.{IsRefused, refused_listed, refused_row}
 use Rattle.esc_desk.proofs.Likeness.{AddsNothing, seen}
 
@@ -98,17 +98,16 @@ nothing_repeated e a k books y there other =
       there = inl (any_of (has_digest sha256 reading digest) (kept_arrivals sha256 reading e) first counts under);
     }
 
--- what is missing after the events is so in a store that stands for them
-pub missing_of : (e : List EventValue) (a : ArrivalValue) (k : Kept) → AreBooks sha256 reading e k → IsApart sha256 reading e → IsMissingAfter e a
-    → IsMissing k.bodies k.parked (sha256 a.body) (assessment sha256 reading (union e) a.body)
-missing_of e a k books apart missing = by_found (assessment sha256 reading (union e) a.body) missing
+-- what is missing in a store is what is missing after the events for which it stands
+pub missing_of : (e : List EventValue) (a : ArrivalValue) (k : Kept) → AreBooks sha256 reading e k → IsApart sha256 reading e
+    → is_missing k.bodies k.parked (sha256 a.body) (assessment sha256 reading (union e) a.body) ≡ is_missing_after e a
+missing_of e a k books apart = by_found (assessment sha256 reading (union e) a.body)
   where
-    by_found : (f : Assessment) → IsMissing (held_body sha256 reading e) (parked_body sha256 reading e) (sha256 a.body) f
-        → IsMissing k.bodies k.parked (sha256 a.body) f
-    by_found Unlisted is = books.parked apart (sha256 a.body) ∙ is
-    by_found (Unreadable r n) is = is
-    by_found (Differing r) is = is
-    by_found (Holding r d) is = books.bodies apart r ∙ is
+    by_found : (f : Assessment) → is_missing k.bodies k.parked (sha256 a.body) f ≡ is_missing (held_body sha256 reading e) (parked_body sha256 reading e) (sha256 a.body) f
+    by_found Unlisted = ap (λ (o : Option (List ℕ)). is_none o) (books.parked apart (sha256 a.body))
+    by_found (Unreadable r n) = refl
+    by_found (Differing r) = refl
+    by_found (Holding r d) = ap (λ (o : Option (List ℕ)). is_none o) (books.bodies apart r)
 
 -- ---- what a desk answers
 

@@ -71,14 +71,10 @@ module _ {S : Type 0} (g : Ghosts S) where
       | inr store ↦ one_more trees e doubtful x f cause (record { kept = k; store = store; stands_for = stands })
     ]
 
-  pub leaves_with_only : (old new : Held S) (e : List EventValue) (a : ArrivalValue) → LeavesOnlyFor g new (e ++ arrived a ∷ []) → (doubtful : List EventValue) → CrashLeaves g old e doubtful → CrashLeaves g new (e ++ arrived a ∷ []) doubtful
+  -- no event is in doubt, or any are
+  pub leaves_only : (new : Held S) (e doubtful : List EventValue) → LeavesOnlyFor g new e → CrashLeaves g new e doubtful
   unfolding CrashLeaves LeavesOnlyFor
-  leaves_with_only old new e a only doubtful left clean trees may = one_at_least trees (e ++ arrived a ∷ []) doubtful (only clean trees may)
-
-  -- no event is in doubt
-  pub leaves_only : (new : Held S) (e : List EventValue) → LeavesOnlyFor g new e → CrashLeaves g new e []
-  unfolding CrashLeaves LeavesOnlyFor
-  leaves_only new e only = only
+  leaves_only new e doubtful only clean trees may = one_at_least trees e doubtful (only clean trees may)
 
   -- where the disk is clean is enough
   pub if_clean : (conn : Held S) (e doubtful : List EventValue) → (HasCleanDisk (state g conn) → CrashLeaves g conn e doubtful) → CrashLeaves g conn e doubtful

@@ -1,6 +1,4 @@
 -- What a crash may leave, from one call of the store to the next.
-use Rattle.std.proofs.Common.{Result, Ok, Err}
-use Rattle.std.specs.Prelude.{OnOk}
 use Rattle.sqlite_trees.specs.declared.store.Store.{Ghosts}
 use Rattle.sqlite_trees.specs.Tree.{Trees}
 use Rattle.sqlite.specs.State.{State, Survives}
@@ -25,8 +23,3 @@ module _ {S : Type 0} (g : Ghosts S) where
 -- what follows for whatever is kept follows here: a search then needn't look into it
 pub for_this : (P Q : Kept → Type 0) (k : Kept) → P k → ((m : Kept) → P m → Q m) → Q k
 for_this P Q k p h = h k p
-
--- what follows from two facts of a success
-pub on_ok_both : {X E : Type 0} (r : Result X E) {P Q R : Type 0} → OnOk r P → OnOk r Q → (P → Q → R) → OnOk r R
-on_ok_both (Ok x) p q f = f p q
-on_ok_both (Err e) p q f = tt

@@ -24,9 +24,8 @@ use Rattle.esc_desk.specs.declared.edit.Storing.{Storing}
 use Rattle.esc_desk.specs.declared.edit.Storing.TheVariants.{Nothing, Hold, Park}
 use Rattle.esc_desk.specs.Decisions.{IsDecided, known_after, IsDone}
 use Rattle.esc_desk.specs.Edits.{IsSoundPlan, IsCostIf, books_edited, chain_deposits, edited, is_empty}
-use Rattle.esc_desk.specs.EventLaws.{IsMove}
 use Rattle.esc_desk.proofs.EditSteps.{stays_put}
-use Rattle.esc_desk.proofs.Moving.{moved_from, move_stands, move_is_work, no_work_of}
+use Rattle.esc_desk.proofs.Moving.{IsMove, moved_from, move_stands, move_is_work, no_work_of}
 
 module _ (r : Option ReceiptValue) (l : Option Listing) (b : Storing) (t : Option (Option ℤ)) where
   abbrev pub decision_by : Option Known → Option Plan → Decision

@@ -1,5 +1,5 @@
 -- What an arrival comes to, with a receipt or without one: nothing is stored, or its body is parked or held.
-use Rattle.std.proofs.Common.{◌≡◌, inl, inr, ℕ, ℤ, true, false, List, [], ◌∷◌, ◌++◌, Option, Some, None, IsSome, is_some, refl, sym, ap, ap₂, subst, ◌∙◌, true≢false, map}
+use Rattle.std.proofs.Common.{◌≡◌, inl, inr, ℕ, ℤ, true, false, List, [], ◌∷◌, ◌++◌, Option, Some, None, IsSome, is_none, not, refl, sym, ap, ap₂, subst, ◌∙◌, true≢false, map}
 use Rattle.std.proofs.lemmas.Option.{same_Some}
 use Rattle.sha2.specs.Sha256.{sha256}
 use Rattle.esc_tables.specs.Reading.{reading}
@@ -27,10 +27,9 @@ use Rattle.esc_desk.specs.declared.edit.Edit.{Edit}
 use Rattle.esc_desk.specs.declared.edit.Storing.{Storing}
 use Rattle.esc_desk.specs.declared.edit.Storing.TheVariants.{Nothing}
 use Rattle.esc_desk.specs.declared.receiving.Received.{Received}
-use Rattle.esc_desk.specs.Again.{IsMissing}
+use Rattle.esc_desk.specs.Again.{is_missing}
 use Rattle.esc_desk.specs.Decisions.{IsArriving, IsDecidedArrival, still_by}
 use Rattle.esc_desk.specs.Edits.{is_empty, is_nothing, noted, stored}
-use Rattle.esc_desk.specs.EventLaws.{IsMove}
 use Rattle.esc_desk.specs.Receiving.{IsReceived}
 use Rattle.esc_desk.proofs.Arriving.{books_noted, books_parked, books_held, books_known_again, books_parked_again, books_held_again}
 use Rattle.esc_desk.proofs.ComingAgain.{nothing_listed, nothing_parked, nothing_refused}
@@ -38,16 +37,16 @@ use Rattle.esc_desk.proofs.Deciding.{decided_still, is_none_of}
 use Rattle.esc_desk.proofs.EventLemmas.{union-arrived}
 use Rattle.esc_desk.proofs.Holding.{move_to}
 use Rattle.esc_desk.proofs.Likeness.{AddsNothing}
-use Rattle.esc_desk.proofs.Moving.{stands_still}
+use Rattle.esc_desk.proofs.Moving.{IsMove, stands_still}
 use Rattle.esc_desk.proofs.Working.{idle_by}
 
 -- a body that is held or parked is something
 pub stores_something : (edit : Edit) → is_nothing edit.body ≡ false → is_empty edit ≡ true → ⊥
 stores_something edit some is = true≢false (sym (ap is_nothing (is_none_of edit is).body) ∙ some)
 
-some_where : (o : Option (List ℕ)) → (o ≡ None → ⊥) → IsSome o
-some_where None not = absurd (not refl)
-some_where (Some body) not = refl
+some_where : (o : Option (List ℕ)) → is_none o ≡ false → IsSome o
+some_where None there = absurd (true≢false there)
+some_where (Some body) there = refl
 
 -- ---- what stays beside the receipts
 
@@ -68,15 +67,15 @@ noted_is None k = refl
 noted_is (Some r) k = refl
 
 there_not_missing : (bodies : ℕ → Option (List ℕ)) (parked : List ℕ → Option (List ℕ)) (d : List ℕ) (found : Assessment) → (found ≡ Unlisted → IsSome (parked d))
-    → ((q : ℕ) → held_row found ≡ Some q → IsSome (bodies q)) → IsMissing bodies parked d found → ⊥
-there_not_missing bodies parked key Unlisted waits held missing = true≢false (sym (waits refl) ∙ ap is_some missing)
-there_not_missing bodies parked key (Unreadable r n) waits held missing = missing
-there_not_missing bodies parked key (Differing r) waits held missing = missing
-there_not_missing bodies parked key (Holding r d) waits held missing = true≢false (sym (held r refl) ∙ ap is_some missing)
+    → ((q : ℕ) → held_row found ≡ Some q → IsSome (bodies q)) → is_missing bodies parked d found ≡ false
+there_not_missing bodies parked key Unlisted waits held = ap not (waits refl)
+there_not_missing bodies parked key (Unreadable r n) waits held = refl
+there_not_missing bodies parked key (Differing r) waits held = refl
+there_not_missing bodies parked key (Holding r d) waits held = ap not (held r refl)
 
 module _ {e : List EventValue} {a : ArrivalValue} {k : Kept} {found : Assessment} {known : Known} {receipt : Option ReceiptValue} (is : IsArriving e a k found known receipt) where
   still : (b : Storing) → IsBesides receipt k (stored b (noted receipt k)) → AreBooks sha256 reading (e ++ arrived a ∷ []) (stored b (noted receipt k))
-      → (is_empty (still_by receipt (Some known) b).edit ≡ true → IsMissing k.bodies k.parked (sha256 a.body) found → ⊥) → IsDecidedArrival e a k found (still_by receipt (Some known) b)
+      → (is_empty (still_by receipt (Some known) b).edit ≡ true → is_missing k.bodies k.parked (sha256 a.body) found ≡ false) → IsDecidedArrival e a k found (still_by receipt (Some known) b)
   still b besides books there =
       let made = stored b (noted receipt k) in
       let stands = stands_still e (e ++ arrived a ∷ []) k made is.stood books besides.listed besides.bodies besides.moment besides.steps besides.registry in
@@ -98,7 +97,7 @@ module _ {e : List EventValue} {a : ArrivalValue} {k : Kept} {found : Assessment
   -- the body is parked
   pub decided_parked : (b : Storing) → is_nothing b ≡ false → IsBesides receipt k (stored b (noted receipt k))
       → AreBooks sha256 reading (e ++ arrived a ∷ []) (stored b (noted receipt k)) → IsDecidedArrival e a k found (still_by receipt (Some known) b)
-  decided_parked b some besides books = still b besides books (λ empty missing. stores_something (still_by receipt (Some known) b).edit some empty)
+  decided_parked b some besides books = still b besides books (λ empty. absurd (stores_something (still_by receipt (Some known) b).edit some empty))
 
   pub parked_besides : (d body : List ℕ) → IsBesides receipt k (with_parked (noted receipt k) d (Some body))
   parked_besides d body =
@@ -170,7 +169,7 @@ arriving_again {e = e} {a = a} {k = k} {found = found} {reply = reply} is knows 
 
 -- one whose body isn't missing adds nothing
 pub nothing_again : {e : List EventValue} {a : ArrivalValue} {k : Kept} (found : Assessment) {reply : ReplyValue} → IsAgain e a k found reply
-    → (IsMissing k.bodies k.parked (sha256 a.body) found → ⊥) → AddsNothing e a
+    → is_missing k.bodies k.parked (sha256 a.body) found ≡ false → AddsNothing e a
 nothing_again {e = e} {a = a} {k = k} Unlisted {reply = reply} is there = nothing_parked e a k Unlisted reply is (some_where (k.parked (sha256 a.body)) there)
 nothing_again {e = e} {a = a} {k = k} (Unreadable r n) {reply = reply} is there = nothing_refused e a k (Unreadable r n) reply is (inl (r, n, refl))
 nothing_again {e = e} {a = a} {k = k} (Differing r) {reply = reply} is there = nothing_refused e a k (Differing r) reply is (inr (r, refl))

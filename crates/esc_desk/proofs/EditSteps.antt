@@ -1,50 +1,20 @@
 -- The parts of a change, one after another.
-use Rattle.std.proofs.Common.{inl, inr, ℤ, Option, Some, None, Result, Ok, refl, ◌∙◌}
-use Rattle.std.proofs.lemmas.Result.{on_ok_weaker}
-use Rattle.sqlite.proofs.StateLemmas.{survives_then}
+use Rattle.std.proofs.Common.{inl, inr, ℤ, Option, Some, None, refl, ◌∙◌}
 use Rattle.sqlite_trees.specs.declared.store.Store.{Ghosts}
 use Rattle.esc_store.specs.declared.fault.SFault.{SFault}
 use Rattle.esc_store.specs.declared.store.Store.{Store}
 use Rattle.esc_store.specs.Kept.{Kept, with_listed}
 use Rattle.esc_store.specs.ReplyValue.{ReceiptValue}
-use Rattle.esc_store.specs.Standing.{ChangeOf, IsAsBefore, IsHonest, IsUncommitted, GoesOn, Rest, Stands, StoreLeavesNoMore}
-use Rattle.esc_store.specs.StandingLaws.{was_clean}
+use Rattle.esc_store.specs.Standing.{ChangeOf, IsAsBefore, IsHonest, Rest, Stands, StoreLeavesNoMore}
 use Rattle.esc_events.specs.Amended.{with_all_adopted}
 use Rattle.esc_desk.specs.declared.edit.Edit.{Edit}
 use Rattle.esc_desk.specs.declared.edit.Listing.{Listing}
 use Rattle.esc_desk.specs.declared.edit.Storing.{Storing}
 use Rattle.esc_desk.specs.declared.edit.Storing.TheVariants.{Nothing, Hold, Park}
-use Rattle.esc_desk.specs.Edits.{noted, stored, listed_more, timed, books_edited, IsPart, StaysPut}
+use Rattle.esc_desk.specs.Edits.{noted, stored, listed_more, timed, books_edited, StaysPut}
 use Rattle.esc_desk.specs.Causes.{IsEditFault, IsFillFault}
 use Rattle.esc_desk.proofs.AmendingKept.{adopted_stay, dropped_stay}
 use Rattle.esc_desk.proofs.CrashSteps.{adds_then}
-
-module _ {S : Type 0} {g : Ghosts S} where
-  -- a part that lists no rows
-  pub uncommitted : {a b : ChangeOf S} → GoesOn g a b → IsUncommitted g a b
-  uncommitted h = record { same_reference = h.same_reference; manifest = h.manifest; writes = h.writes; survives = h.survives; began = h.began }
-
-  pub uncommitted_then : {a b c : ChangeOf S} → IsUncommitted g a b → IsUncommitted g b c → IsUncommitted g a c
-  uncommitted_then p q = record {
-    same_reference = q.same_reference ∙ p.same_reference;
-    manifest = q.manifest ∙ p.manifest;
-    writes = q.writes ∙ p.writes;
-    survives = survives_then _ _ _ _ _ _ (λ _ db none. none) (λ _ db none. none) p.survives q.survives;
-    began = λ k h. q.began k (p.began k h);
-  }
-
-  -- the change was honest before a part if it is after it
-  pub part_was : {X : Type 0} {a b : ChangeOf S} {r : Result X SFault} {f : Kept → Kept} → IsPart g a b r f → IsHonest g b.store.now → IsHonest g a.store.now
-  part_was p = was_clean p.goes_on.survives
-
-  -- one part that succeeded, and then another
-  pub part_then : {X Y : Type 0} {a b c : ChangeOf S} {x : X} {q : Result Y SFault} {f h : Kept → Kept} → IsPart g a b (Ok x) f → IsPart g b c q h → IsPart g a c q (λ k. h (f k))
-  part_then {q = q} p r = record {
-    goes_on = uncommitted_then p.goes_on r.goes_on;
-    count = r.count ∙ p.count;
-    makes = on_ok_weaker q (λ makes clean before k rest. makes clean before _ (p.makes (part_was r clean) before k rest)) r.makes;
-    holds = on_ok_weaker q (λ holds s h. holds s (p.holds s h)) r.holds;
-  }
 
 module _ {S : Type 0} (g : Ghosts S) where
   -- why a change was refused, of which nothing is committed, is why the edit is

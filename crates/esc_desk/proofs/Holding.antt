@@ -16,7 +16,6 @@ use Rattle.esc_events.specs.ArrivalValue.{ArrivalValue}
 use Rattle.esc_events.specs.Events.{EventValue, union}
 use Rattle.esc_events.specs.Events.EventValue.{arrived}
 use Rattle.esc_events.specs.Assessment.{assessment, found_at, row_of, held_row}
-use Rattle.esc_desk.specs.EventLaws.{IsMove}
 use Rattle.esc_events.specs.Receipts.{is_among}
 use Rattle.esc_events.specs.Plans.{AreLatestSteps, IsPlanned}
 use Rattle.esc_events.specs.Stands.{AreBooks, StandsFor}
@@ -25,6 +24,7 @@ use Rattle.esc_desk.specs.declared.plan.Source.TheVariants.{Arrived}
 use Rattle.esc_desk.specs.DepositSources.{IsSource}
 use Rattle.esc_desk.specs.Knowing.{IsInserted}
 use Rattle.esc_desk.proofs.KnownRows.{told_more, told_same, says_row, says_only, says_none, put_at}
+use Rattle.esc_desk.proofs.Moving.{IsMove}
 
 -- ---- a receipt
 

@@ -30,7 +30,6 @@ use Rattle.esc_events.specs.LatestTables.{IsChainOf}
 use Rattle.esc_events.specs.Works.{no_work}
 use Rattle.esc_events.specs.Stands.{HaveBodies, AreBooks, StandsFor, IsApart, deposit_of, or_no_deposit, deposits_of, held_rows, held_body}
 use Rattle.esc_events.specs.Works.{chain_cost, IsWorkOf, MentionsFew}
-use Rattle.esc_desk.specs.EventLaws.{MovedStands, MoveIsWork}
 use Rattle.esc_desk.proofs.FrontLemmas.{same_front}
 use Rattle.esc_desk.proofs.Lost.{counted_before}
 use Rattle.esc_desk.proofs.MovingLemmas.{each_of, are_of, same_maps, same_deposits, first_step, accepted_first, contains_held, have_bodies, true_of, held_within, front_of_same, no_move}
@@ -240,11 +239,29 @@ module _ (law : LatestChainsAtAreHeldRows) (e : List EventValue) (x : EventValue
     is_cost = cost (few_moved few few_old few_new) ∙ move_cost apart;
   }
 
--- the same, of a move as the law says it
-pub move_stands : MovedStands
+-- a move by a plan after the event x: k stands for the events before it; l has the books with it,
+-- and k's chain and tables; its listed rows begin with those of k, and it holds the bodies that k
+-- does; the plan goes to the latest steps of the rows of which l holds a body
+pub record IsMove (e : List EventValue) (x : EventValue) (k l : Kept) (more : List MRow)
+    (rows : List ℕ) (bodies : ℕ → Option (List ℕ)) (plan : Plan) : Type 0 where
+  pub stood : StandsFor sha256 reading e k
+  pub books : AreBooks sha256 reading (e ++ x ∷ []) l
+  pub begins : l.listed ≡ k.listed ++ more
+  pub keeps : (r : ℕ) (body : List ℕ) → k.bodies r ≡ Some body → l.bodies r ≡ Some body
+  pub held : AreHeld l.bodies rows
+  pub same : (r : ℕ) → bodies r ≡ l.bodies r
+  pub latest : AreLatestSteps l.listed rows l.moment plan.new.items
+  pub planned : IsPlanned k bodies plan
+
+-- after such a move the store stands for the events with x
+pub move_stands : LatestChainsAtAreHeldRows → (e : List EventValue) (x : EventValue) (k l : Kept) (more : List MRow) (rows : List ℕ) (bodies : ℕ → Option (List ℕ)) (plan : Plan)
+    → IsMove e x k l more rows bodies plan → StandsFor sha256 reading (e ++ x ∷ []) (moved_by plan l (deposits_of reading k.bodies k.steps))
 move_stands law e x k l more rows bodies plan is =
     stands_moved law e x k l is.stood is.books more is.begins is.keeps rows is.held bodies is.same plan is.latest is.planned
 
-pub move_is_work : MoveIsWork
+-- and the work is the cost of the move
+pub move_is_work : LatestChainsAtAreHeldRows → MentionsFew → (e : List EventValue) (x : EventValue) (k l : Kept) (more : List MRow) (rows : List ℕ) (bodies : ℕ → Option (List ℕ)) (plan : Plan)
+    → IsMove e x k l more rows bodies plan → length plan.old.items ≤ 4096 → length plan.new.items ≤ 4096
+    → (work : Work) → IsCostOfMove plan (deposits_of reading k.bodies k.steps) work → IsWorkOf e x work
 move_is_work law few e x k l more rows bodies plan is =
     works_moved law e x k l is.stood is.books more is.begins is.keeps rows is.held bodies is.same plan is.latest is.planned few

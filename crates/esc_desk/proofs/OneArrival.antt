@@ -2,27 +2,24 @@
 use Rattle.std.proofs.Common.{◌≡◌, ◌⊎◌, inl, inr, ℕ, ◌+◌, Bool, true, false, cond, ◌||◌, List, [], ◌∷◌, ◌++◌, length}
 use Rattle.std.proofs.Common.{Option, Some, None, IsSome, is_some, Result, refl, sym, ap, ap₂, subst, ◌∙◌, true≢false}
 use Rattle.std.specs.List.{list_any, find, Any}
-use Rattle.std.specs.Str.{bytes_eq}
 use Rattle.std.specs.Cmp.Lexicographic.{bytes_decides}
-use Rattle.std.proofs.lemmas.Bool.{and_parts}
 use Rattle.esc_manifest.specs.declared.row.MRow.{MRow}
 use Rattle.esc_tables.specs.DepositValue.{DepositValue}
-use Rattle.esc_store.specs.declared.reply.Verdict.TheVariants.{A2}
 use Rattle.esc_store.specs.Kept.{Kept, SaysHeld, TellsUnlisted, with_receipt}
 use Rattle.esc_store.specs.ReplyValue.{ReplyValue, ReceiptValue, reply_kept, is_alike, reply_alike}
 use Rattle.esc_store.specs.ListLaws.{any_front_or_last, any_front, any_last}
 use Rattle.esc_events.specs.ArrivalValue.{ArrivalValue}
 use Rattle.esc_events.specs.Events.{EventValue, Coming, union, coming, comings}
 use Rattle.esc_events.specs.Events.EventValue.{arrived}
-use Rattle.esc_events.specs.Assessment.{assessment, row_of, held_row}
-use Rattle.esc_events.specs.Receipts.{holds_row, holds_any, found_then, alike, distinct, receipt_for, receipts_after, receipts_of, reply_to}
+use Rattle.esc_events.specs.Assessment.{row_of, held_row}
+use Rattle.esc_events.specs.Receipts.{holds_any, found_then, alike, distinct, receipt_for, receipts_after, receipts_of, reply_to}
 use Rattle.esc_events.specs.Stands.{Among, TellsOf, body_of, holds_by, has_digest, kept_arrivals, held_body, parked_body, IsApart, CameFor, CameWith, AreBooks}
 use Rattle.esc_desk.proofs.EventLemmas.{union-arrived, comings-arrived, moment-arrived}
 use Rattle.esc_desk.proofs.Searches.{none_alike, some_alike, alike-last, find-push-old, find-push-new}
 use Rattle.esc_desk.proofs.Distinct.{alike_laws, any_alike, distinct-push, receipts-push, kept_any}
 use Rattle.esc_desk.proofs.HeldReceipts.{says_from_holds}
-use Rattle.esc_desk.proofs.Lost.{kept_arrivals-arrived, came_counts, alike_counts}
-use Rattle.esc_desk.proofs.Members.{any_of, among-front, among-last, distinct_among, some_any, any_some, no_first}
+use Rattle.esc_desk.proofs.Lost.{kept_arrivals-arrived}
+use Rattle.esc_desk.proofs.Members.{among-front, among-last, some_any, no_first}
 
 module _ (digest : List ℕ → List ℕ) (reads : List ℕ → Result DepositValue ℕ) where
   -- whether an arrival of the list is a duplicate of this one, by the receipts
@@ -181,39 +178,6 @@ module _ (digest : List ℕ → List ℕ) (reads : List ℕ → Result DepositVa
         held_told = λ r some. subst (λ (m : List MRow). Any (TellsOf m r) k.receipts) (sym (union-arrived e a)) (tell r some);
         parked_told = tells;
       }
-
-      -- an earlier arrival with the same body, unless the reply's verdict is A2
-      same_before : (y.verdict ≡ A2 → ⊥) → IsApart digest reads then → (c : Coming) × Among counts c × (c.body ≡ a.body)
-      same_before other apart =
-          let x = alike_counts digest reads (union e) came 1 [] before y (ap (reply_alike (union e) 1 a.number (digest a.body)) (sym books.receipts) ∙ there) other in
-          let it_counts = came_counts digest reads e x.0 (distinct_among digest reads (comings e) x.0 x.1) x.3 in
-          let like = and_parts (bytes_eq a.number x.0.number) (bytes_eq (digest a.body) (digest x.0.body)) x.2 in
-          (x.0, it_counts, apart x.0 came (earlier x.0 it_counts) last (sym ((bytes_decides (digest a.body) (digest x.0.body)).0 like.1)))
-
-      -- then it changes nothing
-      pub repeated : (y.verdict ≡ A2 → ⊥) → AreBooks digest reads then k
-      repeated other =
-          books_again k.bodies k.parked
-          (λ apart r. old_body apart r (held_there apart r))
-          (λ apart d. old_parked apart d (parked_there apart d))
-          (λ r body at. inl at)
-          (λ d body at. inl at)
-          (λ r some. some)
-          books.held_told
-          books.parked_told
-        where
-          held_there : IsApart digest reads then → (r : ℕ) → holding r came ≡ true → IsSome (k.bodies r)
-          held_there apart r holds =
-              let x = same_before other apart in
-              ap is_some (held_now apart r)
-              ∙ any_some (holding r) counts
-              (any_of (holding r) counts x.0 x.1 (ap (λ (b : List ℕ). holds_row r (assessment digest reads (union e) b)) x.2 ∙ holds))
-
-          parked_there : IsApart digest reads then → (d : List ℕ) → digest a.body ≡ d → is_some (row_of (union e) d) ≡ false → IsSome (k.parked d)
-          parked_there apart d same unlisted =
-              let x = same_before other apart in
-              ap is_some (parked_now apart d unlisted)
-              ∙ any_some (under d) counts (any_of (under d) counts x.0 x.1 ((bytes_decides (digest x.0.body) d).1 (ap digest x.2 ∙ same)))
 
     -- ---- an arrival that is no duplicate
     module _ (none : reply_alike (union e) 1 a.number (digest a.body) k.receipts ≡ None) where

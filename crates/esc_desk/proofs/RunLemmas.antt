@@ -15,6 +15,7 @@ use Rattle.std.proofs.Common.{
   cond,
   Option,
   Some,
+  None,
   Ok,
   Err,
   sym,
@@ -38,9 +39,9 @@ use Rattle.esc_apply.specs.Registry.{saturated}
 use Rattle.esc_store.specs.ReplyValue.{ReplyValue, ReceiptValue, reply_alike}
 use Rattle.esc_desk.specs.declared.desk.Desk.{Desk}
 use Rattle.esc_desk.specs.declared.event.Event.{Event}
-use Rattle.esc_desk.specs.declared.event.Event.TheVariants.{Arrival, Amend, AsOf}
+use Rattle.esc_desk.specs.declared.event.Event.TheVariants.{Arrival}
 use Rattle.esc_desk.specs.declared.event.EventOutcome.{EventOutcome}
-use Rattle.esc_desk.specs.declared.event.EventOutcome.TheVariants.{Arrived, Amended, Moved}
+use Rattle.esc_desk.specs.declared.event.EventOutcome.TheVariants.{Arrived}
 use Rattle.esc_desk.specs.declared.event.Outcome.TheVariants.{Done, Lost}
 use Rattle.esc_events.specs.ArrivalValue.{ArrivalValue}
 use Rattle.esc_events.specs.Events.{EventValue, Coming, union, coming, early_coming, comings}
@@ -51,23 +52,22 @@ use Rattle.esc_manifest.specs.declared.fault.MFault.TheVariants.{Refused as Refu
 use Rattle.esc_desk.specs.declared.amendment.AmendFault.{AmendFault}
 use Rattle.esc_desk.specs.declared.amendment.AmendFault.TheVariants.{M, Store as OfStore}
 use Rattle.esc_desk.specs.Amendments.{IsAmendCause, IsAmendFault}
-use Rattle.esc_desk.specs.Asked.{event_of, is_taken, taken_by, taken_in}
-use Rattle.esc_desk.specs.Calls.{Answers, DeskLeaves, DeskLeavesEvent, writes_of}
-use Rattle.esc_desk.specs.Crashes.{doubtful_by, doubtful_after}
+use Rattle.esc_desk.specs.Asked.{Matched, event_of, is_taken, matched, taken_by, taken_in}
+use Rattle.esc_desk.specs.Asked.Matched.{of_arrival, of_amendment, of_moment}
+use Rattle.esc_desk.specs.Calls.{Answers, DeskLeaves, DeskLeavesEvent, DeskLeavesRun, writes_of}
+use Rattle.esc_desk.specs.Crashes.{IsApartIf, doubtful_by, doubtful_after}
+use Rattle.esc_desk.specs.Laws.{KeepsReplies}
 use Rattle.esc_desk.specs.Outcomes.{IsOutcomeOf, AreOutcomesOf, AreWorksOf, writes_in, HasWorked}
-use Rattle.esc_desk.specs.Running.{IsAnswer, AreAnswers, Ran, Takes}
+use Rattle.esc_desk.specs.Running.{IsRight, AreRight, Ran, Takes}
 use Rattle.esc_desk.specs.Serving.{DeskServes}
 use Rattle.esc_desk.proofs.AmendedBooks.{replies_stay}
 use Rattle.esc_desk.proofs.EventLemmas.{union-arrived, comings-arrived, union-moved, comings-moved}
+use Rattle.esc_desk.proofs.Moving.{apart_before}
 use Rattle.esc_desk.proofs.Searches.{alike-front}
 use Rattle.esc_desk.proofs.Distinct.{distinct-push, receipts-push}
 use Rattle.esc_desk.proofs.EarlyEvents.{union-early, comings-early}
 
 -- ---- a reply stays as it was
-
--- a reply after some events is one after others
-abbrev pub RepliesStay : List EventValue → List EventValue → Type 0
-RepliesStay e f = (a : ArrivalValue) (r : ReplyValue) → reply_to sha256 reading e a ≡ Some r → reply_to sha256 reading f a ≡ Some r
 
 -- where f are the events e and one more arrival
 module _ (e f : List EventValue) (came : Coming) (last : comings f ≡ comings e ++ came ∷ []) where
@@ -84,13 +84,13 @@ module _ (e f : List EventValue) (came : Coming) (last : comings f ≡ comings e
       by_test true is = ([], is ∙ sym (append-nil _))
       by_test false is = (receipt_for sha256 reading before came ∷ [], is ∙ receipts-push sha256 reading [] before came)
 
-  reply_grows : union f ≡ union e → RepliesStay e f
+  reply_grows : union f ≡ union e → KeepsReplies e f
   reply_grows rows a r is =
       let grown = receipts_grow in
       ap₂ (λ (m : List MRow) (rs : List ReceiptValue). reply_alike m 1 a.number (sha256 a.body) rs) rows grown.1
       ∙ alike-front (union e) a.number (sha256 a.body) 1 (receipts_of sha256 reading e) grown.0 r is
 
-pub reply_stays : (e : List EventValue) (x : EventValue) → RepliesStay e (e ++ x ∷ [])
+pub reply_stays : (e : List EventValue) (x : EventValue) → KeepsReplies e (e ++ x ∷ [])
 reply_stays e (listed more) a r is = replies_stay e more a ∙ is
 reply_stays e (arrived b) a r is = reply_grows e (e ++ arrived b ∷ []) (coming (union e) b) (comings-arrived e b) (union-arrived e b) a r is
 reply_stays e (arrived_early b) a r is =
@@ -100,46 +100,42 @@ reply_stays e (moved t) a r is =
     λ m cs. reply_alike m 1 a.number (sha256 a.body) (receipts_after sha256 reading [] (distinct sha256 reading cs)) in
     ap₂ reply (union-moved e t) (comings-moved e t) ∙ is
 
-reply_kept : (b : Bool) (e : List EventValue) (x : EventValue) → RepliesStay e (e ++ cond b (x ∷ []) [])
-reply_kept true e x a r is = reply_stays e x a r is
-reply_kept false e x a r is = ap (λ (k : List EventValue). reply_to sha256 reading k a) (append-nil e) ∙ is
+pub replies_kept : (e more : List EventValue) → KeepsReplies e (e ++ more)
+replies_kept e [] a r is = ap (λ (k : List EventValue). reply_to sha256 reading k a) (append-nil e) ∙ is
+replies_kept e (x ∷ more) a r is =
+    ap (λ (k : List EventValue). reply_to sha256 reading k a) (sym (append_assoc e (x ∷ []) more)) ∙ replies_kept (e ++ x ∷ []) more a r (reply_stays e x a r is)
 
 -- ---- one more event of a run
 
 -- outcomes stay right where replies stay
-module _ (all more : List EventValue) (keep : RepliesStay all more) where
-  answer_kept : (e : List EventValue) (x : Event) (o : EventOutcome) → IsAnswer e all x o → IsAnswer e more x o
-  answer_kept e (Arrival a) (Arrived (Done r)) is = (keep a r is.0, is.1, is.2)
-  answer_kept e (Arrival a) (Arrived (Lost f)) is = is
-  answer_kept e (Arrival a) (Amended r) is = is
-  answer_kept e (Arrival a) (Moved r) is = is
-  answer_kept e (Amend text) (Arrived o) is = is
-  answer_kept e (Amend text) (Amended (Ok n)) is = is
-  answer_kept e (Amend text) (Amended (Err f)) is = is
-  answer_kept e (Amend text) (Moved r) is = is
-  answer_kept e (AsOf t) (Arrived o) is = is
-  answer_kept e (AsOf t) (Amended r) is = is
-  answer_kept e (AsOf t) (Moved r) is = tt
+module _ (all more : List EventValue) (keep : KeepsReplies all more) where
+  answer_kept : (e : List EventValue) (m : Option Matched) → IsRight e all m → IsRight e more m
+  answer_kept e None is = is
+  answer_kept e (Some (of_arrival a (Done r))) is = (keep a r is.0, is.1, is.2)
+  answer_kept e (Some (of_arrival a (Lost f))) is = is
+  answer_kept e (Some (of_amendment text (Ok n))) is = is
+  answer_kept e (Some (of_amendment text (Err f))) is = is
+  answer_kept e (Some (of_moment t r)) is = tt
 
-  answers_kept : (e : List EventValue) (xs : List Event) (os : List EventOutcome) → AreAnswers e all xs os → AreAnswers e more xs os
+  answers_kept : (e : List EventValue) (xs : List Event) (os : List EventOutcome) → AreRight e all xs os → AreRight e more xs os
   answers_kept e [] [] are = tt
   answers_kept e [] (o ∷ os) are = are
   answers_kept e (x ∷ xs) [] are = are
-  answers_kept e (x ∷ xs) (o ∷ os) are = (answer_kept e x o are.0, answers_kept (e ++ taken_by x o) xs os are.1)
+  answers_kept e (x ∷ xs) (o ∷ os) are = (answer_kept e (matched x o) are.0, answers_kept (e ++ taken_by x o) xs os are.1)
 
 -- where one event x with its outcome o comes after others
 module _ (x : Event) (o : EventOutcome) (all : List EventValue) where
   answers_more : (e : List EventValue) (xs : List Event) (os : List EventOutcome)
-      → AreAnswers e all xs os → IsAnswer (e ++ taken_in xs os) all x o → AreAnswers e all (xs ++ x ∷ []) (os ++ o ∷ [])
-  answers_more e [] [] are one = (subst (λ (k : List EventValue). IsAnswer k all x o) (append-nil e) one, tt)
+      → AreRight e all xs os → IsRight (e ++ taken_in xs os) all (matched x o) → AreRight e all (xs ++ x ∷ []) (os ++ o ∷ [])
+  answers_more e [] [] are one = (subst (λ (k : List EventValue). IsRight k all (matched x o)) (append-nil e) one, tt)
   answers_more e [] (q ∷ os) are one = absurd are
   answers_more e (y ∷ xs) [] are one = absurd are
   answers_more e (y ∷ xs) (q ∷ os) are one =
-      let last = subst (λ (k : List EventValue). IsAnswer k all x o) (sym (append_assoc e (taken_by y q) (taken_in xs os))) one in
+      let last = subst (λ (k : List EventValue). IsRight k all (matched x o)) (sym (append_assoc e (taken_by y q) (taken_in xs os))) one in
       (are.0, answers_more (e ++ taken_by y q) xs os are.1 last)
 
   taken_more : (e : List EventValue) (xs : List Event) (os : List EventOutcome)
-      → AreAnswers e all xs os → taken_in (xs ++ x ∷ []) (os ++ o ∷ []) ≡ taken_in xs os ++ taken_by x o
+      → AreRight e all xs os → taken_in (xs ++ x ∷ []) (os ++ o ∷ []) ≡ taken_in xs os ++ taken_by x o
   taken_more e [] [] are = append-nil (taken_by x o)
   taken_more e [] (q ∷ os) are = absurd are
   taken_more e (y ∷ xs) [] are = absurd are
@@ -149,22 +145,22 @@ module _ (x : Event) (o : EventOutcome) (all : List EventValue) where
 
   -- the events of a run and one more
   along : (e : List EventValue) (xs : List Event) (os : List EventOutcome)
-      → AreAnswers e all xs os → e ++ taken_in (xs ++ x ∷ []) (os ++ o ∷ []) ≡ (e ++ taken_in xs os) ++ taken_by x o
+      → AreRight e all xs os → e ++ taken_in (xs ++ x ∷ []) (os ++ o ∷ []) ≡ (e ++ taken_in xs os) ++ taken_by x o
   along e xs os are = ap (λ (k : List EventValue). e ++ k) (taken_more e xs os are) ∙ sym (append_assoc e (taken_in xs os) (taken_by x o))
 
-  doubtful_more : (e doubtful : List EventValue) (xs : List Event) (os : List EventOutcome) → AreAnswers e all xs os
-      → doubtful_after e doubtful (xs ++ x ∷ []) (os ++ o ∷ []) ≡ doubtful_by (e ++ taken_in xs os) (doubtful_after e doubtful xs os) x o
-  doubtful_more e doubtful [] [] are = ap (λ (k : List EventValue). doubtful_by k doubtful x o) (sym (append-nil e))
-  doubtful_more e doubtful [] (q ∷ os) are = absurd are
-  doubtful_more e doubtful (y ∷ xs) [] are = absurd are
-  doubtful_more e doubtful (y ∷ xs) (q ∷ os) are =
+  doubtful_more : (apart : Bool) (e doubtful : List EventValue) (xs : List Event) (os : List EventOutcome) → AreRight e all xs os
+      → doubtful_after apart e doubtful (xs ++ x ∷ []) (os ++ o ∷ []) ≡ doubtful_by apart (e ++ taken_in xs os) (doubtful_after apart e doubtful xs os) (matched x o)
+  doubtful_more apart e doubtful [] [] are = ap (λ (k : List EventValue). doubtful_by apart k doubtful (matched x o)) (sym (append-nil e))
+  doubtful_more apart e doubtful [] (q ∷ os) are = absurd are
+  doubtful_more apart e doubtful (y ∷ xs) [] are = absurd are
+  doubtful_more apart e doubtful (y ∷ xs) (q ∷ os) are =
       let first = e ++ taken_by y q in
-      let then = doubtful_by e doubtful y q in
-      doubtful_more first then xs os are.1
-      ∙ ap (λ (k : List EventValue). doubtful_by k (doubtful_after first then xs os) x o) (append_assoc e (taken_by y q) (taken_in xs os))
+      let doubts = doubtful_by apart e doubtful (matched y q) in
+      doubtful_more apart first doubts xs os are.1
+      ∙ ap (λ (k : List EventValue). doubtful_by apart k (doubtful_after apart first doubts xs os) (matched x o)) (append_assoc e (taken_by y q) (taken_in xs os))
 
 pub outcomes_more : (xs : List Event) (os : List EventOutcome) (x : Event) (o : EventOutcome)
-    → AreOutcomesOf xs os → IsOutcomeOf x o → AreOutcomesOf (xs ++ x ∷ []) (os ++ o ∷ [])
+    → AreOutcomesOf xs os → IsOutcomeOf (matched x o) → AreOutcomesOf (xs ++ x ∷ []) (os ++ o ∷ [])
 outcomes_more [] [] x o are one = (one, tt)
 outcomes_more [] (q ∷ os) x o are one = absurd are
 outcomes_more (y ∷ xs) [] x o are one = absurd are
@@ -194,7 +190,7 @@ pub worked_once : (e : List EventValue) (x : EventValue) (w : Work) (was now : �
 worked_once e x w was now is counted = record { works = w ∷ []; are_works = (is, tt); counted = omega (arith, counted) }
 
 pub worked_more : (e all : List EventValue) (xs : List Event) (os : List EventOutcome) (x : Event) (o : EventOutcome) (was mid now : ℕ)
-    → AreAnswers e all xs os → HasWorked e (taken_in xs os) was mid → HasWorked (e ++ taken_in xs os) (taken_by x o) mid now
+    → AreRight e all xs os → HasWorked e (taken_in xs os) was mid → HasWorked (e ++ taken_in xs os) (taken_by x o) mid now
     → HasWorked e (taken_in (xs ++ x ∷ []) (os ++ o ∷ [])) was now
 worked_more e all xs os x o was mid now are so once =
     let sum : writes_in (so.works ++ once.works) ≡ writes_in so.works + writes_in once.works =
@@ -206,6 +202,12 @@ worked_more e all xs os x o was mid now are so once =
     })
 
 -- ---- what a desk serves
+
+-- what is known of a run is known of the events before its last one
+apart_front : (apart b : Bool) (e : List EventValue) (x : EventValue) → IsApartIf apart (e ++ cond b (x ∷ []) []) → IsApartIf apart e
+apart_front false b e x known = tt
+apart_front true true e x known = apart_before e x known
+apart_front true false e x known = subst (IsApartIf true) (append-nil e) known
 
 module _ {S : Type 0} (g : Ghosts S) where
   -- an event that was not taken in
@@ -234,21 +236,24 @@ module _ {S : Type 0} (g : Ghosts S) where
       let more = e ++ taken_by x o in
       let now = step e ran.serves in
       let all : before ++ taken_in (xs ++ x ∷ []) (os ++ o ∷ []) ≡ more = along x o e before xs os ran.answers in
-      let kept = answers_kept e more (reply_kept (is_taken o) e (event_of x)) before xs os ran.answers in
+      let kept = answers_kept e more (replies_kept e (taken_by x o)) before xs os ran.answers in
       record {
         serves = subst (λ (k : List EventValue). DeskServes g new k) (sym all) now.serves;
-        answers = subst (λ (k : List EventValue). AreAnswers before k (xs ++ x ∷ []) (os ++ o ∷ [])) (sym all)
+        answers = subst (λ (k : List EventValue). AreRight before k (xs ++ x ∷ []) (os ++ o ∷ [])) (sym all)
             (answers_more x o more before xs os kept now.answer);
         worked = worked_more before e xs os x o _ _ _ ran.answers ran.worked now.worked;
       }
 
-  pub left_more : (new : Desk S) (before doubtful all : List EventValue) (xs : List Event) (os : List EventOutcome) (x : Event) (o : EventOutcome)
-      → AreAnswers before all xs os → DeskLeavesEvent g new (before ++ taken_in xs os) (doubtful_after before doubtful xs os) x o
-      → DeskLeaves g new (before ++ taken_in (xs ++ x ∷ []) (os ++ o ∷ [])) (doubtful_after before doubtful (xs ++ x ∷ []) (os ++ o ∷ []))
-  left_more new before doubtful all xs os x o are after =
+  pub left_more : (old new : Desk S) (before doubtful all : List EventValue) (xs : List Event) (os : List EventOutcome) (x : Event) (o : EventOutcome)
+      → AreRight before all xs os → DeskLeavesRun g old before doubtful xs os
+      → ((d : List EventValue) → DeskLeaves g old (before ++ taken_in xs os) d → DeskLeavesEvent g new (before ++ taken_in xs os) d x o)
+      → DeskLeavesRun g new before doubtful (xs ++ x ∷ []) (os ++ o ∷ [])
+  left_more old new before doubtful all xs os x o are left step apart known =
       let events = along x o all before xs os are in
-      let doubts = doubtful_more x o all before doubtful xs os are in
-      subst₂ (λ (k d : List EventValue). DeskLeaves g new k d) (sym events) (sym doubts) after
+      let doubts = doubtful_more x o all apart before doubtful xs os are in
+      let first = apart_front apart (is_taken o) (before ++ taken_in xs os) (event_of x) (subst (IsApartIf apart) events known) in
+      subst₂ (λ (k d : List EventValue). DeskLeaves g new k d) (sym events) (sym doubts)
+      (step (doubtful_after apart before doubtful xs os) (left apart first) apart first)
 
 -- why an amendment isn't taken in is of the kind of its outcome
 pub amend_kind : (m : List MRow) (text : List ℕ) (f : AmendFault) → IsAmendCause m text f → IsAmendFault f

@@ -13,12 +13,11 @@ use Rattle.esc_events.specs.ArrivalValue.{ArrivalValue}
 use Rattle.esc_events.specs.Events.{EventValue}
 use Rattle.esc_events.specs.Events.EventValue.{arrived, moved}
 use Rattle.esc_events.specs.Known.{IsKnown}
-use Rattle.esc_desk.specs.EventLaws.{IsMove}
 use Rattle.esc_events.specs.Plans.{AreLatestSteps, IsPlanned}
 use Rattle.esc_events.specs.Stands.{StandsFor, IsApart, held_body}
 use Rattle.esc_events.specs.Works.{IsIdle}
 use Rattle.esc_desk.proofs.AmendedBooks.{books_of_moment}
-use Rattle.esc_desk.proofs.Moving.{apart_before}
+use Rattle.esc_desk.proofs.Moving.{IsMove, apart_before}
 use Rattle.esc_desk.proofs.MovingLemmas.{contains_held}
 use Rattle.esc_desk.proofs.KnownRows.{put_at}
 

@@ -19,7 +19,7 @@ use Rattle.esc_events.specs.Receipts.{reply_to}
 use Rattle.esc_events.specs.Stands.{StandsFor}
 use Rattle.esc_events.specs.Works.{IsIdle}
 use Rattle.esc_desk.specs.declared.answering.Answer.{Answer}
-use Rattle.esc_desk.specs.Again.{IsMissing, IsUnkept}
+use Rattle.esc_desk.specs.Again.{IsUnkept, is_missing}
 use Rattle.esc_desk.specs.Calls.{HadPlace}
 use Rattle.esc_desk.specs.Decisions.{IsDecided}
 use Rattle.esc_desk.specs.Edits.{IsCostIf, chain_deposits, is_empty}
@@ -58,6 +58,6 @@ pub record IsAnswer (e : List EventValue) (a : ArrivalValue) (k : Kept) (p : Ans
   pub is_new : reply_to sha256 reading e a ≡ None → IsSome p.decision.edit.receipt
   pub again : (r : ReplyValue) → reply_to sha256 reading e a ≡ Some r → IsRepeat r p
   pub there : is_empty p.decision.edit ≡ true → IsUnkept e a
-      → IsMissing k.bodies k.parked (sha256 a.body) (assessment sha256 reading (union e) a.body)
-      → ⊥
+      → is_missing k.bodies k.parked (sha256 a.body) (assessment sha256 reading (union e) a.body)
+      ≡ false
   pub place : HadPlace e a

@@ -1,10 +1,14 @@
 -- What a run is asked to take in, as events, and which of it was taken in.
 use Rattle.std.specs.Prelude.{
   ℕ,
+  ℤ,
   List,
   [],
   ◌∷◌,
   ◌++◌,
+  Option,
+  Some,
+  None,
   Bool,
   true,
   false,
@@ -16,9 +20,11 @@ use Rattle.std.specs.Prelude.{
 }
 use Rattle.esc_manifest.specs.declared.row.MRow.{MRow}
 use Rattle.esc_manifest.specs.Manifest.{manifest_of}
+use Rattle.esc_store.specs.declared.fault.SFault.{SFault}
 use Rattle.esc_events.specs.ArrivalValue.{ArrivalValue}
 use Rattle.esc_events.specs.Events.{EventValue}
 use Rattle.esc_events.specs.Events.EventValue.{listed, arrived, moved}
+use Rattle.esc_desk.specs.declared.amendment.AmendFault.{AmendFault}
 use Rattle.esc_desk.specs.declared.event.Event.{Event}
 use Rattle.esc_desk.specs.declared.event.Event.TheVariants.{Arrival, Amend, AsOf}
 use Rattle.esc_desk.specs.declared.event.EventOutcome.{EventOutcome}
@@ -40,6 +46,24 @@ abbrev pub event_of : Event → EventValue
 event_of (Arrival a) = arrived a
 event_of (Amend text) = amendment_of text.now
 event_of (AsOf moment) = moved moment
+
+-- an event with an outcome of its kind
+pub data Matched : Type 0 where
+  of_arrival : ArrivalValue → Outcome → Matched
+  of_amendment : List ℕ → Result ℕ AmendFault → Matched
+  of_moment : Option ℤ → Result (Unit {0}) SFault → Matched
+
+-- an event with its outcome, if that is of its kind
+abbrev pub matched : Event → EventOutcome → Option Matched
+matched (Arrival a) (Arrived o) = Some (of_arrival a o)
+matched (Arrival a) (Amended r) = None
+matched (Arrival a) (Moved r) = None
+matched (Amend text) (Arrived o) = None
+matched (Amend text) (Amended r) = Some (of_amendment text.now r)
+matched (Amend text) (Moved r) = None
+matched (AsOf moment) (Arrived o) = None
+matched (AsOf moment) (Amended r) = None
+matched (AsOf moment) (Moved r) = Some (of_moment moment r)
 
 -- whether an event with this outcome was taken in
 abbrev pub is_taken : EventOutcome → Bool

@@ -1,5 +1,5 @@
 -- The words of a desk's contracts: what a call says of whatever events the desk served before it.
-use Rattle.std.specs.Prelude.{◌≡◌, ◌≢◌, ℕ, ◌+◌, ◌<◌, ◌≤◌, ◌++◌, List, [], ◌∷◌, length, Some, None, Result, IfOk, OnErr}
+use Rattle.std.specs.Prelude.{◌≡◌, ◌≢◌, ℕ, Bool, ◌+◌, ◌<◌, ◌≤◌, ◌++◌, List, [], ◌∷◌, length, Some, None, Result, IfOk, OnErr}
 use Rattle.sha2.specs.Sha256.{sha256}
 use Rattle.sqlite_trees.specs.declared.store.Store.{Ghosts}
 use Rattle.esc_tables.specs.Reading.{reading}
@@ -20,6 +20,7 @@ use Rattle.esc_desk.specs.Crashes.{
   CrashLeaves,
   LeavesTaken,
   LeavesMade,
+  IsApartIf,
   doubtful_by,
   doubtful_after,
 }
@@ -27,13 +28,12 @@ use Rattle.esc_events.specs.Events.{EventValue, union}
 use Rattle.esc_events.specs.Events.EventValue.{arrived}
 use Rattle.esc_events.specs.Receipts.{receipts_of, reply_to}
 use Rattle.esc_desk.specs.Again.{IsUnkept}
-use Rattle.esc_desk.specs.Asked.{taken_by, taken_in}
+use Rattle.esc_desk.specs.Asked.{matched, taken_by, taken_in}
+use Rattle.esc_desk.specs.Causes.{IsCrowded}
 use Rattle.esc_desk.specs.Serving.{Serves, DeskServes}
 use Rattle.esc_events.specs.Apart.{WhereApart}
-use Rattle.esc_events.specs.Assessment.{row_of}
 use Rattle.esc_events.specs.Stands.{parked_body}
 use Rattle.esc_events.specs.Works.{IsWorkOf, IsIdle, no_work}
-use Rattle.esc_store.specs.Kept.{IsFull}
 
 -- ---- a desk
 
@@ -126,17 +126,11 @@ abbrev pub HasNoRoom : List EventValue → ArrivalValue → Type 0
 HasNoRoom e a = (reply_to sha256 reading e a ≡ None)
     × (MOST_RECEIPTS ≤ length (receipts_of sha256 reading e))
 
--- the body of an arrival is to be parked: the arrival is no duplicate of an earlier one, or that
--- one's verdict was A2; no row lists the body, and it isn't parked
-pub record IsToBeParked (e : List EventValue) (a : ArrivalValue) : Type 0 where
-  pub unkept : IsUnkept e a
-  pub unlisted : row_of (union e) (sha256 a.body) ≡ None
-  pub not_parked : parked_body sha256 reading e (sha256 a.body) ≡ None
-
--- there is no place to park the body of an arrival: 1,024 others are parked
+-- there is no place for the body of an arrival, which is no duplicate of an earlier one, or that
+-- one's verdict was A2: it would be parked, and 1,024 others are
 pub record HasNoPlace (e : List EventValue) (a : ArrivalValue) : Type 0 where
-  pub to_be_parked : IsToBeParked e a
-  pub full : IsFull (parked_body sha256 reading e)
+  pub unkept : IsUnkept e a
+  pub crowded : IsCrowded (union e) (parked_body sha256 reading e) (sha256 a.body)
 
 -- if an arrival is no duplicate, there was room for its receipt
 abbrev pub HadRoom : List EventValue → ArrivalValue → Type 0
@@ -183,13 +177,15 @@ DeskLeavesTaken g desk e doubtful a result = LeavesTaken g desk.store.conn e dou
 -- what a crash leaves after an event of a run, by its outcome
 abbrev pub DeskLeavesEvent : {S : Type 0} → Ghosts S → Desk S → List EventValue → List EventValue
     → Event → EventOutcome → Type 0
-DeskLeavesEvent g desk e doubtful x o =
-    DeskLeaves g desk (e ++ taken_by x o) (doubtful_by e doubtful x o)
+DeskLeavesEvent g desk e doubtful x o = (apart : Bool) → IsApartIf apart e
+    → DeskLeaves g desk (e ++ taken_by x o) (doubtful_by apart e doubtful (matched x o))
 
--- what a crash leaves after a run: the events before it and those that were taken in, and those in
--- doubt then
+-- what a crash leaves after a run: the events before it and those that were taken in, and one of
+-- those in doubt then. These are fewer if digests are known to be apart: an arrival that was
+-- answered A2, and whose body was missing, leaves none in doubt
 abbrev pub DeskLeavesRun : {S : Type 0} → Ghosts S → Desk S → List EventValue → List EventValue
     → List Event → List EventOutcome → Type 0
-DeskLeavesRun g desk e doubtful events outcomes =
-    DeskLeaves g desk (e ++ taken_in events outcomes)
-    (doubtful_after e doubtful events outcomes)
+DeskLeavesRun g desk e doubtful events outcomes = (apart : Bool)
+    → IsApartIf apart (e ++ taken_in events outcomes)
+    → DeskLeaves g desk (e ++ taken_in events outcomes)
+    (doubtful_after apart e doubtful events outcomes)

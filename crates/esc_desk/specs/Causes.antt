@@ -1,23 +1,25 @@
 -- Why an edit of the store is refused, and why an arrival isn't decided.
 use Rattle.std.specs.Prelude.{◌≡◌, ◌⊎◌, ◌<◌, ◌≤◌, ℕ, List, Option, Some, None, IfSome, length}
 use Rattle.sqlite_trees.specs.declared.store.Store.{Ghosts}
+use Rattle.esc_manifest.specs.declared.row.MRow.{MRow}
 use Rattle.esc_store.specs.declared.books.TheConstants.{MOST_RECEIPTS}
 use Rattle.esc_store.specs.declared.fault.SFault.{SFault}
 use Rattle.esc_store.specs.declared.fault.SFault.TheVariants.{S4, S5}
 use Rattle.esc_store.specs.declared.store.Store.{Store}
 use Rattle.esc_store.specs.Faults.{IsS1OrS2}
-use Rattle.esc_store.specs.Kept.{Kept, IsFull}
+use Rattle.esc_store.specs.Kept.{Kept}
 use Rattle.esc_store.specs.ReplyValue.{ReceiptValue}
 use Rattle.esc_store.specs.Standing.{ChangeOf, IsHonest, Stands, StoreLeavesNoMore, Rest}
 use Rattle.esc_events.specs.declared.assessment.Assessment.{Assessment}
 use Rattle.esc_events.specs.declared.assessment.Assessment.TheVariants.{Unlisted}
+use Rattle.esc_events.specs.declared.parking.Parking.TheVariants.{Crowded}
 use Rattle.esc_events.specs.Assessment.{row_of}
+use Rattle.esc_events.specs.Parks.{IsParking}
 
--- no row lists a body with this digest, it isn't parked, and 1,024 others are
-pub record IsCrowded (k : Kept) (digest : List ℕ) : Type 0 where
-  pub unlisted : row_of k.listed digest ≡ None
-  pub not_parked : k.parked digest ≡ None
-  pub full : IsFull k.parked
+-- a body with this digest would be parked, since none of these rows lists it and it isn't parked,
+-- but 1,024 others are
+abbrev pub IsCrowded : List MRow → (List ℕ → Option (List ℕ)) → List ℕ → Type 0
+IsCrowded rows parked digest = (row_of rows digest ≡ None) × IsParking parked digest Crowded
 
 -- there is room for one more receipt, if one is to be kept
 abbrev pub HasRoomFor : Kept → Option ReceiptValue → Type 0
@@ -56,5 +58,5 @@ module _ {S : Type 0} (g : Ghosts S) where
       → Type 0
   IsPlaceFault receipt old new found digest fault = ((fault ≡ S5) × (found ≡ Unlisted)
       × (IsHonest g new → (k : Kept) → Stands g old k
-      → (k.parked digest ≡ None) × IsFull k.parked × HasRoomFor k receipt))
+      → IsParking k.parked digest Crowded × HasRoomFor k receipt))
       ⊎ IsEditFault receipt old new fault

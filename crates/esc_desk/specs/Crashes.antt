@@ -5,8 +5,12 @@
 use Rattle.std.specs.Prelude.{
   ◌⊎◌,
   ◌==◌,
+  ◌&&◌,
   ℕ,
   ℤ,
+  Bool,
+  true,
+  false,
   List,
   [],
   ◌∷◌,
@@ -29,23 +33,20 @@ use Rattle.esc_tables.specs.Reading.{reading}
 use Rattle.esc_store.specs.declared.fault.SFault.{SFault}
 use Rattle.esc_store.specs.declared.fault.SFault.TheVariants.{S1, S2, S3, S4, S5}
 use Rattle.esc_store.specs.Kept.{Kept}
-use Rattle.esc_store.specs.ReplyValue.{ReplyValue}
 use Rattle.esc_store.specs.StoreTables.{IsStore}
 use Rattle.esc_desk.specs.declared.amendment.AmendFault.{AmendFault}
 use Rattle.esc_desk.specs.declared.amendment.AmendFault.TheVariants.{M, Store as OfStore}
 use Rattle.esc_desk.specs.declared.event.Event.{Event}
-use Rattle.esc_desk.specs.declared.event.Event.TheVariants.{Arrival, Amend, AsOf}
 use Rattle.esc_desk.specs.declared.event.EventOutcome.{EventOutcome}
-use Rattle.esc_desk.specs.declared.event.EventOutcome.TheVariants.{Arrived, Amended, Moved}
 use Rattle.esc_desk.specs.declared.event.Outcome.TheVariants.{Done, Lost}
-use Rattle.esc_events.specs.Apart.{WhereApart}
 use Rattle.esc_events.specs.ArrivalValue.{ArrivalValue}
 use Rattle.esc_events.specs.Events.{EventValue}
 use Rattle.esc_events.specs.Events.EventValue.{arrived, moved}
 use Rattle.esc_events.specs.Receipts.{reply_to}
-use Rattle.esc_events.specs.Stands.{StandsFor}
-use Rattle.esc_desk.specs.Again.{IsUnkept, IsMissingAfter}
-use Rattle.esc_desk.specs.Asked.{amendment_of, taken_by}
+use Rattle.esc_events.specs.Stands.{IsApart, StandsFor}
+use Rattle.esc_desk.specs.Again.{changes_table, is_missing_after}
+use Rattle.esc_desk.specs.Asked.{Matched, amendment_of, matched, taken_by}
+use Rattle.esc_desk.specs.Asked.Matched.{of_arrival, of_amendment, of_moment}
 
 -- the trees of a database are a store that stands for this list of events
 pub record IsStoreFor (trees : Trees) (e : List EventValue) : Type 0 where
@@ -69,11 +70,18 @@ CrashLeaves g conn e doubtful =
 
 -- ---- after an event
 
--- the events in doubt after an arrival was answered, by the reply to one like it before: none where
--- there was no such reply, since a table has changed; else those that were in doubt
-abbrev pub still_doubtful : Option ReplyValue → List EventValue → List EventValue
-still_doubtful None doubtful = []
-still_doubtful (Some r) doubtful = doubtful
+-- digests are apart, if that is to be known
+abbrev pub IsApartIf : Bool → List EventValue → Type 0
+IsApartIf false e = Unit {0}
+IsApartIf true e = IsApart sha256 reading e
+
+-- the events in doubt after an arrival was answered: none where a table has changed, else those
+-- that were in doubt. That a body was missing is known only if digests are apart
+abbrev pub still_doubtful : Bool → List EventValue → List EventValue → ArrivalValue
+    → List EventValue
+still_doubtful apart e doubtful a =
+    let changed = changes_table (reply_to sha256 reading e a) (apart && is_missing_after e a) in
+    if changed then [] else doubtful
 
 -- the events in doubt after one was refused: it is one of them, unless there was no room (S4, S5)
 abbrev pub doubtful_with : SFault → EventValue → List EventValue → List EventValue
@@ -84,14 +92,11 @@ doubtful_with S4 x doubtful = doubtful
 doubtful_with S5 x doubtful = doubtful
 
 -- what a crash leaves after an arrival that was answered: the events with it, or with it and one
--- that is still in doubt; none is, where the arrival's body was missing and was taken in (said if
--- no two different bodies have the same digest)
-pub record LeavesAnswered {S : Type 0} (g : Ghosts S) (conn : Held S) (e doubtful : List EventValue)
-    (a : ArrivalValue) : Type 0 where
-  pub answered : CrashLeaves g conn (e ++ arrived a ∷ [])
-      (still_doubtful (reply_to sha256 reading e a) doubtful)
-  pub missing : IsUnkept e a
-      → WhereApart e (IsMissingAfter e a → CrashLeaves g conn (e ++ arrived a ∷ []) [])
+-- that is still in doubt
+abbrev pub LeavesAnswered : {S : Type 0} → Ghosts S → Held S → List EventValue → List EventValue
+    → ArrivalValue → Type 0
+LeavesAnswered g conn e doubtful a = (apart : Bool) → IsApartIf apart e
+    → CrashLeaves g conn (e ++ arrived a ∷ []) (still_doubtful apart e doubtful a)
 
 -- what a crash leaves after an event that was refused: the events as they were, or with one in
 -- doubt
@@ -126,28 +131,24 @@ abbrev pub doubtful_moved : List EventValue → Option ℤ → Result (Unit {0})
 doubtful_moved doubtful moment (Ok set) = []
 doubtful_moved doubtful moment (Err fault) = doubtful_with fault (moved moment) doubtful
 
--- the events in doubt after an event that came after the events e, by what came of it
-abbrev pub doubtful_by : List EventValue → List EventValue → Event → EventOutcome
+-- the events in doubt after an event that came after the events e, by what came of it; `apart` says
+-- whether digests are known to be apart
+abbrev pub doubtful_by : Bool → List EventValue → List EventValue → Option Matched
     → List EventValue
-doubtful_by e doubtful (Arrival a) (Arrived (Done r)) =
-    still_doubtful (reply_to sha256 reading e a) doubtful
-doubtful_by e doubtful (Arrival a) (Arrived (Lost f)) = doubtful_with f (arrived a) doubtful
-doubtful_by e doubtful (Arrival a) (Amended r) = doubtful
-doubtful_by e doubtful (Arrival a) (Moved r) = doubtful
-doubtful_by e doubtful (Amend text) (Arrived o) = doubtful
-doubtful_by e doubtful (Amend text) (Amended r) = doubtful_amended doubtful text.now r
-doubtful_by e doubtful (Amend text) (Moved r) = doubtful
-doubtful_by e doubtful (AsOf moment) (Arrived o) = doubtful
-doubtful_by e doubtful (AsOf moment) (Amended r) = doubtful
-doubtful_by e doubtful (AsOf moment) (Moved r) = doubtful_moved doubtful moment r
+doubtful_by apart e doubtful None = doubtful
+doubtful_by apart e doubtful (Some (of_arrival a (Done r))) = still_doubtful apart e doubtful a
+doubtful_by apart e doubtful (Some (of_arrival a (Lost f))) = doubtful_with f (arrived a) doubtful
+doubtful_by apart e doubtful (Some (of_amendment text r)) = doubtful_amended doubtful text r
+doubtful_by apart e doubtful (Some (of_moment moment r)) = doubtful_moved doubtful moment r
 
 -- the events in doubt after a run, by what came of each event
-abbrev pub doubtful_after : List EventValue → List EventValue → List Event → List EventOutcome
-    → List EventValue
-doubtful_after e doubtful [] os = doubtful
-doubtful_after e doubtful (x ∷ xs) [] = doubtful
-doubtful_after e doubtful (x ∷ xs) (o ∷ os) =
-    doubtful_after (e ++ taken_by x o) (doubtful_by e doubtful x o) xs os
+abbrev pub doubtful_after : Bool → List EventValue → List EventValue → List Event
+    → List EventOutcome → List EventValue
+doubtful_after apart e doubtful [] os = doubtful
+doubtful_after apart e doubtful (x ∷ xs) [] = doubtful
+doubtful_after apart e doubtful (x ∷ xs) (o ∷ os) =
+    let doubts = doubtful_by apart e doubtful (matched x o) in
+    doubtful_after apart (e ++ taken_by x o) doubts xs os
 
 -- ---- from one call to the next
 

@@ -27,7 +27,7 @@ use Rattle.esc_events.specs.Works.{IsWorkOf, IsIdle, no_work}
 use Rattle.esc_desk.specs.declared.decision.Decision.{Decision}
 use Rattle.esc_desk.specs.declared.desk.Desk.{Desk}
 use Rattle.esc_desk.specs.declared.edit.Storing.{Storing}
-use Rattle.esc_desk.specs.Again.{IsMissing}
+use Rattle.esc_desk.specs.Again.{is_missing}
 use Rattle.esc_desk.specs.Calls.{IsHonestDesk}
 use Rattle.esc_desk.specs.Crashes.{LeavesOnlyFor}
 use Rattle.esc_desk.specs.Edits.{Begins, IsSoundPlan, IsFromChainOf, IsCostIf, IsResult, chain_deposits, edited, is_empty, noted}
@@ -94,7 +94,7 @@ pub record IsDecidedArrival (e : List EventValue) (a : ArrivalValue) (k : Kept)
   pub decided : IsDecided e (arrived a) k d
   pub idle : (work : Work) → IsCostIf d.edit.plan (chain_deposits k) work
       → IsIdle e (arrived a) work
-  pub there : is_empty d.edit ≡ true → IsMissing k.bodies k.parked (sha256 a.body) found → ⊥
+  pub there : is_empty d.edit ≡ true → is_missing k.bodies k.parked (sha256 a.body) found ≡ false
 
 -- ---- a decision that was carried out
 

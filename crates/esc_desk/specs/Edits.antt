@@ -7,11 +7,10 @@ use Rattle.esc_manifest.specs.declared.row.MRow.{MRow}
 use Rattle.esc_apply.specs.Registry.{State}
 use Rattle.esc_apply.specs.declared.moves.Work.{Work}
 use Rattle.esc_store.specs.declared.books.TheConstants.{MOST_RECEIPTS}
-use Rattle.esc_store.specs.declared.fault.SFault.{SFault}
 use Rattle.esc_store.specs.declared.store.Store.{Store}
 use Rattle.esc_store.specs.Kept.{Kept, with_body, with_listed, with_moment, with_parked, with_receipt, with_registry}
 use Rattle.esc_store.specs.ReplyValue.{ReceiptValue}
-use Rattle.esc_store.specs.Standing.{ChangeOf, IsHonest, IsUncommitted, LeavesOnly, Rest, HoldsNow, Stands}
+use Rattle.esc_store.specs.Standing.{ChangeOf, IsHonest, LeavesOnly, Rest, HoldsNow, Stands}
 use Rattle.esc_events.specs.declared.plan.Plan.{Plan}
 use Rattle.esc_events.specs.Amended.{with_all_adopted, with_all_dropped}
 use Rattle.esc_events.specs.Plans.{HasDepositsPast, IsMovedFrom, IsCostOfMove, moved_by}
@@ -106,16 +105,6 @@ pub record StaysPut (k made : Kept) : Type 0 where
   pub registry : made.registry ≡ k.registry
 
 -- ---- the parts of a change
-
--- a part of a change was made, where it succeeded, and nothing is committed: of what is kept it has
--- made this, and the tables are as they were
-pub record IsPart {S X : Type 0} (g : Ghosts S) (old new : ChangeOf S) (result : Result X SFault)
-    (made : Kept → Kept) : Type 0 where
-  pub goes_on : IsUncommitted g old new
-  pub count : new.count ≡ old.count
-  pub makes : OnOk result (IsHonest g new.store.now → (before k : Kept) → Rest g old before k
-      → Rest g new before (made k))
-  pub holds : OnOk result ((s : State) → HoldsNow g old s → HoldsNow g new s)
 
 -- a change of a store that stood for `before` has made k: its rows, receipts, bodies and chain, and
 -- its tables

@@ -1,5 +1,5 @@
 -- Laws of lists of events, by the definitions alone.
-use Rattle.std.specs.Prelude.{◌≡◌, ℕ, List, [], map}
+use Rattle.std.specs.Prelude.{◌≡◌, ℕ, List, [], ◌++◌, map, Some}
 use Rattle.std.specs.FinSet as set
 use Rattle.sha2.specs.Sha256.{sha256}
 use Rattle.esc_tables.specs.Reading.{reading}
@@ -9,6 +9,7 @@ use Rattle.esc_chain.specs.Chain.{IsLatestChain}
 use Rattle.esc_chain.specs.Laws.{ListEqualRows, HoldEqualRows, rows_along}
 use Rattle.esc_apply.specs.Images.{chain_state}
 use Rattle.esc_store.specs.Kept.{Kept}
+use Rattle.esc_store.specs.ReplyValue.{ReplyValue}
 use Rattle.esc_events.specs.Apart.{WhereApart}
 use Rattle.esc_events.specs.ArrivalValue.{ArrivalValue}
 use Rattle.esc_events.specs.Events.{
@@ -19,7 +20,7 @@ use Rattle.esc_events.specs.Events.{
   moment_of,
   manifest_then,
 }
-use Rattle.esc_events.specs.Receipts.{distinct, receipts_after}
+use Rattle.esc_events.specs.Receipts.{distinct, receipts_after, reply_to}
 use Rattle.esc_events.specs.Stands.{
   Among,
   kept_arrivals,
@@ -39,6 +40,15 @@ pub record HoldsTablesOf (e : List EventValue) (k : Kept) : Type 0 where
 abbrev pub TablesAreOfEvents : Type 0
 TablesAreOfEvents = (e : List EventValue) (k : Kept) → StandsFor sha256 reading e k
     → WhereApart e (HoldsTablesOf e k)
+
+-- each reply after the events e is the one after the events f
+abbrev pub KeepsReplies : List EventValue → List EventValue → Type 0
+KeepsReplies e f = (a : ArrivalValue) (r : ReplyValue) → reply_to sha256 reading e a ≡ Some r
+    → reply_to sha256 reading f a ≡ Some r
+
+-- a reply that was given stays as it was, whatever comes later
+abbrev pub RepliesStay : Type 0
+RepliesStay = (e more : List EventValue) → KeepsReplies e (e ++ more)
 
 -- ---- a manifest, and then arrivals
 

@@ -8,7 +8,6 @@ pub mod Crashes
 pub mod Decisions
 pub mod DepositSources
 pub mod Edits
-pub mod EventLaws
 pub mod Knowing
 pub mod Laws
 pub mod Outcomes

@@ -1,5 +1,5 @@
 -- Of what kind an outcome is, and what work a run did.
-use Rattle.std.specs.Prelude.{◌≡◌, ℕ, ◌+◌, List, [], ◌∷◌, ◌++◌, Result, IfErr, sum_by}
+use Rattle.std.specs.Prelude.{◌≡◌, ℕ, ◌+◌, List, [], ◌∷◌, ◌++◌, Option, Some, None, Result, IfErr, sum_by}
 use Rattle.esc_apply.specs.declared.moves.Work.{Work}
 use Rattle.esc_apply.specs.Registry.{saturated}
 use Rattle.esc_store.specs.declared.fault.SFault.{SFault}
@@ -8,12 +8,12 @@ use Rattle.esc_events.specs.Events.{EventValue}
 use Rattle.esc_events.specs.Works.{IsWorkOf}
 use Rattle.esc_desk.specs.declared.amendment.AmendFault.{AmendFault}
 use Rattle.esc_desk.specs.declared.event.Event.{Event}
-use Rattle.esc_desk.specs.declared.event.Event.TheVariants.{Arrival, Amend, AsOf}
 use Rattle.esc_desk.specs.declared.event.EventOutcome.{EventOutcome}
-use Rattle.esc_desk.specs.declared.event.EventOutcome.TheVariants.{Arrived, Amended, Moved}
 use Rattle.esc_desk.specs.declared.event.Outcome.{Outcome}
 use Rattle.esc_desk.specs.declared.event.Outcome.TheVariants.{Done, Lost}
 use Rattle.esc_desk.specs.Amendments.{IsAmendFault}
+use Rattle.esc_desk.specs.Asked.{Matched, matched}
+use Rattle.esc_desk.specs.Asked.Matched.{of_arrival, of_amendment, of_moment}
 
 -- an arrival was answered, or lost by S1, S2, S4 or S5
 abbrev pub IsOutcome : Outcome → Type 0
@@ -29,23 +29,18 @@ abbrev pub IsMoveOutcome : Result (Unit {0}) SFault → Type 0
 IsMoveOutcome result = IfErr result IsS1OrS2
 
 -- the outcome is of the event's kind, and a refusal is one that this kind may have
-abbrev pub IsOutcomeOf : Event → EventOutcome → Type 0
-IsOutcomeOf (Arrival a) (Arrived o) = IsOutcome o
-IsOutcomeOf (Arrival a) (Amended r) = ⊥
-IsOutcomeOf (Arrival a) (Moved r) = ⊥
-IsOutcomeOf (Amend text) (Arrived o) = ⊥
-IsOutcomeOf (Amend text) (Amended r) = IsAmendOutcome r
-IsOutcomeOf (Amend text) (Moved r) = ⊥
-IsOutcomeOf (AsOf moment) (Arrived o) = ⊥
-IsOutcomeOf (AsOf moment) (Amended r) = ⊥
-IsOutcomeOf (AsOf moment) (Moved r) = IsMoveOutcome r
+abbrev pub IsOutcomeOf : Option Matched → Type 0
+IsOutcomeOf None = ⊥
+IsOutcomeOf (Some (of_arrival a o)) = IsOutcome o
+IsOutcomeOf (Some (of_amendment text r)) = IsAmendOutcome r
+IsOutcomeOf (Some (of_moment moment r)) = IsMoveOutcome r
 
 -- the same of each event of a list
 abbrev pub AreOutcomesOf : List Event → List EventOutcome → Type 0
 AreOutcomesOf [] [] = Unit {0}
 AreOutcomesOf [] (o ∷ os) = ⊥
 AreOutcomesOf (x ∷ xs) [] = ⊥
-AreOutcomesOf (x ∷ xs) (o ∷ os) = IsOutcomeOf x o × AreOutcomesOf xs os
+AreOutcomesOf (x ∷ xs) (o ∷ os) = IsOutcomeOf (matched x o) × AreOutcomesOf xs os
 
 -- each of these is the work of one of the events xs, after e and those before it
 abbrev pub AreWorksOf : List EventValue → List EventValue → List Work → Type 0

@@ -25,6 +25,7 @@ ghost use Rattle.esc_store.specs.Standing.{
   Rest,
   HoldsNow,
   IsUncommitted,
+  IsChangePart,
   listed_by,
 };
 ghost use Rattle.esc_events.specs.Amended.{with_all_adopted, with_all_dropped};
@@ -38,7 +39,6 @@ ghost use Rattle.esc_desk.specs.Edits.{
   IsSoundPlan,
   Begins,
   IsFromChainOf,
-  IsPart,
   IsFilled,
   Fills,
   IsCommitted,
@@ -131,7 +131,7 @@ fn add_receipt<S: Alter>(
     change: &mut Change<'_, S>,
     receipt: &Option<Receipt<'_>>,
 ) -> Result<u64, SFault>
-    ensures part { IsPart S.Store change.old change.new result (noted receipt.now) }
+    ensures part { IsChangePart S.Store change.old change.new result (noted receipt.now) }
     ensures listed { listed_by change.new ≡ listed_by change.old }
     ensures numbered { IfOk result (λ n. IfSome receipt.now (λ r.
         IsHonest S.Store change.new.store.now → (before k : Kept)
@@ -152,7 +152,7 @@ fn list_rows<S: Alter>(
     listing: Option<Listing>,
 ) -> Result<(), SFault>
     requires begins { Begins listing (listed_by change.now) }
-    ensures part { IsPart S.Store change.old change.new result (listed_more listing) }
+    ensures part { IsChangePart S.Store change.old change.new result (listed_more listing) }
     ensures cause { IfErr result IsS1OrS2 }
 {
     match listing {
@@ -169,7 +169,7 @@ fn list_union<S: Alter>(
     listing: Listing,
 ) -> Result<(), SFault>
     requires begins { take (length (listed_by change.now)) listing.union ≡ listed_by change.now }
-    ensures part { IsPart S.Store change.old change.new result (listed_more (Some listing)) }
+    ensures part { IsChangePart S.Store change.old change.new result (listed_more (Some listing)) }
     ensures cause { IfErr result IsS1OrS2 }
 {
     let Listing { union, judged } = listing;
@@ -185,7 +185,7 @@ fn adopt_rows<S: Alter>(
     rows: &[MRow],
     adopted: &[usize],
 ) -> Result<(), SFault>
-    ensures part { IsPart S.Store change.old change.new result
+    ensures part { IsChangePart S.Store change.old change.new result
         (λ k. with_all_adopted rows.now k adopted.now) }
     ensures cause { IfErr result IsS1OrS2 }
 {
@@ -204,7 +204,7 @@ fn drop_rows<S: Alter>(
     rows: &[MRow],
     dropped: &[usize],
 ) -> Result<(), SFault>
-    ensures part { IsPart S.Store change.old change.new result
+    ensures part { IsChangePart S.Store change.old change.new result
         (λ k. with_all_dropped rows.now k dropped.now) }
     ensures cause { IfErr result IsS1OrS2 }
 {
@@ -219,7 +219,7 @@ fn drop_rows<S: Alter>(
 
 // Stores the body, if there is one.
 fn store_body<S: Alter>(change: &mut Change<'_, S>, body: &Storing<'_>) -> Result<(), SFault>
-    ensures part { IsPart S.Store change.old change.new result (stored body.now) }
+    ensures part { IsChangePart S.Store change.old change.new result (stored body.now) }
     ensures cause { IfErr result IsS1OrS2 }
 {
     match body {
@@ -234,7 +234,7 @@ fn set_moment<S: Alter>(
     change: &mut Change<'_, S>,
     moment: Option<Option<i64>>,
 ) -> Result<(), SFault>
-    ensures part { IsPart S.Store change.old change.new result (timed moment) }
+    ensures part { IsChangePart S.Store change.old change.new result (timed moment) }
     ensures cause { IfErr result IsS1OrS2 }
 {
     match moment {

@@ -16,11 +16,13 @@ ghost use Rattle.sha2.specs.Sha256.{sha256};
 ghost use Rattle.esc_tables.specs.DepositValue.{DepositValue};
 ghost use Rattle.esc_tables.specs.Reading.{reading};
 ghost use Rattle.esc_store.specs.Faults.{IsS1OrS2};
-ghost use Rattle.esc_store.specs.Kept.{Kept, IsFull};
+ghost use Rattle.esc_store.specs.Kept.{Kept};
 ghost use Rattle.esc_store.specs.Standing.{Stands, IsHonest, IsAsBefore};
 ghost use Rattle.esc_events.specs.declared.assessment.Assessment.TheVariants.{Unlisted, Holding};
+ghost use Rattle.esc_events.specs.declared.parking.Parking.TheVariants.{Crowded};
 ghost use Rattle.esc_events.specs.ArrivalValue.{an_arrival};
 ghost use Rattle.esc_events.specs.Events.{EventValue};
+ghost use Rattle.esc_events.specs.Parks.{IsParking};
 ghost use Rattle.esc_desk.specs.Causes.{HasRoomFor, IsEditFault, IsPlaceFault};
 ghost use Rattle.esc_desk.specs.Decisions.{IsSound, IsArriving, IsDecidedArrival};
 
@@ -60,7 +62,7 @@ pub(crate) fn decide_arrival<'n, 'b, S: Alter>(
         → IsArriving e (an_arrival n body.now) k found known receipt.entry
         → IfOk result (IsDecidedArrival e (an_arrival n body.now) k found) }
     ensures place { IsHonest S.Store store.new → (k : Kept) → Stands S.Store store.old k
-        → found ≡ Unlisted → OnOk result ((k.parked digest ≡ None) × IsFull k.parked → ⊥) }
+        → found ≡ Unlisted → OnOk result (IsParking k.parked digest Crowded → ⊥) }
     ensures cause { IfErr result
         (IsPlaceFault S.Store receipt.entry store.old store.new found digest) }
 {
@@ -93,7 +95,7 @@ fn decide_unlisted<'n, 'b, S: Alter>(
         → IsArriving e (an_arrival n body.now) k Unlisted known receipt.entry
         → IfOk result (IsDecidedArrival e (an_arrival n body.now) k Unlisted) }
     ensures place { IsHonest S.Store store.new → (k : Kept) → Stands S.Store store.old k
-        → OnOk result ((k.parked digest ≡ None) × IsFull k.parked → ⊥) }
+        → OnOk result (IsParking k.parked digest Crowded → ⊥) }
     ensures cause { IfErr result
         (IsPlaceFault S.Store receipt.entry store.old store.new Unlisted digest) }
 {

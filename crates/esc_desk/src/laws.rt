@@ -16,6 +16,7 @@ ghost use Rattle.esc_events.specs.Stands.{StandsFor};
 ghost use Rattle.esc_desk.specs.Laws.{
   TablesAreOfEvents,
   AreLeftByArrivals,
+  RepliesStay,
   SameHeldSameKept,
   SameRowsSameTables,
 };
@@ -55,6 +56,11 @@ pub fn stands_for_manifest_and_arrivals()
 /// to the moment that is set. Premise: no two different bodies that count have the same digest.
 pub fn tables_are_of_events()
     ensures { TablesAreOfEvents }
+{}
+
+/// A reply that was given stays as it was, whatever comes later.
+pub fn replies_stay()
+    ensures { RepliesStay }
 {}
 
 /// Two lists of events by which the same rows are listed in the same order, the same are held and

@@ -75,14 +75,6 @@
 //! then arrivals is said without events by [`stands_for_manifest_and_arrivals`]. A desk serves what
 //! its store serves, if what it remembers of the held rows and the chain is true (`DeskServes`).
 //!
-//! What one more event changes is also said by the definitions alone: in a store's *books*, which
-//! are what it keeps except for the chain and its tables, by [`books_after_an_arrival`],
-//! [`books_after_a_lost_one_again`], [`books_after_an_amendment`] and [`books_after_a_moment`]; in
-//! its chain and tables, with the work of the move, by [`chain_after_an_event`]; and
-//! [`migrated_store_stands`] says it of a store of version 1. For example, `AmendedBooks` says that
-//! all that an amendment has to do before the chain moves is to list the new rows, to hold the
-//! parked bodies that are their deposits, and to drop the other bodies parked for them.
-//!
 //! Most clauses begin with a word of `specs/Calls.antt`, which says of which events they speak.
 //! `OkAfter` is "if the store is honest after the call, and the call succeeded, then for every list
 //! of events that the desk served before it": a desk that served a list serves, after an arrival
@@ -99,7 +91,7 @@
 //! [`Desk::open`] and `crash` of [`Desk::arrive`], [`Desk::amend`], [`Desk::as_of`],
 //! [`Desk::take`], [`Desk::run_events`] and [`Desk::run`] say that whatever a crash leaves is a
 //! store of the events so far, or of them and one of those in doubt (`DeskLeaves`), and none is in
-//! doubt in a store that was just made or opened. `esc_kept` follows it to the next open.
+//! doubt in a store that was just made or opened. `esc_recovery` follows it to the next open.
 //!
 //! Each clause on a store has the premise that the store was honest, which is that the disk gave
 //! back what was written to it. What a store is said to keep holds while its connection is open; a
@@ -127,7 +119,7 @@
 //! A further kind of event, once `EventValue` and its books are defined in `esc_events`, needs
 //!
 //! - where it changes what no other event does, a field of `Edit`, its step in `books_edited`, and
-//!   a function in `src/changes.rt` that makes it, with the clause `IsPart`;
+//!   a function in `src/changes.rt` that makes it, with the clause `IsChangePart`;
 //! - a function that decides it, with the clauses `same` (it only reads), `sound` (`IsSound`),
 //!   `decided` (`IsDecided`) and `cause`;
 //! - one lemma for that: the edited books are those with the event, as `IsMove` says, for
@@ -168,7 +160,6 @@ mod decision;
 mod desk;
 mod edit;
 mod event;
-mod event_laws;
 mod intake;
 mod judging;
 mod knowing;
@@ -191,12 +182,8 @@ pub use desk::Desk;
 pub use esc_events::ParkedBody;
 pub use esc_store::{N1, Number, Reply, SFault, Verdict, number};
 pub use event::{Event, EventOutcome, Outcome};
-pub use event_laws::{
-    books_after_a_lost_one_again, books_after_a_moment, books_after_an_amendment,
-    books_after_an_arrival, chain_after_an_event, migrated_store_stands,
-};
 pub use laws::{
-    migrated_store_serves, new_store_stands_for_its_manifest, same_held_same_kept,
+    migrated_store_serves, new_store_stands_for_its_manifest, replies_stay, same_held_same_kept,
     same_rows_same_tables, stands_for_manifest_and_arrivals, tables_are_of_events,
     worked_migration, worked_migration_unlisted, worked_replies,
 };

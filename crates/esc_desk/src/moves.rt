@@ -26,7 +26,7 @@ ghost use Rattle.esc_apply.specs.Moves.{cost};
 ghost use Rattle.esc_apply.specs.Images.{chain_state};
 ghost use Rattle.esc_apply.specs.Front.{common_front};
 ghost use Rattle.esc_store.specs.Kept.{Kept};
-ghost use Rattle.esc_store.specs.Standing.{IsHonest, Rest, HoldsNow, GoesOn, Follows};
+ghost use Rattle.esc_store.specs.Standing.{IsHonest, Rest, HoldsNow, IsUncommitted, Follows};
 ghost use Rattle.esc_store.specs.Faults.{IsS1OrS2};
 ghost use Rattle.esc_events.specs.Plans.{
   HasDepositsPast,
@@ -60,7 +60,7 @@ pub(crate) fn move_if_planned<S: Alter>(
     plan: &Option<Plan>,
 ) -> Result<Work, SFault>
     requires sound { IfSome plan.now IsSoundPlan }
-    ensures goes_on { GoesOn S.Store change.old change.new }
+    ensures goes_on { IsUncommitted S.Store change.old change.new }
     ensures filled { OnOk result ((before k made : Kept) → IsFromChainOf k plan.now
         → StaysPut k made → Rest S.Store change.old before made
         → HoldsNow S.Store change.old k.registry
@@ -84,7 +84,7 @@ fn move_by<S: Alter>(change: &mut Change<'_, S>, alloc: Global, plan: &Plan) -> 
     requires few_old { length plan.now.old.items ≤ 4096 }
     requires few_new { length plan.now.new.items ≤ 4096 }
     requires deposits { HasDepositsPast plan.now }
-    ensures goes_on { GoesOn S.Store change.old change.new }
+    ensures goes_on { IsUncommitted S.Store change.old change.new }
     ensures filled { OnOk result ((before k made : Kept) (c : List DepositValue)
         → IsMovedFrom k c plan.now → made.steps ≡ k.steps → Rest S.Store change.old before made
         → HoldsNow S.Store change.old k.registry

@@ -6,6 +6,7 @@ ghost use Rattle.esc_desk.specs.Asked.{
   as_events,
   as_outcome,
   as_outcomes,
+  matched,
 };
 ghost use Rattle.esc_desk.specs.Calls.{
   After,
@@ -109,7 +110,7 @@ impl<S: Alter> Desk<S> {
             (λ e. Takes S.Store self.old self.new e event.now result) }
         ensures crash { CrashAfter S.Store self.old
             (λ e doubtful. DeskLeavesEvent S.Store self.new e doubtful event.now result) }
-        ensures cause { IsOutcomeOf event.now result }
+        ensures cause { IsOutcomeOf (matched event.now result) }
         ensures honest { WasHonest S.Store self.old self.new }
     {
         // Read for the proof alone: it shows that the count is below 2^64.
@@ -133,7 +134,7 @@ impl<S: Alter> Desk<S> {
         ensures crash { CrashAfter S.Store self.old
             (λ e doubtful. DeskLeavesEvent S.Store self.new e doubtful
             (as_event arrival.now) (as_outcome result)) }
-        ensures cause { IsOutcomeOf (as_event arrival.now) (as_outcome result) }
+        ensures cause { IsOutcomeOf (matched (as_event arrival.now) (as_outcome result)) }
         ensures honest { WasHonest S.Store self.old self.new }
     {
         // Read for the proof alone: it shows that the count is below 2^64.

@@ -23,7 +23,7 @@ use Rattle.esc_tables.specs.Reading.{reading}
 use Rattle.esc_manifest.specs.declared.row.MRow.{MRow}
 use Rattle.esc_manifest.specs.Extension.{extended}
 use Rattle.esc_manifest.specs.ManifestRows.{row_at}
-use Rattle.esc_store.specs.Kept.{Kept, with_body, with_listed, with_parked}
+use Rattle.esc_store.specs.Kept.{Kept, with_adopted, with_listed, with_parked}
 use Rattle.esc_events.specs.Assessment.{found, row_of}
 use Rattle.esc_events.specs.Receipts.{holds_row}
 
@@ -69,12 +69,6 @@ module _ (n : List MRow) (parked : List ℕ → Option (List ℕ)) where
   -- the parked bodies that no row lists
   abbrev pub still_parked : List ℕ → Option (List ℕ)
   still_parked d = if is_some (row_of n d) then None else parked d
-
--- what is kept, with the body that is parked under a digest, if any, held for this row and no
--- longer parked
-abbrev pub with_adopted : Kept → ℕ → List ℕ → Option (List ℕ) → Kept
-with_adopted k row digest None = k
-with_adopted k row digest (Some body) = with_parked (with_body k row body) digest None
 
 -- what is kept, with the parked bodies of these rows of n held for them
 abbrev pub with_all_adopted : List MRow → Kept → List ℕ → Kept

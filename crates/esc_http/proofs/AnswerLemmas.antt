@@ -101,14 +101,14 @@ module _ {S : Type 0} (g : Ghosts S) (desk : Desk S) where
     is_one = inr (inr (inr refl));
     cause = λ clean e serves. tt;
     left = λ e doubtful serves left. doubted g desk e doubtful (arrived a) left;
-    told = inr refl;
+    sends = inr refl;
   }
 
   -- the out-of-memory response is one to any request
   pub memory_answers : (request : Request) → IsAnswered g desk desk request out_of_memory
   memory_answers (refused refusal) = (refl, inr refl)
   memory_answers (arrives a) = inr (lost_by_memory a)
-  memory_answers (wants report) = (stays_itself, leaves_still g desk desk stays_itself, inr (record { fault = S2; cause = inr refl; told = inr refl }))
+  memory_answers (wants report) = (stays_itself, leaves_still g desk desk stays_itself, inr (record { fault = S2; cause = inr refl; sends = inr refl }))
 
   -- so it does whatever the input is
   pub memory_answers_some : (o : Option (List ℕ)) (plan : RequestPlan) → (request : Request) × IfSome o (λ rest. request ≡ with_body plan rest) × IsAnswered g desk desk request out_of_memory

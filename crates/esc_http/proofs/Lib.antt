@@ -1,3 +1,2 @@
 pub mod AnswerLemmas
-pub mod Listed
-pub mod StoreFacts
+pub mod RouteLemmas

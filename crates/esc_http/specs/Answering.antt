@@ -35,16 +35,16 @@ use Rattle.esc_desk.specs.Calls.{
   Answers,
   IsCause,
 }
-use Rattle.esc_request.specs.declared.reports.Report.{Report}
+use Rattle.esc_reports.specs.declared.catalog.Report.{Report}
+use Rattle.esc_reports.specs.Reports.{IsReport}
 use Rattle.esc_request.specs.declared.refusal.Refusal.{Refusal}
 use Rattle.esc_request.specs.declared.refusal.Refusal.TheVariants.{BadRequest}
 use Rattle.esc_http.specs.declared.request_plan.RequestPlan.{RequestPlan}
 use Rattle.esc_http.specs.declared.request_plan.RequestPlan.TheVariants.{Refuse, Put, Get}
 use Rattle.esc_request.specs.Head.{HasHead, HasNoHead}
 use Rattle.esc_http.specs.RequestPlans.{plan_of_head}
-use Rattle.esc_http.specs.Reports.{IsReport}
-use Rattle.esc_request.specs.Response.{out_of_memory, refusal_response, report_response}
-use Rattle.esc_http.specs.Response.{fault_response, reply_response}
+use Rattle.esc_http.specs.Response.{fault_response, reply_response, report_response}
+use Rattle.esc_request.specs.Response.{out_of_memory, refusal_response}
 
 -- ---- requests
 
@@ -83,10 +83,10 @@ IsOrMemory expected text = (text ≡ expected) ⊎ (text ≡ out_of_memory)
 
 -- no report was made, by this fault, which the text gives: the store failed (S1), or memory was
 -- refused (S2)
-pub record TellsFault (text : List ℕ) : Type 0 where
+pub record GivesFault (text : List ℕ) : Type 0 where
   pub fault : SFault
   pub cause : IsS1OrS2 fault
-  pub told : IsOrMemory (fault_response fault) text
+  pub sends : IsOrMemory (fault_response fault) text
 
 module _ {S : Type 0} (g : Ghosts S) (old new : Desk S) where
   -- what a crash leaves after an arrival, by what came of it
@@ -103,7 +103,7 @@ module _ {S : Type 0} (g : Ghosts S) (old new : Desk S) where
     pub work : Work
     pub answers : After g old new (λ e. Answers g new e a reply work)
     pub left : LeavesAfter a (Ok reply)
-    pub told : IsOrMemory (reply_response reply) text
+    pub sends : IsOrMemory (reply_response reply) text
 
   -- the arrival was lost by this fault, which the text gives: the desk serves what it served. The
   -- fault is S4 only if the arrival is no duplicate and there is no room for its receipt, and S5
@@ -114,13 +114,13 @@ module _ {S : Type 0} (g : Ghosts S) (old new : Desk S) where
     pub is_one : IsS1OrS2OrS4OrS5 fault
     pub cause : After g old new (λ e. IsCause e a fault)
     pub left : LeavesAfter a (Err fault)
-    pub told : IsOrMemory (fault_response fault) text
+    pub sends : IsOrMemory (fault_response fault) text
 
   -- the report was made, of what the store stands for
-  pub record TellsReport (report : Report) (text : List ℕ) : Type 0 where
+  pub record GivesReport (report : Report) (text : List ℕ) : Type 0 where
     pub body : List ℕ
     pub is : Over g old new (λ e. IsReport e report body)
-    pub told : IsOrMemory (report_response report body) text
+    pub sends : IsOrMemory (report_response report body) text
 
   -- the text is the response to the request, and the desk serves what it served, with the arrival
   -- that was taken
@@ -128,4 +128,4 @@ module _ {S : Type 0} (g : Ghosts S) (old new : Desk S) where
   IsAnswered (refused refusal) text = (new ≡ old) × IsOrMemory (refusal_response refusal) text
   IsAnswered (arrives a) text = TakesArrival a text ⊎ LosesArrival a text
   IsAnswered (wants report) text = Stays g old new × LeavesStill
-      × (TellsReport report text ⊎ TellsFault text)
+      × (GivesReport report text ⊎ GivesFault text)

@@ -1,6 +1,5 @@
 pub mod Answering
 pub mod RequestPlans
-pub mod Reports
 pub mod Response
-pub mod StatusText
-pub mod Walked
+pub mod Route
+pub mod Router

@@ -13,7 +13,7 @@ use Rattle.esc_request.specs.declared.length.BodyLength.TheVariants.{
   Malformed,
   TooLong,
 }
-use Rattle.esc_request.specs.declared.reports.Report.{Report}
+use Rattle.esc_reports.specs.declared.catalog.Report.{Report}
 use Rattle.esc_request.specs.declared.refusal.Refusal.TheVariants.{
   BadRequest,
   NotFound,
@@ -26,7 +26,7 @@ use Rattle.esc_request.specs.declared.refusal.Refusal.TheVariants.{
 use Rattle.esc_http.specs.declared.request_plan.RequestPlan.{RequestPlan}
 use Rattle.esc_http.specs.declared.request_plan.RequestPlan.TheVariants.{Refuse, Put, Get}
 use Rattle.esc_request.specs.BodyLength.{Line, body_length}
-use Rattle.esc_request.specs.Route.{Leads, arrival, tells, route_of}
+use Rattle.esc_http.specs.Route.{Leads, arrival, a_report, route_of}
 
 -- the target up to its first question mark (63)
 abbrev pub path_of : List ℕ → List ℕ
@@ -54,7 +54,7 @@ plan_to_get method report = if bytes_eq method (codes "GET") then Get report els
 abbrev pub plan_on : Option Leads → List ℕ → List Line → RequestPlan
 plan_on None method lines = Refuse NotFound
 plan_on (Some (arrival number)) method lines = plan_to_put method number lines
-plan_on (Some (tells report)) method lines = plan_to_get method report
+plan_on (Some (a_report report)) method lines = plan_to_get method report
 
 -- what a method, a target and header lines ask for
 abbrev pub plan_of : List ℕ → List ℕ → List Line → RequestPlan

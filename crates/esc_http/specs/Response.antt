@@ -1,12 +1,22 @@
--- The responses with a reply or a refusal of the desk (this project's profile).
+-- The responses with a reply, a report or a refusal of the desk (this project's profile).
 use Rattle.std.specs.Prelude.{ℕ, List, [], codes}
 use Rattle.esc_store.specs.declared.fault.SFault.{SFault}
 use Rattle.esc_store.specs.declared.fault.SFault.TheVariants.{S1, S2, S3, S4, S5}
 use Rattle.esc_store.specs.declared.reply.Verdict.{Verdict}
 use Rattle.esc_store.specs.declared.reply.Verdict.TheVariants.{A1, A2, A3, A4, A5}
 use Rattle.esc_store.specs.ReplyValue.{ReplyValue}
+use Rattle.esc_reports.specs.declared.catalog.Report.{Report}
+use Rattle.esc_reports.specs.declared.catalog.Report.TheVariants.{
+  Status,
+  Gaps,
+  Links,
+  Receipts,
+  Parked,
+  Moment,
+  Export,
+}
+use Rattle.esc_reports.specs.ReplyText.{reply_text}
 use Rattle.esc_request.specs.Response.{response, unavailable}
-use Rattle.esc_texts.specs.ReplyText.{reply_text}
 use Rattle.esc_http.specs.declared.serving.ServeFault.{ServeFault}
 use Rattle.esc_http.specs.declared.serving.ServeFault.TheVariants.{Read, Write}
 
@@ -29,6 +39,20 @@ reply_status A5 = codes "202 Accepted"
 -- the reply to an arrival
 abbrev pub reply_response : ReplyValue → List ℕ
 reply_response r = response (reply_status r.verdict) (codes "application/json") [] (reply_text r)
+
+-- the media type of a report
+abbrev pub report_media : Report → List ℕ
+report_media Status = codes "text/plain"
+report_media Gaps = codes "text/csv"
+report_media Links = codes "text/csv"
+report_media Receipts = codes "text/csv"
+report_media Parked = codes "text/csv"
+report_media Moment = codes "text/plain"
+report_media (Export kind) = codes "text/csv"
+
+-- the response with a report
+abbrev pub report_response : Report → List ℕ → List ℕ
+report_response report text = response (codes "200 OK") (report_media report) [] text
 
 -- why a request was not served to its end
 abbrev pub serve_fault_text : ServeFault → List ℕ

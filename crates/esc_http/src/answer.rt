@@ -20,12 +20,13 @@ ghost use Rattle.esc_http.specs.Answering.{
 };
 
 use crate::request_plan::{RequestPlan, plan_of_head};
-use crate::response::{fault_response, reply_response};
-use crate::telling::report;
+use crate::response::{fault_response, reply_response, report_response};
+use crate::route::router;
 use esc_desk::{Desk, Number};
+use esc_reports::{Report, report};
 use esc_request::{
-    Body, FoundHead, MOST_HEAD_BYTES, MOST_LINES, ReadFailed, Refusal, Report, Source, read_body,
-    read_head, refusal_response, report_response, router,
+    Body, FoundHead, MOST_HEAD_BYTES, MOST_LINES, ReadFailed, Refusal, Source, read_body,
+    read_head, refusal_response,
 };
 use httparse::spans::{EMPTY_HEADER_SPAN, HeaderSpan};
 use sqlite::Alter;

@@ -1,4 +1,4 @@
-//! One HTTP request over a reader and a writer, and the texts of a desk's reports.
+//! One HTTP request over a reader and a writer.
 //!
 //! [`serve_one`] reads one HTTP/1.0 or 1.1 request (RFC 9112), makes the response to it from a desk
 //! (`esc_desk`), and writes that. The bytes may come and go in any pieces. The tests come in this
@@ -24,10 +24,8 @@
 //! 202 if its body is parked, and 422 for another verdict; that to a report is 200 and its text.
 //! Out of memory, it is 503 with `S2`, whatever it would have been.
 //!
-//! What needs no desk is in crates below: the head, the route, the body and the bytes of a response
-//! in `esc_request`, the texts of replies, gaps and findings in `esc_texts`.
-//!
-//! [`report`] gives the text of a report, which the program prints too.
+//! What is HTTP alone is in `esc_request`: the head, the body and the bytes of a response. The
+//! reports, and the JSON of a reply, are in `esc_reports`; [`report`] is that crate's.
 //!
 //! # Example
 //!
@@ -60,17 +58,15 @@
 //!
 //! A body is read into one buffer of its length. Nothing is read that the response doesn't need,
 //! except what comes with the head in one piece. A response begins only when it is whole in memory,
-//! so a fault of the store is never found in the middle of one. The reports of links and of a
-//! kind's objects walk the desk's objects one at a time, and hold no map of them.
+//! so a fault of the store is never found in the middle of one.
 #![tactic(auto)]
 
 mod answer;
 mod request_plan;
 mod response;
+mod route;
 mod serving;
-mod status;
-mod telling;
 
-pub use esc_request::{ReadFailed, Report, Sink, Source, WriteFailed};
+pub use esc_reports::{Report, report};
+pub use esc_request::{ReadFailed, Sink, Source, WriteFailed};
 pub use serving::{ServeFault, serve, serve_one};
-pub use telling::report;

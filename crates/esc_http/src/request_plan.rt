@@ -11,10 +11,12 @@ ghost use Rattle.esc_http.specs.RequestPlans.{
   plan_to_get,
   plan_of_head,
 };
-ghost use Rattle.esc_request.specs.Router.{rows};
+ghost use Rattle.esc_http.specs.Router.{rows};
 
+use crate::route::{Route, Target, route_of};
 use esc_desk::{Number, number};
-use esc_request::{BodyLength, FoundHead, Refusal, Report, Route, Target, body_length, route_of};
+use esc_reports::Report;
+use esc_request::{BodyLength, FoundHead, Refusal, body_length};
 use httparse::spans::HeaderSpan;
 use matchit::Router;
 
@@ -63,7 +65,7 @@ fn plan_of<'b>(
     match route_of(router, path_of(target)) {
         None => RequestPlan::Refuse(Refusal::NotFound),
         Some(Route::Arrival(text)) => plan_to_put(method, text, bytes, lines),
-        Some(Route::Tells(report)) => plan_to_get(method, report),
+        Some(Route::Report(report)) => plan_to_get(method, report),
     }
 }
 

@@ -1,12 +1,18 @@
-//! The responses with a reply or a refusal of the desk. Each function returns `None` if memory was
-//! refused.
+//! The responses with a reply, a report or a refusal of the desk. Each function returns `None` if
+//! memory was refused.
 
 ghost use Rattle.std.specs.Prelude.{◌≡◌, IfSome};
-ghost use Rattle.esc_http.specs.Response.{fault_response, reply_status, reply_response};
+ghost use Rattle.esc_http.specs.Response.{
+  fault_response,
+  reply_status,
+  reply_response,
+  report_media,
+  report_response,
+};
 
 use esc_desk::{Reply, SFault, Verdict};
+use esc_reports::{Report, reply_text};
 use esc_request::response;
-use esc_texts::reply_text;
 use std::alloc::Global;
 
 /// The response with a fault of the desk: 503, and `S1`, `S2`, `S4` or `S5`. `S3`, which no open
@@ -45,5 +51,22 @@ fn reply_status(verdict: Verdict) -> &'static str
         Verdict::A1 => "200 OK",
         Verdict::A5 => "202 Accepted",
         Verdict::A2 | Verdict::A3(_) | Verdict::A4 => "422 Unprocessable Content",
+    }
+}
+
+/// The response with the text of a report: 200.
+pub(crate) fn report_response(alloc: Global, report: Report, text: &[u8]) -> Option<Vec<u8>>
+    ensures { IfSome result (λ whole. whole.items ≡ report_response report text.now) }
+{
+    response(alloc, "200 OK", report_media(report), "", text)
+}
+
+fn report_media(report: Report) -> &'static str
+    ensures { result.now ≡ report_media report }
+{
+    match report {
+        Report::Status | Report::Moment => "text/plain",
+        Report::Gaps | Report::Links | Report::Receipts | Report::Parked | Report::Export(_) =>
+            "text/csv",
     }
 }

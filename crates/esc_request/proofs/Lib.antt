@@ -2,4 +2,3 @@ pub mod BodyLemmas
 pub mod HeadLemmas
 pub mod LengthLemmas
 pub mod ResponseLemmas
-pub mod RouteLemmas

@@ -12,16 +12,6 @@ use Rattle.esc_request.specs.declared.refusal.Refusal.TheVariants.{
   LengthRequired,
   TooLarge,
 }
-use Rattle.esc_request.specs.declared.reports.Report.{Report}
-use Rattle.esc_request.specs.declared.reports.Report.TheVariants.{
-  Status,
-  Gaps,
-  Links,
-  Receipts,
-  Parked,
-  Moment,
-  Export,
-}
 
 -- the end of a line
 abbrev pub crlf : List ℕ
@@ -65,17 +55,3 @@ unavailable words = plain (codes "503 Service Unavailable") words
 -- the out-of-memory response
 abbrev pub out_of_memory : List ℕ
 out_of_memory = unavailable (codes "S2\n")
-
--- the media type of a report
-abbrev pub report_media : Report → List ℕ
-report_media Status = codes "text/plain"
-report_media Gaps = codes "text/csv"
-report_media Links = codes "text/csv"
-report_media Receipts = codes "text/csv"
-report_media Parked = codes "text/csv"
-report_media Moment = codes "text/plain"
-report_media (Export kind) = codes "text/csv"
-
--- the response with a report
-abbrev pub report_response : Report → List ℕ → List ℕ
-report_response report text = response (codes "200 OK") (report_media report) [] text

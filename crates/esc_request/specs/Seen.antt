@@ -1,16 +1,9 @@
 -- What contracts see of values that are slices of a buffer.
 use Rattle.esc_request.specs.declared.length.Values.{Values as Lying}
 use Rattle.esc_request.specs.declared.length.Values.TheVariants.{Nothing, One, More}
-use Rattle.esc_request.specs.declared.route.Route.{Route}
-use Rattle.esc_request.specs.declared.route.Route.TheVariants.{Arrival, Tells}
 use Rattle.esc_request.specs.BodyLength.{Values, nothing, one, more}
-use Rattle.esc_request.specs.Route.{Leads, arrival, tells}
 
 abbrev pub values_seen : Lying → Values
 values_seen Nothing = nothing
 values_seen (One value) = one value.now
 values_seen More = more
-
-abbrev pub route_seen : Route → Leads
-route_seen (Arrival number) = arrival number.now
-route_seen (Tells report) = tells report

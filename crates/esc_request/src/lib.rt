@@ -7,33 +7,31 @@
 //! |---|---|
 //! | [`Source`], [`Sink`] | readers and writers that report a failed call; those of std do not |
 //! | [`read_head`] | reads the head, of at most 8,192 bytes and 32 header lines, in any pieces |
-//! | [`router`], [`route_of`] | where a path leads: to an arrival under a number, or a [`Report`] |
 //! | [`body_length`] | how long the body is, by the header lines |
 //! | [`read_body`] | reads a body of this length into one buffer |
 //! | [`response`] | the text of a response |
-//! | [`refusal_response`], [`report_response`], [`out_of_memory`] | the same of one kind |
+//! | [`refusal_response`], [`out_of_memory`] | the same of one kind |
 //! | [`send`] | writes a text to its end and flushes |
 //!
-//! `esc_http` decides in which order these are called, which refusal comes first, and what a desk
-//! responds.
+//! `esc_http` decides where a path leads, in which order these are called, which refusal comes
+//! first, and what a desk responds.
 //!
 //! # Example
 //!
 //! ```text
-//! let router = router(alloc)?;
-//! route_of(&router, "/arrivals/n1")          // the arrival with the number n1
-//! report_response(alloc, Report::Status, text)   // HTTP/1.1 200 OK, the header lines, the text
+//! let found = read_head(&mut source, &mut buffer, &mut lines)?;   // where its parts are in the buffer
+//! body_length(&buffer, &lines[..found.spans.headers])   // BodyLength::Bytes(16), of Content-Length: 16
+//! response(alloc, "200 OK", "text/csv", "", text)   // HTTP/1.1 200 OK, the header lines, the text
 //! ```
 //!
 //! # What is promised
 //!
 //! A head is what the grammar of `httparse` has as one (`specs/Head.antt`): where [`read_head`]
-//! finds none, no beginning of the input is one. The routes that `matchit` finds are those of a
-//! plain definition by the path's text (`specs/Route.antt`). A body's length is a function of the
-//! header lines (`specs/BodyLength.antt`), and a body is the bytes after the head, or it
-//! is cut (`specs/Body.antt`). A response is one text (`specs/Response.antt`). Where a write failed
-//! a beginning of the text was written (`specs/Sent.antt`). A failure is returned only where a call
-//! of the source or the sink has failed; out of memory only where a call allocates.
+//! finds none, no beginning of the input is one. A body's length is a function of the header lines
+//! (`specs/BodyLength.antt`), and a body is the bytes after the head, or it is cut
+//! (`specs/Body.antt`). A response is one text (`specs/Response.antt`). Where a write failed a
+//! beginning of the text was written (`specs/Sent.antt`). A failure is returned only where a call of
+//! the source or the sink has failed; out of memory only where a call allocates.
 //!
 //! # Cost
 //!
@@ -45,9 +43,7 @@ mod body;
 mod head;
 mod length;
 mod refusal;
-mod reports;
 mod responses;
-mod route;
 mod sending;
 mod streams;
 
@@ -55,8 +51,6 @@ pub use body::{Body, read_body};
 pub use head::{FoundHead, MOST_HEAD_BYTES, MOST_LINES, read_head};
 pub use length::{BodyLength, MOST_BODY_BYTES, body_length};
 pub use refusal::Refusal;
-pub use reports::Report;
-pub use responses::{out_of_memory, refusal_response, report_response, response};
-pub use route::{Route, Target, route_of, router};
+pub use responses::{out_of_memory, refusal_response, response};
 pub use sending::send;
 pub use streams::{ReadFailed, Sink, Source, WriteFailed};

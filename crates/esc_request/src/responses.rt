@@ -6,12 +6,9 @@ ghost use Rattle.esc_request.specs.Response.{
   response,
   refusal_response,
   out_of_memory,
-  report_media,
-  report_response,
 };
 
 use crate::refusal::Refusal;
-use crate::reports::Report;
 use std::alloc::{AllocError, Global};
 
 /// The response for out of memory: 503 with the words `S2`. Doesn't allocate.
@@ -63,23 +60,6 @@ pub fn refusal_response(alloc: Global, refusal: Refusal) -> Option<Vec<u8>>
             "",
             b"too large\n",
         ),
-    }
-}
-
-/// The response with the text of a report: 200. `None` out of memory.
-pub fn report_response(alloc: Global, report: Report, text: &[u8]) -> Option<Vec<u8>>
-    ensures text { IfSome result (λ whole. whole.items ≡ report_response report text.now) }
-{
-    response(alloc, "200 OK", report_media(report), "", text)
-}
-
-fn report_media(report: Report) -> &'static str
-    ensures { result.now ≡ report_media report }
-{
-    match report {
-        Report::Status | Report::Moment => "text/plain",
-        Report::Gaps | Report::Links | Report::Receipts | Report::Parked | Report::Export(_) =>
-            "text/csv",
     }
 }
 

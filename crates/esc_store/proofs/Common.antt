@@ -59,7 +59,7 @@ pub use Rattle.esc_store.specs.Opening.{IsSettled}
 pub use Rattle.esc_store.specs.Pages.{entry_row, stored_row, AreRowsOf}
 pub use Rattle.esc_store.specs.ReplyValue.{ReceiptValue, ReplyValue, replies_from, reply_alike}
 pub use Rattle.esc_store.specs.ResultLaws.{if_ok}
-pub use Rattle.esc_store.specs.Standing.{IsAtRest, RestsAt, AreCountsOf, IsStanding, IsBegun, IsMade, IsUnderWay, ChangeOf, Follows, IsStep, GoesOn, IsLook, IsStoreRead, IsTold, IsHonest, HoldsNow, store_in, Settles}
+pub use Rattle.esc_store.specs.Standing.{IsAtRest, RestsAt, AreCountsOf, IsStanding, IsBegun, IsMade, IsUnderWay, ChangeOf, Follows, IsStep, IsUncommitted, IsChangePart, listed_by, IsLook, IsStoreRead, IsTold, IsHonest, HoldsNow, store_in, Settles}
 pub use Rattle.esc_store.specs.StandingLaws.{was_clean, goes_then, survives_same}
 pub use Rattle.esc_store.specs.StoreTables.{IsStoreDatabase, HoldsTables}
 pub use Rattle.esc_store.specs.TypedRows.{record_at, IsRegistry, receipts_from, steps_from, IsBooks, kind_at, image_kept, listed_from, listed_row, verdict_number}

@@ -114,7 +114,7 @@ module _ {es : List Entry} {rows : List ObjectEntry} (are : AreRowsOf es rows) {
 
 -- ---- one part after another
 pub follows_then : {S : Type 0} {g : Ghosts S} {a b c : ChangeOf S} → Follows g a b → Follows g b c → Follows g a c
-follows_then p q = record { goes_on = goes_then p.goes_on q.goes_on; rest = λ before k h. q.rest before k (p.rest before k h) }
+follows_then p q = record { goes_on = goes_then p.goes_on q.goes_on; listed = q.listed ∙ p.listed; rest = λ before k h. q.rest before k (p.rest before k h) }
 
 -- the entries of these rows are still to be put, and then those after them, and this holds of what is left
 pub record Pending (Left : List Change → Type 0) (rows : List ObjectEntry) (after : List Entry) : Type 0 where

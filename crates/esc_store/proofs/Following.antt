@@ -1,6 +1,6 @@
 -- What a call within a change keeps of the change, what it makes of it, and what a read says.
 use Rattle.esc_store.proofs.Common.{◌≡◌, true, false, List, Option, Some, refl, sym, ap, subst, ◌∙◌, IsTrue, Result, Ok, Err, OnOk, both_ways, unwrap_or, Ghosts, Database, Held, state, HasCleanDisk, Survives, KeepsCommit, MRow, Content, IsPart, SFault, Store, Kept, BeganIn, RestIn, HoldsIn}
-use Rattle.esc_store.proofs.Common.{IsBooks, IsRegistry, ChangeOf, IsStoreDatabase, IsStep, GoesOn, Follows, IfOk-at_ok, was_clean, if_ok, State as Tables, content_in, Tells, IsLook, IsStoreRead}
+use Rattle.esc_store.proofs.Common.{IsBooks, IsRegistry, ChangeOf, IsStoreDatabase, IsStep, IsUncommitted, IsChangePart, listed_by, on_ok_weaker, Follows, IfOk-at_ok, was_clean, if_ok, State as Tables, content_in, Tells, IsLook, IsStoreRead}
 use Rattle.sqlite.specs.State.{State}
 use Rattle.esc_store.proofs.Ends.{begun_committed}
 pub use Rattle.esc_store.proofs.Parts.{step_is, registry_same, become_turns}
@@ -101,12 +101,27 @@ module _ {S : Type 0} {g : Ghosts S} {X E : Type 0} {old new : Store S} {R : Con
   pub holds_all : {F : Tables → Tables} → ((s : Tables) (c c' : Content) → R c c' → IsRegistry c s → IsRegistry c' (F s)) → OnOk r ((s : Tables) → HoldsIn g old s → HoldsIn g new (F s))
   holds_all turn = if_ok r _ (λ x is s. holds_step is (turn s))
 
+-- a part lists what was listed
+pub lists_same : {S : Type 0} {g : Ghosts S} {X E : Type 0} (old : ChangeOf S) {new : Store S} {R : Content → Content → Type 0} {r : Result X E} → Moves g old.store.now new R r
+    → listed_by (record old { store = record old.store { now = new } }) ≡ listed_by old
+lists_same old move = ap (unwrap_or old.listing) move.manifest
+
 module _ {S : Type 0} {g : Ghosts S} {X E : Type 0} {old : ChangeOf S} {new : Store S} {R : Content → Content → Type 0} {r : Result X E} (move : Moves g old.store.now new R r) where
-  pub goes_step : GoesOn g old (record old { store = record old.store { now = new } })
-  goes_step = record { same_reference = refl; manifest = move.manifest; listed = rw move.manifest refl; writes = move.writes; survives = move.pass.survives; began = begun_step move }
+  pub goes_step : IsUncommitted g old (record old { store = record old.store { now = new } })
+  goes_step = record { same_reference = refl; manifest = move.manifest; writes = move.writes; survives = move.pass.survives; began = begun_step move }
+
+  -- a part that lists no rows, and leaves the tables as they were
+  pub part_step : {F : Kept → Kept} → ((k : Kept) → (F k).listed ≡ k.listed) → ((k : Kept) (c c' : Content) → R c c' → IsBooks c k → IsBooks c' (F k)) → ((s : Tables) (c c' : Content) → R c c' → IsRegistry c s → IsRegistry c' s)
+      → IsChangePart g old (record old { store = record old.store { now = new } }) r F
+  part_step listed books tables = record {
+    goes_on = goes_step;
+    count = refl;
+    makes = on_ok_weaker r (λ makes clean. makes) (made_all move old.listing listed books);
+    holds = holds_all move {F = λ s. s} tables;
+  }
 
   pub follows_step : ((k : Kept) (c c' : Content) → R c c' → IsBooks c k → IsBooks c' k) → Follows g old (record old { store = record old.store { now = new } })
-  follows_step turn = record { goes_on = goes_step; rest = λ before k. made_then move old.listing refl (turn k) before }
+  follows_step turn = record { goes_on = goes_step; listed = lists_same old move; rest = λ before k. made_then move old.listing refl (turn k) before }
 
 -- ---- reads
 

@@ -1,9 +1,8 @@
 -- What a part of a change does that lists rows.
 use Rattle.esc_store.proofs.Common.{◌≡◌, ℕ, suc, ◌+◌, List, [], ◌∷◌, ◌++◌, length, Option, Some, refl, ap, arith, pos, unwrap_or, ints, insert_by, MRow, ListedRow, listed_number, Content, Kept, with_listed, IsBooks, RestIn}
-use Rattle.esc_store.proofs.Common.{listed_row, listed_from, Ghosts, Store, ChangeOf, GoesOn, survives_same}
+use Rattle.esc_store.proofs.Common.{listed_row, listed_from, Ghosts, Store, ChangeOf, IsUncommitted, survives_same}
 use Rattle.sqlite_keyed.proofs.KeyedLemmas.{Less-from_lt}
 use Rattle.esc_rows.specs.Changes.{with_listed_row}
-use Rattle.esc_store.specs.Standing.{IsUncommitted}
 use Rattle.esc_store.proofs.Parts.{Becoming, books_as}
 
 -- the next row, put in its place
@@ -19,10 +18,6 @@ books_listed k row r row_is c c' turn books = books_as turn.is (rw (row_is, book
 -- nothing was called
 pub unchanged : {S : Type 0} {g : Ghosts S} {a : ChangeOf S} → IsUncommitted g a a
 unchanged = record { same_reference = refl; manifest = refl; writes = refl; survives = survives_same; began = λ k h. h }
-
--- a part that lists no rows, as one that may
-pub uncommitted : {S : Type 0} {g : Ghosts S} {a b : ChangeOf S} → GoesOn g a b → IsUncommitted g a b
-uncommitted goes = record { same_reference = goes.same_reference; manifest = goes.manifest; writes = goes.writes; survives = goes.survives; began = goes.began }
 
 -- what a change lists, told of what it keeps
 pub as_listed : {S : Type 0} (g : Ghosts S) (store : Store S) (listing : Option (List MRow)) (before k : Kept) → RestIn g store listing before k → (unwrap_or listing store.manifest ≡ k.listed) × RestIn g store (Some k.listed) before k

@@ -57,7 +57,7 @@ moment_turns v old new made = become_turns _ old new (λ c holds. (made c holds)
 
 -- nothing was called
 pub follows_same : {S : Type 0} (g : Ghosts S) (c : ChangeOf S) → Follows g c c
-follows_same g c = record { goes_on = record { same_reference = refl; manifest = refl; listed = refl; writes = refl; survives = survives_same; began = λ k h. h }; rest = λ before k h. h }
+follows_same g c = record { goes_on = record { same_reference = refl; manifest = refl; writes = refl; survives = survives_same; began = λ k h. h }; listed = refl; rest = λ before k h. h }
 
 -- what a read in a change found is what the change keeps
 pub found_parked : {S X E : Type 0} {g : Ghosts S} {old new : Store S} {digest : List ℕ} (view : X → Option (List ℕ)) {r : Result X E} {x : X} → r ≡ Ok x → old.conn.in_transaction ≡ true

@@ -96,6 +96,11 @@ parked_put parked digest body d = if bytes_eq digest d then body else parked d
 abbrev pub with_parked : Kept → List ℕ → Option (List ℕ) → Kept
 with_parked k digest body = record k { parked = parked_put k.parked digest body }
 
+-- k with the body that is parked under a digest, if one is, held for a row and parked no more
+abbrev pub with_adopted : Kept → ℕ → List ℕ → Option (List ℕ) → Kept
+with_adopted k row digest None = k
+with_adopted k row digest (Some body) = with_parked (with_body k row body) digest None
+
 -- k with this moment, or without one
 abbrev pub with_moment : Kept → Option ℤ → Kept
 with_moment k moment = record k { moment = moment }

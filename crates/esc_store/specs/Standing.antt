@@ -14,6 +14,10 @@ use Rattle.std.specs.Prelude.{
   OnOk,
   OnErr,
   IsErr,
+  ◌+◌,
+  ◌-◌,
+  ◌^◌,
+  min,
 }
 use Rattle.std.specs.Option.{unwrap_or}
 use Rattle.std.specs.Borrow.{GName}
@@ -29,7 +33,7 @@ use Rattle.esc_rows.specs.Changes.{Tells}
 use Rattle.esc_store.specs.declared.store.Store.{Store}
 use Rattle.esc_store.specs.declared.change.Change.{Change}
 use Rattle.esc_store.specs.declared.counts.KindCounts.{KindCounts}
-use Rattle.esc_store.specs.Kept.{Kept, AreCounts}
+use Rattle.esc_store.specs.Kept.{Kept, AreCounts, with_registry}
 use Rattle.esc_store.specs.Decoded.{counted}
 use Rattle.esc_store.specs.TypedRows.{IsBooks, IsRegistry}
 use Rattle.esc_store.specs.StoreTables.{IsStore, IsStoreDatabase, HoldsTables}
@@ -191,7 +195,7 @@ pub record IsAsBefore {S : Type 0} (g : Ghosts S) (old new : Store S) : Type 0 w
   pub survives : LeavesNoMore g old.conn new.conn
   pub stands : (k : Kept) → Stands g old k → Stands g new k
 
--- what each part of a change leaves as it was, whatever it returns: nothing is committed
+-- what each call of a change leaves as it was, whatever it returns: nothing is committed
 pub record IsUncommitted {S : Type 0} (g : Ghosts S) (old new : ChangeOf S) : Type 0 where
   pub same_reference : new.store.ghost_name ≡ old.store.ghost_name
   pub manifest : new.store.now.manifest ≡ old.store.now.manifest
@@ -199,20 +203,53 @@ pub record IsUncommitted {S : Type 0} (g : Ghosts S) (old new : ChangeOf S) : Ty
   pub survives : LeavesNoMore g old.store.now.conn new.store.now.conn
   pub began : (k : Kept) → Began g old k → Began g new k
 
--- the same, of a part that lists no rows
-pub record GoesOn {S : Type 0} (g : Ghosts S) (old new : ChangeOf S) : Type 0 where
-  pub same_reference : new.store.ghost_name ≡ old.store.ghost_name
-  pub manifest : new.store.now.manifest ≡ old.store.now.manifest
-  pub listed : listed_by new ≡ listed_by old
-  pub writes : new.store.now.writes ≡ old.store.now.writes
-  pub survives : LeavesNoMore g old.store.now.conn new.store.now.conn
-  pub began : (k : Kept) → Began g old k → Began g new k
+-- a part of a change: where it succeeded it made this of the rows, receipts, bodies, parked bodies,
+-- moment and chain that the change has; nothing is committed, and the tables are as they were
+pub record IsChangePart {S X E : Type 0} (g : Ghosts S) (old new : ChangeOf S)
+    (result : Result X E) (made : Kept → Kept) : Type 0 where
+  pub goes_on : IsUncommitted g old new
+  pub count : new.count ≡ old.count
+  pub makes : OnOk result (IsHonest g new.store.now → (before k : Kept) → Rest g old before k
+      → Rest g new before (made k))
+  pub holds : OnOk result ((s : Tables) → HoldsNow g old s → HoldsNow g new s)
 
 -- what the calls of a change as a registry leave as it was, whatever they return: nothing is
 -- committed, and the rows, receipts, bodies, parked bodies, moment and chain are as they were
 pub record Follows {S : Type 0} (g : Ghosts S) (old new : ChangeOf S) : Type 0 where
-  pub goes_on : GoesOn g old new
+  pub goes_on : IsUncommitted g old new
+  pub listed : listed_by new ≡ listed_by old
   pub rest : (before k : Kept) → Rest g old before k → Rest g new before k
+
+-- ---- where a change begins and ends
+
+-- a change was begun on a store, and has made nothing yet
+pub record IsNewChange {S : Type 0} (g : Ghosts S) (store : Store S) (change : ChangeOf S)
+    : Type 0 where
+  pub count : change.count ≡ 0
+  pub manifest : change.store.now.manifest ≡ store.manifest
+  pub writes : change.store.now.writes ≡ store.writes
+  pub listed : listed_by change ≡ store.manifest
+  pub survives : LeavesNoMore g store.conn change.store.now.conn
+  pub began : (k : Kept) → Stands g store k → Began g change k
+  pub rest : (k : Kept) → Stands g store k → Rest g change k k
+  pub holds : (k : Kept) → Stands g store k → HoldsNow g change k.registry
+
+-- a change was committed: the store lists its rows, counts its writes, and stands for what it made
+pub record IsCommitOf {S : Type 0} (g : Ghosts S) (change : ChangeOf S) (last : Store S)
+    : Type 0 where
+  pub manifest : last.manifest ≡ listed_by change
+  pub writes : last.writes ≡ min (change.store.now.writes + change.count) (2 ^ 64 - 1)
+  pub stands : (before k : Kept) (s : Tables) → Rest g change before (with_registry k s)
+      → HoldsNow g change k.registry → Stands g last k
+  pub left : (before k : Kept) (s : Tables) → Rest g change before (with_registry k s)
+      → HoldsNow g change k.registry → LeavesOnly g last k
+
+-- a change was rolled back: the store is what it was before it
+pub record IsRollbackOf {S L : Type 0} (g : Ghosts S) (change : Change S L) (last : Store S)
+    : Type 0 where
+  pub manifest : last.manifest ≡ change.store.now.manifest
+  pub writes : last.writes ≡ change.store.now.writes
+  pub stands : (before : Kept) → Began g change before → Stands g last before
 
 -- ---- parts of a change, and reads, by the state of the connection
 

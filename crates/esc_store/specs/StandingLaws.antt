@@ -1,14 +1,22 @@
 -- Laws of stores and of changes, from one call to the next.
-use Rattle.std.specs.Prelude.{ℕ, ◌≤◌}
+use Rattle.std.specs.Prelude.{ℕ, ◌≤◌, Result, Ok}
 use Rattle.std.proofs.Common.{inl, refl, subst, ◌∙◌, le_refl}
 use Rattle.std.proofs.Math.Arith.{le-zero}
+use Rattle.std.proofs.lemmas.Result.{on_ok_weaker}
 use Rattle.sqlite_trees.specs.declared.store.Store.{Ghosts}
 use Rattle.sqlite_trees.specs.Tree.{Trees}
 use Rattle.sqlite_trees.specs.View.{doubt}
 use Rattle.sqlite.specs.State.{State, HasCleanDisk, Survives}
 use Rattle.sqlite.proofs.StateLemmas.{survives_then}
 use Rattle.esc_store.specs.declared.store.Store.{Store}
-use Rattle.esc_store.specs.Standing.{ChangeOf, IsHonest, IsAsBefore, GoesOn}
+use Rattle.esc_store.specs.Kept.{Kept}
+use Rattle.esc_store.specs.Standing.{
+  ChangeOf,
+  IsHonest,
+  IsAsBefore,
+  IsUncommitted,
+  IsChangePart,
+}
 
 -- nothing was called
 pub survives_same : {s : State} {C : Trees → Type 0} → Survives s s C
@@ -43,13 +51,29 @@ as_before_then p q = record {
 }
 
 -- a change goes on, and then goes on again
-pub goes_then : {S : Type 0} {g : Ghosts S} {a b c : ChangeOf S} → GoesOn g a b → GoesOn g b c
-    → GoesOn g a c
+pub goes_then : {S : Type 0} {g : Ghosts S} {a b c : ChangeOf S} → IsUncommitted g a b
+    → IsUncommitted g b c → IsUncommitted g a c
 goes_then p q = record {
   same_reference = q.same_reference ∙ p.same_reference;
   manifest = q.manifest ∙ p.manifest;
-  listed = q.listed ∙ p.listed;
   writes = q.writes ∙ p.writes;
   survives = survives_then _ _ _ _ _ _ (λ _ db none. none) (λ _ db none. none) p.survives q.survives;
   began = λ k h. q.began k (p.began k h);
+}
+
+-- a change that is honest after a part was honest before it
+pub part_was : {S X E : Type 0} {g : Ghosts S} {a b : ChangeOf S} {r : Result X E}
+    {f : Kept → Kept} → IsChangePart g a b r f → IsHonest g b.store.now → IsHonest g a.store.now
+part_was p = was_clean p.goes_on.survives
+
+-- one part that succeeded, and then another
+pub part_then : {S X Y E F : Type 0} {g : Ghosts S} {a b c : ChangeOf S} {x : X} {q : Result Y F}
+    {f h : Kept → Kept} → IsChangePart {E = E} g a b (Ok x) f → IsChangePart g b c q h
+    → IsChangePart g a c q (λ k. h (f k))
+part_then {q = q} p r = record {
+  goes_on = goes_then p.goes_on r.goes_on;
+  count = r.count ∙ p.count;
+  makes = on_ok_weaker q (λ makes clean before k rest.
+      makes clean before _ (p.makes (part_was r clean) before k rest)) r.makes;
+  holds = on_ok_weaker q (λ holds s h. holds s (p.holds s h)) r.holds;
 }

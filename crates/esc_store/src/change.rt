@@ -3,13 +3,9 @@
 ghost use Rattle.std.specs.Prelude.{
   ◌≡◌,
   ◌≤◌,
-  ◌<◌,
   ◌+◌,
-  ◌-◌,
-  ◌^◌,
   ◌++◌,
   None,
-  min,
   map,
   take,
   length,
@@ -22,20 +18,18 @@ ghost use Rattle.esc_apply.specs.Registry.{State};
 ghost use Rattle.esc_store.specs.Faults.{IsS1OrS2, IsS1OrS2OrS4};
 ghost use Rattle.esc_store.specs.Kept.{Kept, with_receipt, with_body, with_steps, with_registry};
 ghost use Rattle.esc_store.specs.Standing.{
-  Stands,
-  Began,
   Rest,
   HoldsNow,
-  GoesOn,
-  LeavesOnly,
+  IsUncommitted,
+  IsChangePart,
+  IsCommitOf,
+  IsRollbackOf,
   StoreLeavesOr,
   StoreLeavesNoMore,
   IsHonest,
   listed_by,
   store_in,
   count_of,
-  rows_of,
-  writes_of,
 };
 
 use crate::books::MOST_RECEIPTS;
@@ -63,15 +57,12 @@ impl<'a, S: Alter> Change<'a, S> {
     /// Adds the receipt of an arrival after the others, and returns its number, from 1. `S4` where
     /// the store has 1,000,000,000 receipts, and only there; `S1`, `S2`.
     pub fn record_receipt(&mut self, receipt: &Receipt<'_>) -> Result<u64, SFault>
-        ensures goes_on { GoesOn S.Store self.old self.new }
-        ensures count { count_of self.new ≡ count_of self.old }
-        ensures recorded { OnOk result ((before k : Kept) → Rest S.Store self.old before k
-            → Rest S.Store self.new before (with_receipt k receipt.now)) }
+        ensures part { IsChangePart S.Store self.old self.new result
+            (λ k. with_receipt k receipt.now) }
+        ensures listed { listed_by self.new ≡ listed_by self.old }
         ensures number { IfOk result (λ n. IsHonest S.Store (store_in self.new)
             → (before k : Kept)
             → Rest S.Store self.old before k → n ≡ length k.receipts + 1) }
-        ensures holds { OnOk result ((s : State) → HoldsNow S.Store self.old s
-            → HoldsNow S.Store self.new s) }
         ensures room { IfOk result (λ n. n ≤ MOST_RECEIPTS) }
         ensures full { IfErr result (λ e. e ≡ SFault.S4 → IsHonest S.Store (store_in self.new)
             → (before k : Kept) → Rest S.Store self.old before k
@@ -83,15 +74,11 @@ impl<'a, S: Alter> Change<'a, S> {
 
     /// Stores the body of a listed row. `S1`, also if the row has a body already; `S2`.
     pub fn hold(&mut self, row: usize, body: &[u8]) -> Result<(), SFault>
-        ensures goes_on { GoesOn S.Store self.old self.new }
-        ensures count { count_of self.new ≡ count_of self.old }
-        ensures held { OnOk result ((before k : Kept) → k.bodies row ≡ None
-            → Rest S.Store self.old before k
-            → Rest S.Store self.new before (with_body k row body.now)) }
+        ensures part { IsChangePart S.Store self.old self.new result
+            (λ k. with_body k row body.now) }
+        ensures listed { listed_by self.new ≡ listed_by self.old }
         ensures free { OnOk result (IsHonest S.Store (store_in self.new) → (before k : Kept)
             → Rest S.Store self.old before k → k.bodies row ≡ None) }
-        ensures holds { OnOk result ((s : State) → HoldsNow S.Store self.old s
-            → HoldsNow S.Store self.new s) }
         ensures cause { IfErr result IsS1OrS2 }
     {
         let row = small(row)?;
@@ -100,14 +87,11 @@ impl<'a, S: Alter> Change<'a, S> {
 
     // Stores a body in its table.
     fn hold_row(&mut self, row: u32, body: &[u8]) -> Result<(), SFault>
-        ensures goes_on { GoesOn S.Store self.old self.new }
-        ensures count { self.new.count ≡ self.old.count }
-        ensures held { OnOk result ((before k : Kept) → Rest S.Store self.old before k
-            → Rest S.Store self.new before (with_body k row body.now)) }
+        ensures part { IsChangePart S.Store self.old self.new result
+            (λ k. with_body k row body.now) }
+        ensures listed { listed_by self.new ≡ listed_by self.old }
         ensures free { OnOk result (IsHonest S.Store (store_in self.new) → (before k : Kept)
             → Rest S.Store self.old before k → k.bodies row ≡ None) }
-        ensures holds { OnOk result ((s : State) → HoldsNow S.Store self.old s
-            → HoldsNow S.Store self.new s) }
         ensures cause { IfErr result IsS1OrS2 }
     {
         let done = insert_held(&mut self.store.conn, row, body);
@@ -117,12 +101,9 @@ impl<'a, S: Alter> Change<'a, S> {
     /// Makes these the steps of the chain; their rows have to be held, and no two are the same.
     /// `S1`, `S2`.
     pub fn set_chain(&mut self, steps: &[Step]) -> Result<(), SFault>
-        ensures goes_on { GoesOn S.Store self.old self.new }
-        ensures count { count_of self.new ≡ count_of self.old }
-        ensures set { OnOk result ((before k : Kept) → Rest S.Store self.old before k
-            → Rest S.Store self.new before (with_steps k (map (λ step. step.row) steps.now))) }
-        ensures holds { OnOk result ((s : State) → HoldsNow S.Store self.old s
-            → HoldsNow S.Store self.new s) }
+        ensures part { IsChangePart S.Store self.old self.new result
+            (λ k. with_steps k (map (λ step. step.row) steps.now)) }
+        ensures listed { listed_by self.new ≡ listed_by self.old }
         ensures cause { IfErr result IsS1OrS2 }
     {
         self.continue_chain(0, steps)
@@ -132,8 +113,9 @@ impl<'a, S: Alter> Change<'a, S> {
     /// these the steps past them; their rows have to be held, and no two of the chain are the same.
     /// It takes as long as these steps and those that go, however long the chain is. `S1`, `S2`.
     pub fn continue_chain(&mut self, front: usize, steps: &[Step]) -> Result<(), SFault>
-        ensures goes_on { GoesOn S.Store self.old self.new }
+        ensures goes_on { IsUncommitted S.Store self.old self.new }
         ensures count { count_of self.new ≡ count_of self.old }
+        ensures listed { listed_by self.new ≡ listed_by self.old }
         ensures set { OnOk result ((before k : Kept) → front ≤ length k.steps
             → Rest S.Store self.old before k → Rest S.Store self.new before
             (with_steps k (take front k.steps ++ map (λ step. step.row) steps.now))) }
@@ -149,27 +131,14 @@ impl<'a, S: Alter> Change<'a, S> {
     /// Commits the whole change at once. At `Err` (`S1`, `S2`) nothing has changed, but a crash may
     /// leave the change made.
     pub fn commit(self) -> Result<(), SFault>
-        ensures manifest { OnOk result (rows_of self.exit.0.now ≡ listed_by self.entry) }
-        ensures unlisted { OnErr result
-            (rows_of self.exit.0.now ≡ rows_of (store_in self.entry)) }
+        ensures committed { OnOk result (IsCommitOf S.Store self.entry self.exit.0.now) }
+        ensures rolled_back { OnErr result (IsRollbackOf S.Store self.entry self.exit.0.now) }
         ensures honest { IsHonest S.Store self.exit.0.now
             → IsHonest S.Store (store_in self.entry) }
-        ensures written { OnOk result (writes_of self.exit.0.now
-            ≡ min (writes_of (store_in self.entry) + count_of self.entry) (2 ^ 64 - 1)) }
-        ensures unwritten { OnErr result
-            (writes_of self.exit.0.now ≡ writes_of (store_in self.entry)) }
-        ensures committed { OnOk result ((before k : Kept) (s : State)
-            → Rest S.Store self.entry before (with_registry k s)
-            → HoldsNow S.Store self.entry k.registry → Stands S.Store self.exit.0.now k) }
-        ensures kept { OnErr result ((before : Kept) → Began S.Store self.entry before
-            → Stands S.Store self.exit.0.now before) }
         ensures crash { (before k : Kept) (s : State)
             → Rest S.Store self.entry before (with_registry k s)
             → HoldsNow S.Store self.entry k.registry
             → StoreLeavesOr S.Store (store_in self.entry) self.exit.0.now k }
-        ensures left { OnOk result ((before k : Kept) (s : State)
-            → Rest S.Store self.entry before (with_registry k s)
-            → HoldsNow S.Store self.entry k.registry → LeavesOnly S.Store self.exit.0.now k) }
         ensures cause { IfErr result IsS1OrS2 }
     {
         let Change {
@@ -186,10 +155,7 @@ impl<'a, S: Alter> Change<'a, S> {
 
 impl<S: Alter, L: Drop> Drop for Change<'_, S, L> {
     fn drop(self)
-        ensures manifest { rows_of self.exit.0.now ≡ rows_of (store_in self.entry) }
-        ensures writes { writes_of self.exit.0.now ≡ writes_of (store_in self.entry) }
-        ensures kept { (before : Kept) → Began S.Store self.entry before
-            → Stands S.Store self.exit.0.now before }
+        ensures rolled_back { IsRollbackOf S.Store self.entry self.exit.0.now }
         ensures survives { StoreLeavesNoMore S.Store (store_in self.entry) self.exit.0.now }
     {
         let Change {

@@ -28,6 +28,10 @@ pub enum SFault {
     S5,
 }
 
+/// The fault where a store holds what no desk writes: a value that is not of its form, or a row
+/// that refers to none.
+pub(crate) const DAMAGED: SFault = SFault::S1;
+
 impl fmt::Display for SFault {
     fn fmt<W: fmt::Write>(&self, f: &mut fmt::Formatter<W>) -> fmt::Result {
         f.write_str(match *self {

@@ -22,12 +22,10 @@ ghost use Rattle.esc_store.specs.Kept.{Kept, with_listed};
 ghost use Rattle.esc_store.specs.TypedRows.{listed_row, listed_from};
 ghost use Rattle.esc_store.specs.Standing.{
   RestIn,
-  Rest,
   HoldsNow,
   IsUncommitted,
-  GoesOn,
+  IsChangePart,
   listed_by,
-  count_of,
 };
 
 use crate::change::Change;
@@ -41,17 +39,12 @@ impl<'a, S: Alter> Change<'a, S> {
     /// Lists the rows of a union, which has to begin with those that are listed. It becomes the
     /// store's manifest once the change is committed. At `Err` (`S1`, `S2`) no other rows are
     /// listed than before.
-    #[tactic(auto, using(crate::proofs::Lists::unchanged, crate::proofs::Lists::uncommitted))]
+    #[tactic(auto, using(crate::proofs::Lists::unchanged))]
     pub fn list(&mut self, union: Manifest) -> Result<(), SFault>
         requires begins { take (length (listed_by self.now)) union ≡ listed_by self.now }
-        ensures goes_on { IsUncommitted S.Store self.old self.new }
-        ensures count { count_of self.new ≡ count_of self.old }
-        ensures listed { OnOk result ((before k : Kept) → Rest S.Store self.old before k
-            → Rest S.Store self.new before (with_listed k union)) }
-        ensures manifest { OnOk result (listed_by self.new ≡ union) }
+        ensures part { IsChangePart S.Store self.old self.new result (λ k. with_listed k union) }
+        ensures listed { OnOk result (listed_by self.new ≡ union) }
         ensures unlisted { OnErr result (listed_by self.new ≡ listed_by self.old) }
-        ensures holds { OnOk result ((s : State) → HoldsNow S.Store self.old s
-            → HoldsNow S.Store self.new s) }
         ensures cause { IfErr result IsS1OrS2 }
     {
         let rows = stored_manifest(self.store.alloc, union.rows())?;
@@ -74,7 +67,7 @@ impl<'a, S: Alter> Change<'a, S> {
     // Adds the rows of a union, from an index on, to their table, which has those before it.
     #[tactic(auto, using(crate::specs::StandingLaws::goes_then))]
     fn list_rows(&mut self, rows: &[Listed], from: usize) -> Result<(), SFault>
-        ensures goes_on { GoesOn S.Store self.old self.new }
+        ensures goes_on { IsUncommitted S.Store self.old self.new }
         ensures listing { self.new.listing ≡ self.old.listing }
         ensures count { self.new.count ≡ self.old.count }
         ensures listed { OnOk result ((before k : Kept) (union : List MRow)
@@ -93,7 +86,7 @@ impl<'a, S: Alter> Change<'a, S> {
 
     // Puts a row into its table, which has those before it.
     fn list_row(&mut self, row: &Listed) -> Result<(), SFault>
-        ensures goes_on { GoesOn S.Store self.old self.new }
+        ensures goes_on { IsUncommitted S.Store self.old self.new }
         ensures listing { self.new.listing ≡ self.old.listing }
         ensures count { self.new.count ≡ self.old.count }
         ensures listed { OnOk result ((before k : Kept) (r : MRow)

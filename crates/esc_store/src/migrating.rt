@@ -6,7 +6,13 @@ ghost use Rattle.sqlite.specs.Held.{state};
 ghost use Rattle.sqlite.specs.State.{HasCleanDisk, Survives, KeepsCommit, IsUnchanged};
 ghost use Rattle.esc_store.specs.Faults.{IsS1OrS2, IsS1ToS3};
 ghost use Rattle.esc_store.specs.Kept.{Kept};
-ghost use Rattle.esc_store.specs.Opening.{IsSettled, IsAsItWas, IsOpeningFault};
+ghost use Rattle.esc_store.specs.Opening.{
+  IsSettled,
+  IsAsItWas,
+  IsOpeningFault,
+  IsRefused,
+  IsOpened,
+};
 ghost use Rattle.esc_store.specs.StoreTables.{IsStore, IsStoreDatabase};
 ghost use Rattle.esc_store.specs.Standing.{
   Stands,
@@ -191,23 +197,10 @@ impl<S: Alter> Store<S> {
         alloc: Global,
         connection: Connection<S>,
     ) -> Result<Store<S>, (SFault, Connection<S>)>
-        ensures carried { IfOk result (λ store. IsHonest S.Store store → (k : Kept)
-            → HoldsFirst S.Store connection k → Stands S.Store store k) }
-        ensures found { IfOk result (λ store. IsHonest S.Store store → (k : Kept)
-            → IsFirstStore (state S.Store connection).committed.trees k → Stands S.Store store k) }
-        ensures left { IfOk result (λ store. (k : Kept)
-            → IsFirstStore (state S.Store connection).committed.trees k
-            → LeavesOnly S.Store store k) }
-        ensures writes { IfOk result (λ store. writes_of store ≡ 0) }
-        ensures version { IfOk result (λ store. IsHonest S.Store store
-            → IsOfFirstVersion (state S.Store connection).now) }
-        ensures never { IfErr result (λ e. e.0 ≡ SFault.S3 → HasCleanDisk (state S.Store e.1)
-            → IsTrue (state S.Store e.1).is_open → (k : Kept)
-            → IsFirstStore (state S.Store connection).committed.trees k → ⊥) }
-        ensures unchanged { IfErr result
-            (λ e. IsAsItWas (state S.Store connection) (state S.Store e.1)) }
-        ensures cause { IfErr result
-            (λ e. IsOpeningFault first_schema (state S.Store connection) e.0) }
+        ensures opened { IfOk result (IsOpened S.Store (HoldsFirst S.Store connection)
+            IsFirstStore IsOfFirstVersion connection) }
+        ensures refused { IfErr result (λ e. IsRefused first_schema IsFirstStore
+            (state S.Store connection) (state S.Store e.1) e.0) }
         ensures crash { (k : Kept) → IsFirstStore (state S.Store connection).committed.trees k
             → MatchResult result
             (λ store. LeavesFirstOr S.Store connection (connection_of store) k)

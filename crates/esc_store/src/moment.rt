@@ -1,19 +1,16 @@
 //! The moment up to which the chain goes: what a store returns of it, and how a change sets it.
 
-ghost use Rattle.std.specs.Prelude.{◌≡◌, Some, None, IfOk, IfErr, OnOk};
-ghost use Rattle.esc_apply.specs.Registry.{State};
+ghost use Rattle.std.specs.Prelude.{◌≡◌, Some, None, IfOk, IfErr};
 ghost use Rattle.esc_rows.specs.Content.{moment_of};
 ghost use Rattle.esc_store.specs.Faults.{IsS1OrS2};
 ghost use Rattle.esc_store.specs.Kept.{Kept, with_moment};
 ghost use Rattle.esc_store.specs.Standing.{
   Stands,
-  Rest,
-  HoldsNow,
-  GoesOn,
+  IsChangePart,
   IsAsBefore,
   IsHonest,
   IsStoreRead,
-  count_of,
+  listed_by,
 };
 
 use crate::change::Change;
@@ -49,14 +46,10 @@ impl<S: Alter> Store<S> {
 impl<'a, S: Alter> Change<'a, S> {
     /// Sets the moment, in nanoseconds since 1970-01-01T00:00:00Z, or removes it (`None`). The
     /// chain and the tables stay as they are. `S1`, `S2`.
-    #[tactic(auto, using(crate::specs::StandingLaws::goes_then))]
     pub fn set_moment(&mut self, moment: Option<i64>) -> Result<(), SFault>
-        ensures goes_on { GoesOn S.Store self.old self.new }
-        ensures count { count_of self.new ≡ count_of self.old }
-        ensures set { OnOk result ((before k : Kept) → Rest S.Store self.old before k
-            → Rest S.Store self.new before (with_moment k moment)) }
-        ensures holds { OnOk result ((s : State) → HoldsNow S.Store self.old s
-            → HoldsNow S.Store self.new s) }
+        ensures part { IsChangePart S.Store self.old self.new result
+            (λ k. with_moment k moment) }
+        ensures listed { listed_by self.new ≡ listed_by self.old }
         ensures cause { IfErr result IsS1OrS2 }
     {
         self.clear_moment()?;
@@ -68,12 +61,9 @@ impl<'a, S: Alter> Change<'a, S> {
 
     // Removes the moment, if one is set.
     fn clear_moment(&mut self) -> Result<(), SFault>
-        ensures goes_on { GoesOn S.Store self.old self.new }
-        ensures count { self.new.count ≡ self.old.count }
-        ensures cleared { OnOk result ((before k : Kept) → Rest S.Store self.old before k
-            → Rest S.Store self.new before (with_moment k None)) }
-        ensures holds { OnOk result ((s : State) → HoldsNow S.Store self.old s
-            → HoldsNow S.Store self.new s) }
+        ensures part { IsChangePart S.Store self.old self.new result
+            (λ k. with_moment k None) }
+        ensures listed { listed_by self.new ≡ listed_by self.old }
         ensures cause { IfErr result IsS1OrS2 }
     {
         let done = clear_moment(&mut self.store.conn);
@@ -82,12 +72,9 @@ impl<'a, S: Alter> Change<'a, S> {
 
     // Sets a moment, where none is set.
     fn put_moment(&mut self, moment: i64) -> Result<(), SFault>
-        ensures goes_on { GoesOn S.Store self.old self.new }
-        ensures count { self.new.count ≡ self.old.count }
-        ensures put { OnOk result ((before k : Kept) → Rest S.Store self.old before k
-            → Rest S.Store self.new before (with_moment k (Some moment))) }
-        ensures holds { OnOk result ((s : State) → HoldsNow S.Store self.old s
-            → HoldsNow S.Store self.new s) }
+        ensures part { IsChangePart S.Store self.old self.new result
+            (λ k. with_moment k (Some moment)) }
+        ensures listed { listed_by self.new ≡ listed_by self.old }
         ensures cause { IfErr result IsS1OrS2 }
     {
         let done = insert_moment(&mut self.store.conn, moment);

@@ -2,10 +2,9 @@
 
 ghost use Rattle.std.specs.Prelude.{
   ◌≡◌,
-  ℕ,
-  List,
   Some,
   None,
+  IsSome,
   map,
   option_map,
   IfOk,
@@ -16,18 +15,18 @@ ghost use Rattle.esc_apply.specs.Registry.{State};
 ghost use Rattle.esc_rows.specs.Content.{parked_at};
 ghost use Rattle.esc_rows.specs.Parked.{ListsParked};
 ghost use Rattle.esc_store.specs.Faults.{IsS1OrS2};
-ghost use Rattle.esc_store.specs.Kept.{Kept, AreParked, with_body, with_parked};
+ghost use Rattle.esc_store.specs.Kept.{Kept, AreParked, with_adopted, with_parked};
 ghost use Rattle.esc_store.specs.Standing.{
   Stands,
   Rest,
   HoldsNow,
-  GoesOn,
+  IsChangePart,
   Follows,
   IsAsBefore,
   IsHonest,
   IsStoreRead,
+  listed_by,
   store_in,
-  count_of,
 };
 
 use crate::change::Change;
@@ -91,14 +90,11 @@ impl<S: Alter> Store<S> {
 impl<'a, S: Alter> Change<'a, S> {
     /// Parks a body under its SHA-256. `S1`, also if one is parked under it already; `S2`.
     pub fn park(&mut self, digest: &[u8; 32], body: &[u8]) -> Result<(), SFault>
-        ensures goes_on { GoesOn S.Store self.old self.new }
-        ensures count { count_of self.new ≡ count_of self.old }
-        ensures parked { OnOk result ((before k : Kept) → Rest S.Store self.old before k
-            → Rest S.Store self.new before (with_parked k digest.now (Some body.now))) }
+        ensures part { IsChangePart S.Store self.old self.new result
+            (λ k. with_parked k digest.now (Some body.now)) }
+        ensures listed { listed_by self.new ≡ listed_by self.old }
         ensures free { OnOk result (IsHonest S.Store (store_in self.new) → (before k : Kept)
             → Rest S.Store self.old before k → k.parked digest.now ≡ None) }
-        ensures holds { OnOk result ((s : State) → HoldsNow S.Store self.old s
-            → HoldsNow S.Store self.new s) }
         ensures cause { IfErr result IsS1OrS2 }
     {
         let done = insert_parked(&mut self.store.conn, digest, body);
@@ -107,12 +103,9 @@ impl<'a, S: Alter> Change<'a, S> {
 
     /// Removes the body that is parked under this SHA-256, if one is. `S1`, `S2`.
     pub fn unpark(&mut self, digest: &[u8; 32]) -> Result<(), SFault>
-        ensures goes_on { GoesOn S.Store self.old self.new }
-        ensures count { count_of self.new ≡ count_of self.old }
-        ensures dropped { OnOk result ((before k : Kept) → Rest S.Store self.old before k
-            → Rest S.Store self.new before (with_parked k digest.now None)) }
-        ensures holds { OnOk result ((s : State) → HoldsNow S.Store self.old s
-            → HoldsNow S.Store self.new s) }
+        ensures part { IsChangePart S.Store self.old self.new result
+            (λ k. with_parked k digest.now None) }
+        ensures listed { listed_by self.new ≡ listed_by self.old }
         ensures cause { IfErr result IsS1OrS2 }
     {
         let done = delete_parked(&mut self.store.conn, digest);
@@ -137,18 +130,14 @@ impl<'a, S: Alter> Change<'a, S> {
 
     /// Moves the body that is parked under a SHA-256 to a listed row: it is the row's body then, and
     /// is parked no more. `S1`, also if none is parked under it or the row has a body already; `S2`.
-    #[tactic(auto, using(crate::specs::StandingLaws::goes_then))]
     pub fn adopt(&mut self, row: usize, digest: &[u8; 32]) -> Result<(), SFault>
-        ensures goes_on { GoesOn S.Store self.old self.new }
-        ensures count { count_of self.new ≡ count_of self.old }
-        ensures adopted { OnOk result (IsHonest S.Store (store_in self.new)
-            → (before k : Kept) → k.bodies row ≡ None → Rest S.Store self.old before k
-            → (body : List ℕ) × (k.parked digest.now ≡ Some body)
-            × Rest S.Store self.new before (with_parked (with_body k row body) digest.now None)) }
+        ensures part { IsChangePart S.Store self.old self.new result
+            (λ k. with_adopted k row digest.now (k.parked digest.now)) }
+        ensures listed { listed_by self.new ≡ listed_by self.old }
+        ensures parked { OnOk result (IsHonest S.Store (store_in self.new) → (before k : Kept)
+            → Rest S.Store self.old before k → IsSome (k.parked digest.now)) }
         ensures free { OnOk result (IsHonest S.Store (store_in self.new) → (before k : Kept)
             → Rest S.Store self.old before k → k.bodies row ≡ None) }
-        ensures holds { OnOk result ((s : State) → HoldsNow S.Store self.old s
-            → HoldsNow S.Store self.new s) }
         ensures cause { IfErr result IsS1OrS2 }
     {
         let found = self.find_parked(digest)?;

@@ -109,7 +109,6 @@ impl<'a, S: Alter> Registry for Change<'a, S> {
       goes_on = record {
         same_reference = refl;
         manifest = refl;
-        listed = refl;
         writes = refl;
         survives = record {
           clean = Prim.omega arith;
@@ -121,6 +120,7 @@ impl<'a, S: Alter> Registry for Change<'a, S> {
         };
         began = λ k h. h;
       };
+      listed = refl;
       rest = λ before k h. h;
     } };
 
@@ -128,12 +128,12 @@ impl<'a, S: Alter> Registry for Change<'a, S> {
       goes_on = record {
         same_reference = q.goes_on.same_reference ∙ p.goes_on.same_reference;
         manifest = q.goes_on.manifest ∙ p.goes_on.manifest;
-        listed = q.goes_on.listed ∙ p.goes_on.listed;
         writes = q.goes_on.writes ∙ p.goes_on.writes;
         survives = survives_then _ _ _ _ _ _ (λ _ db none. none)
             (λ _ db none. none) p.goes_on.survives q.goes_on.survives;
         began = λ k h. q.goes_on.began k (p.goes_on.began k h);
       };
+      listed = q.listed ∙ p.listed;
       rest = λ before k h. q.rest before k (p.rest before k h);
     } };
 

@@ -21,15 +21,18 @@ ghost use Rattle.sqlite.specs.Held.{state};
 ghost use Rattle.esc_rows.specs.Schema.{store_schema};
 ghost use Rattle.esc_store.specs.Faults.{IsS1OrS2};
 ghost use Rattle.esc_manifest.specs.declared.row.MRow.{MRow};
-ghost use Rattle.esc_store.specs.Opening.{IsAsItWas, IsFoundingFault, IsOpeningFault};
+ghost use Rattle.esc_store.specs.Opening.{
+  IsAsItWas,
+  IsFoundingFault,
+  IsRefused,
+  IsNewStore,
+  IsOpened,
+};
 ghost use Rattle.esc_store.specs.Kept.{Kept, fresh, with_registry};
 ghost use Rattle.esc_apply.specs.Registry.{State};
 ghost use Rattle.esc_store.specs.StoreTables.{IsBlank, IsStore, IsOfVersion};
 ghost use Rattle.esc_store.specs.Standing.{
   Stands,
-  Began,
-  Rest,
-  HoldsNow,
   BeganIn,
   RestIn,
   HoldsIn,
@@ -39,15 +42,13 @@ ghost use Rattle.esc_store.specs.Standing.{
   LeavesNoMore,
   IsHonest,
   IsGivenUp,
+  IsNewChange,
   Settles,
   StoreLeavesNoMore,
-  listed_by,
   connection_of,
   rows_of,
   writes_of,
-  store_in,
   store_name,
-  count_of,
 };
 ghost use Rattle.sqlite.specs.State.{HasCleanDisk};
 
@@ -92,9 +93,7 @@ impl<S: Alter> Store<S> {
         connection: Connection<S>,
         manifest: &Manifest,
     ) -> Result<Store<S>, (SFault, Connection<S>)>
-        ensures created { IfOk result (λ store. Stands S.Store store (fresh manifest.now)) }
-        ensures left { IfOk result (λ store. LeavesOnly S.Store store (fresh manifest.now)) }
-        ensures writes { IfOk result (λ store. writes_of store ≡ 0) }
+        ensures created { IfOk result (IsNewStore S.Store (fresh manifest.now)) }
         ensures blank { OnOk result (IsBlank (state S.Store connection).now) }
         ensures unchanged { IfErr result
             (λ e. IsAsItWas (state S.Store connection) (state S.Store e.1)) }
@@ -134,22 +133,10 @@ impl<S: Alter> Store<S> {
         alloc: Global,
         connection: Connection<S>,
     ) -> Result<Store<S>, (SFault, Connection<S>)>
-        ensures stands { IfOk result (λ store. IsHonest S.Store store → (k : Kept)
-            → HoldsKept S.Store connection k → Stands S.Store store k) }
-        ensures found { IfOk result (λ store. IsHonest S.Store store → (k : Kept)
-            → IsStore (state S.Store connection).committed.trees k → Stands S.Store store k) }
-        ensures left { IfOk result (λ store. (k : Kept)
-            → IsStore (state S.Store connection).committed.trees k → LeavesOnly S.Store store k) }
-        ensures writes { IfOk result (λ store. writes_of store ≡ 0) }
-        ensures version { IfOk result (λ store. IsHonest S.Store store
-            → IsOfVersion (state S.Store connection).now) }
-        ensures never { IfErr result (λ e. e.0 ≡ SFault.S3 → HasCleanDisk (state S.Store e.1)
-            → IsTrue (state S.Store e.1).is_open → (k : Kept)
-            → IsStore (state S.Store connection).committed.trees k → ⊥) }
-        ensures unchanged { IfErr result
-            (λ e. IsAsItWas (state S.Store connection) (state S.Store e.1)) }
-        ensures cause { IfErr result
-            (λ e. IsOpeningFault store_schema (state S.Store connection) e.0) }
+        ensures opened { IfOk result
+            (IsOpened S.Store (HoldsKept S.Store connection) IsStore IsOfVersion connection) }
+        ensures refused { IfErr result (λ e. IsRefused store_schema IsStore
+            (state S.Store connection) (state S.Store e.1) e.0) }
         ensures survives { MatchResult result
             (λ store. LeavesNoMore S.Store connection (connection_of store))
             (λ e. LeavesNoMore S.Store connection e.1) }
@@ -204,20 +191,7 @@ impl<S: Alter> Store<S> {
             × ((k : Kept) → Stands S.Store self.old k → Stands S.Store last k))) }
         ensures same_reference { IfOk result (λ change. store_name change
             ≡ self.entry.ghost_name) }
-        ensures count { IfOk result (λ change. count_of change ≡ 0) }
-        ensures writes { IfOk result (λ change. writes_of (store_in change)
-            ≡ writes_of self.old) }
-        ensures manifest { IfOk result (λ change. rows_of (store_in change)
-            ≡ rows_of self.old) }
-        ensures listed { IfOk result (λ change. listed_by change ≡ rows_of self.old) }
-        ensures began { IfOk result (λ change. (k : Kept) → Stands S.Store self.old k
-            → Began S.Store change k) }
-        ensures rest { IfOk result (λ change. (k : Kept) → Stands S.Store self.old k
-            → Rest S.Store change k k) }
-        ensures holds { IfOk result (λ change. (k : Kept) → Stands S.Store self.old k
-            → HoldsNow S.Store change k.registry) }
-        ensures survives { IfOk result
-            (λ change. StoreLeavesNoMore S.Store self.old (store_in change)) }
+        ensures begun { IfOk result (IsNewChange S.Store self.old) }
         ensures cause { IfErr result IsS1OrS2 }
     {
         self.begin_here()?;

@@ -3,7 +3,7 @@
 use crate::files::place_file;
 use crate::stop::Stop;
 use crate::store_file::{Made, Task, use_store};
-use esc_console::DONE;
+use esc_cli::DONE;
 use esc_desk::Desk;
 use esc_envelope::Kind;
 use esc_handover::{BundleRefusal, bundle_of};

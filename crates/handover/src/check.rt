@@ -5,7 +5,7 @@ use crate::stop::{REFUSED, Stop};
 use crate::store_file::Made;
 use esc_chain::{GapLine, Held, gaps_at};
 use esc_check::{Finding, StreamFault, verify_from};
-use esc_console::DONE;
+use esc_cli::DONE;
 use esc_desk::{Desk, End, SFault, Status};
 use esc_envelope::Kind;
 use esc_handover::{Seen, are_listed, is_accepted, lines_of};

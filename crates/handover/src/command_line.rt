@@ -5,8 +5,8 @@ use crate::stop::{Stop, tell_stop};
 use crate::store_file::{Task, use_store};
 use clap::builder::ValueParser;
 use clap::{ArgMatches, Error};
-use esc_console::{Argument, ArgumentForm, DONE, Program, Subcommand, USAGE, tell_answer};
-use esc_usage::or_stop;
+use esc_arguments::or_stop;
+use esc_cli::{Argument, ArgumentForm, DONE, Program, Subcommand, USAGE, print_answer};
 use std::io::Write;
 
 /// The version of the program, and that of the stores that it opens.
@@ -167,7 +167,7 @@ fn command_of<'a>(matches: &ArgMatches<'a>) -> Option<Command<'a>> {
 // Prints the help or the version that was asked for, or what is wrong with the words. Returns the
 // status.
 fn tell_error<O: Write, E: Write>(rt: &HostRuntime, error: &Error, out: &mut O, err: &mut E) -> u8 {
-    match or_stop(rt, "-", tell_answer(rt.alloc(), error, out, err)) {
+    match or_stop(rt, "-", print_answer(rt.alloc(), error, out, err)) {
         Ok(status) => status,
         Err(stop) => tell_stop(rt, err, &Stop::from(stop)),
     }

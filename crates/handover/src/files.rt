@@ -1,7 +1,7 @@
 //! Writes a file in one step.
 
 use crate::stop::Stop;
-use esc_usage::or_stop;
+use esc_arguments::or_stop;
 use std::fs::{self, File};
 use std::io::{Error, ErrorKind, Write};
 

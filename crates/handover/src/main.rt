@@ -39,7 +39,7 @@ mod stop;
 mod store_file;
 
 use command_line::run_words;
-use esc_console::{given_words, tell_invalid_utf8};
+use esc_cli::{given_words, print_invalid_utf8};
 use std::process::ExitCode;
 use stop::{Stop, tell_stop};
 
@@ -51,7 +51,7 @@ fn main(rt: HostRuntime) -> ExitCode {
 fn run(rt: &HostRuntime) -> u8 {
     match given_words(rt, "handover") {
         Ok(Some(given)) => run_words(rt, &given, &mut rt.stdout(), &mut rt.stderr()),
-        Ok(None) => tell_invalid_utf8(&mut rt.stderr()),
+        Ok(None) => print_invalid_utf8(&mut rt.stderr()),
         Err(_) => tell_stop(rt, &mut rt.stderr(), &Stop::NO_MEMORY),
     }
 }

@@ -1,7 +1,7 @@
 //! What the program stops for, and its statuses.
 
 use esc_bundle::NoMemory;
-use esc_console::OneLine;
+use esc_cli::OneLine;
 use esc_desk::SFault;
 use esc_handover::BundleRefusal;
 use std::alloc::{AllocError, AllocFailed};
@@ -18,7 +18,7 @@ const STOPPED: u8 = 3;
 #[derive(Debug, Drop)]
 pub enum Stop {
     /// What stops `restore` too: `E1`, `S1` to `S3`.
-    Shared(esc_usage::Stop),
+    Shared(esc_arguments::Stop),
     /// The tables are no bundle, which was to be at this path.
     Unbundled {
         refusal: BundleRefusal,
@@ -30,7 +30,7 @@ pub enum Stop {
 
 impl Stop {
     /// Out of memory: `S2`.
-    pub const NO_MEMORY: Stop = Stop::Shared(esc_usage::Stop::Store(SFault::S2));
+    pub const NO_MEMORY: Stop = Stop::Shared(esc_arguments::Stop::Store(SFault::S2));
 
     /// The program's status.
     pub fn status(&self) -> u8 {
@@ -70,15 +70,15 @@ fn fmt_unbundled<W: fmt::Write>(
     }
 }
 
-impl From<esc_usage::Stop> for Stop {
-    fn from(stop: esc_usage::Stop) -> Stop {
+impl From<esc_arguments::Stop> for Stop {
+    fn from(stop: esc_arguments::Stop) -> Stop {
         Stop::Shared(stop)
     }
 }
 
 impl From<SFault> for Stop {
     fn from(fault: SFault) -> Stop {
-        Stop::Shared(esc_usage::Stop::Store(fault))
+        Stop::Shared(esc_arguments::Stop::Store(fault))
     }
 }
 

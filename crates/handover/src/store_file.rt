@@ -3,9 +3,10 @@
 use crate::bundle::tables_bundle;
 use crate::check::acceptance;
 use crate::stop::Stop;
+use esc_arguments::check_access;
 use esc_desk::{Desk, SFault};
+use esc_recovery::is_missing;
 use esc_store::Store;
-use esc_usage::{check_access, is_missing};
 use sqlite::{Alter, Connection, Error, ErrorCode};
 use std::alloc::Global;
 

@@ -4,7 +4,7 @@ use crate::fields::unseen_fields;
 use crate::files::{check_folder, place_file, read_file, read_files, slices_of};
 use crate::stop::{Refusal, Stop};
 use esc_bundle::Fault;
-use esc_console::path_in;
+use esc_cli::path_in;
 use esc_envelope::read_envelope;
 use esc_pack::{BundleFault, Source, Sources, TableFiles, bundle_of_files, read_sources};
 use std::collections::BTreeSet;

@@ -6,7 +6,7 @@ use crate::manifest::manifest_at;
 use crate::stop::{Stop, print, tell_stop};
 use clap::builder::ValueParser;
 use clap::{ArgMatches, Error};
-use esc_console::{Argument, ArgumentForm, DONE, Program, Subcommand, USAGE, tell_answer};
+use esc_cli::{Argument, ArgumentForm, DONE, Program, Subcommand, USAGE, print_answer};
 use std::io::Write;
 
 /// What the program is asked to do: the words live for `'a`, and what was matched of them for `'m`.
@@ -232,7 +232,7 @@ fn print_manifest<O: Write>(rt: &HostRuntime, paths: &[&str], out: &mut O) -> Re
 
 // Tells the help or the version that was asked for, or what is wrong with the words.
 fn tell_error<O: Write, E: Write>(rt: &HostRuntime, error: &Error, out: &mut O, err: &mut E) -> u8 {
-    match tell_answer(rt.alloc(), error, out, err) {
+    match print_answer(rt.alloc(), error, out, err) {
         Ok(status) => status,
         Err(error) => tell_stop(rt, err, &Stop::unreadable(rt, "-", &error)),
     }

@@ -3,7 +3,7 @@
 use crate::fields::unseen_fields;
 use crate::files::read_named;
 use crate::stop::{Refusal, Stop, or_stop};
-use esc_console::plain_files;
+use esc_cli::plain_files;
 use esc_pack::{BundleFault, FolderFile, Proposal, Unknown, describe_files, table_named};
 
 /// What no file says, so that the description has placeholders for it.

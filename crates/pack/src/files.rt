@@ -2,7 +2,7 @@
 
 use crate::stop::{Refusal, Stop, or_stop};
 use esc_bundle::MOST_BYTES;
-use esc_console::{Links, path_in, read_whole};
+use esc_cli::{Links, path_in, read_whole};
 use std::fs::{self, File};
 use std::io::{Error, ErrorKind, Write};
 

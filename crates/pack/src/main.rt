@@ -28,7 +28,7 @@
 //! | `files` | reads bundles and files, and writes a bundle in one step |
 //! | `stop` | what the program stops for, its text and its status |
 //!
-//! What `restore` does alike is in [`esc_console`]: the commands as `clap` is told of them, the
+//! What `restore` does alike is in [`esc_cli`]: the commands as `clap` is told of them, the
 //! reading of files and folders, and names on one line.
 //!
 //! By proof: that no call is unsafe and that each ends, whatever the words and files are.
@@ -43,7 +43,7 @@ mod manifest;
 mod stop;
 
 use command_line::run_words;
-use esc_console::{given_words, tell_invalid_utf8};
+use esc_cli::{given_words, print_invalid_utf8};
 use std::process::ExitCode;
 use stop::{Stop, tell_stop};
 
@@ -55,7 +55,7 @@ fn main(rt: HostRuntime) -> ExitCode {
 fn run(rt: &HostRuntime) -> u8 {
     match given_words(rt, "pack") {
         Ok(Some(given)) => run_words(rt, &given, &mut rt.stdout(), &mut rt.stderr()),
-        Ok(None) => tell_invalid_utf8(&mut rt.stderr()),
+        Ok(None) => print_invalid_utf8(&mut rt.stderr()),
         Err(_) => tell_stop(rt, &mut rt.stderr(), &Stop::NoMemory),
     }
 }

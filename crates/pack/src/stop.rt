@@ -1,7 +1,7 @@
 //! What the program stops for, its statuses, and its two streams.
 
 use esc_bundle::NoMemory;
-use esc_console::OneLine;
+use esc_cli::OneLine;
 use std::alloc::{AllocError, AllocFailed};
 use std::fmt;
 use std::io::{Error, ErrorKind, Write};

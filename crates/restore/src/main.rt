@@ -33,9 +33,9 @@
 //! where it stops.
 #![tactic(auto)]
 
+use esc_arguments::{NO_MEMORY, print_stop};
+use esc_cli::{given_words, print_invalid_utf8};
 use esc_commands::run_words;
-use esc_console::{given_words, tell_invalid_utf8};
-use esc_usage::{NO_MEMORY, tell_stop};
 use std::net::{Net, TcpListener, TcpStream};
 use std::process::ExitCode;
 
@@ -50,7 +50,7 @@ where
 {
     match given_words(rt, "restore") {
         Ok(Some(given)) => run_words(rt, net, &given, &mut rt.stdout(), &mut rt.stderr()),
-        Ok(None) => tell_invalid_utf8(&mut rt.stderr()),
-        Err(_) => tell_stop(rt, &mut rt.stderr(), &NO_MEMORY),
+        Ok(None) => print_invalid_utf8(&mut rt.stderr()),
+        Err(_) => print_stop(rt, &mut rt.stderr(), &NO_MEMORY),
     }
 }

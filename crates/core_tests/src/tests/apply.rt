@@ -1,107 +1,34 @@
-//! Moves between worked chains, over a registry in memory that may fail at one of its calls.
-
-mod stopping;
+//! Moves of a registry in memory between worked chains.
 
 use super::asserts::assert_told;
-use super::bodies::{BODIES, D2, D2_BOTH, D2_RESENT, D3, D6, F1, F2, F5, I4};
-use super::shown::push_object;
+use super::bodies::{FIRST, RESENT, SECOND, THIRD};
 use esc_apply::{MemRegistry, Registry, Step, Work, common_front, move_chain};
 use esc_bundle::{Fault, NoMemory};
 use esc_envelope::Kind;
 use esc_tables::{Deposit, Key, read_deposit};
 use std::alloc::Global;
-use stopping::{Stopped, Stopping};
 
-/// The indices of a chain's bodies in the list of all.
-type Chain = &'static [usize];
+/// The bodies of a chain's deposits.
+type Chain = &'static [&'static str];
 
-/// The old chain, the new chain, and what is said of the move: how many writes the registry counts
-/// where it stops at the first call, at the second, and so on; and where it does not stop, the
-/// work, the writes that the registry counts, and the domains.
-///
-/// Back: for each step one call for what was noted, and one with a write for each of its keys; or
-/// one for all steps at once. Forward: for each step one call with its contents, and three for each
-/// key that is deleted, of which the last is a write.
-static MOVES: [(Chain, Chain, &str); 9] = [
+/// The old chain, the new chain, and what is said of the move: the work, the writes that the
+/// registry counts in all, and the domains that it has then.
+static MOVES: [(Chain, Chain, &str); 2] = [
     (
         &[],
-        &[F1, D2, D3],
-        "0 3 4 4 4 4 Work { cleared: false, undone: 0, applied: 3, writes: 5 }, 5 in all
-domain name=b.example clID=R1 registrant=C1
-",
+        &[FIRST, SECOND, THIRD],
+        "Work { cleared: false, undone: 0, applied: 3, writes: 5 }, 5 in all: b.example",
     ),
     (
-        &[F1, D2, D3],
-        &[F1, I4],
-        "5 5 6 6 7 Work { cleared: false, undone: 2, applied: 1, writes: 3 }, 8 in all
-domain name=a.example clID=R1 registrant=C1
-domain name=d.example clID=R1 registrant=C1
-",
-    ),
-    (
-        &[F1, D2, D3],
-        &[F1, D2_RESENT, D3],
-        "5 5 6 6 7 9 9 9 9 Work { cleared: false, undone: 2, applied: 2, writes: 5 }, 10 in all
-domain name=b.example clID=R1 registrant=C1
-domain name=c.example clID=R1 registrant=C1
-",
-    ),
-    (
-        &[F1, D2, D3],
-        &[F1, D2],
-        "5 5 Work { cleared: false, undone: 1, applied: 0, writes: 1 }, 6 in all
-domain name=a.example clID=R1 registrant=C1
-domain name=b.example clID=R1 registrant=C1
-",
-    ),
-    (
-        &[F1],
-        &[F1],
-        "Work { cleared: false, undone: 0, applied: 0, writes: 0 }, 3 in all
-domain name=a.example clID=R1 registrant=C1
-",
-    ),
-    // Contents come after deletes.
-    (
-        &[F1],
-        &[F1, D2_BOTH],
-        "3 Work { cleared: false, undone: 0, applied: 1, writes: 1 }, 4 in all
-domain name=a.example clID=R2 registrant=C1
-",
-    ),
-    (
-        &[F1, D2],
-        &[F2],
-        "4 4 Work { cleared: true, undone: 0, applied: 1, writes: 3 }, 7 in all
-domain name=z.example clID=R1 registrant=C1
-",
-    ),
-    (
-        &[F5],
-        &[F5, D6],
-        "4 5 5 5 Work { cleared: false, undone: 0, applied: 1, writes: 2 }, 6 in all
-domain name=e.example clID=R1 registrant=C1
-  domainNs domainName=e.example hostName=ns1.e.example
-domain name=f.example clID=R1 registrant=C9
-",
-    ),
-    (
-        &[F5, D6],
-        &[F5],
-        "6 6 7 Work { cleared: false, undone: 1, applied: 0, writes: 2 }, 8 in all
-domain name=e.example clID=R1 registrant=C1
-  domainNs domainName=e.example hostName=ns1.e.example
-",
+        &[FIRST, SECOND, THIRD],
+        &[FIRST, RESENT, THIRD],
+        "Work { cleared: false, undone: 2, applied: 2, writes: 5 }, 10 in all: b.example c.example",
     ),
 ];
 
-/// The names of all domains that bodies have.
-const NAMES: &str = "a.example b.example c.example d.example e.example f.example z.example";
-
-fn deposits_of(alloc: Global, chain: &[usize]) -> Result<Vec<Deposit>, Fault> {
+fn deposits_of(alloc: Global, chain: &[&str]) -> Result<Vec<Deposit>, Fault> {
     let mut deposits = Vec::new(alloc);
-    for at in chain {
-        let body = BODIES.get(*at).copied().unwrap_or("");
+    for body in chain {
         deposits.push(read_deposit(alloc, body.as_bytes())?)?;
     }
     Ok(deposits)
@@ -124,41 +51,28 @@ fn steps_of(alloc: Global, deposits: &[Deposit]) -> Result<Vec<Step>, NoMemory> 
 // new steps.
 fn move_along(
     alloc: Global,
-    registry: &mut Stopping,
+    registry: &mut MemRegistry,
     old: &[Step],
     new: &[Step],
     deposits: &[Deposit],
-) -> Result<Work, Stopped> {
+) -> Result<Work, NoMemory> {
     let front = common_front(old, new);
     let late = deposits.get(front..).unwrap_or(&[]);
     if old.len() > 4096 || new.len() > 4096 || new.len().checked_sub(front) != Some(late.len()) {
-        return Err(Stopped::NoMemory);
+        return Err(NoMemory);
     }
     move_chain(alloc, registry, old, new, late)
 }
 
 fn go(
     alloc: Global,
-    registry: &mut Stopping,
+    registry: &mut MemRegistry,
     old: &[Deposit],
     new: &[Deposit],
-) -> Result<Work, Stopped> {
+) -> Result<Work, NoMemory> {
     let from = steps_of(alloc, old)?;
     let to = steps_of(alloc, new)?;
     move_along(alloc, registry, &from, &to, new)
-}
-
-fn push_domain(
-    text: &mut String,
-    alloc: Global,
-    registry: &mut MemRegistry,
-    name: &str,
-) -> Result<(), NoMemory> {
-    let key = Key::named(alloc, Kind::Domain, name)?;
-    match registry.get(alloc, &key)? {
-        Some(object) => push_object(text, &object),
-        None => Ok(()),
-    }
 }
 
 fn push_domains(
@@ -166,80 +80,29 @@ fn push_domains(
     alloc: Global,
     registry: &mut MemRegistry,
 ) -> Result<(), NoMemory> {
-    for name in NAMES.split_whitespace() {
-        push_domain(text, alloc, registry, name)?;
-    }
-    Ok(())
-}
-
-// What is said of a move that a registry made, and whether it was whole.
-fn push_run(
-    text: &mut String,
-    alloc: Global,
-    registry: &mut Stopping,
-    moved: Result<Work, Stopped>,
-) -> Result<bool, NoMemory> {
-    let writes = registry.writes();
-    match moved {
-        Ok(work) => {
-            writeln!(text, "{work:?}, {writes} in all")?;
-            push_domains(text, alloc, &mut registry.inner)?;
-            Ok(true)
-        }
-        Err(Stopped::Here) => {
-            write!(text, "{writes} ")?;
-            Ok(false)
-        }
-        Err(Stopped::NoMemory) => Err(NoMemory),
-    }
-}
-
-// What is said of a move where this number of calls is let through before one that fails, and
-// whether it was whole.
-fn push_move(
-    text: &mut String,
-    alloc: Global,
-    old: &[Deposit],
-    new: &[Deposit],
-    calls: u32,
-) -> Result<bool, NoMemory> {
-    let mut r = Stopping {
-        inner: MemRegistry::new(alloc),
-        left: u32::MAX,
-    };
-    if go(alloc, &mut r, &[], old).is_err() {
-        return Err(NoMemory);
-    }
-    r.left = calls;
-    let moved = go(alloc, &mut r, old, new);
-    push_run(text, alloc, &mut r, moved)
-}
-
-// The same for each number of calls, until the move is whole.
-fn push_moves(
-    text: &mut String,
-    alloc: Global,
-    old: &[Deposit],
-    new: &[Deposit],
-) -> Result<(), NoMemory> {
-    for calls in 0u32..16 {
-        if push_move(text, alloc, old, new, calls)? {
-            break;
+    for name in ["a.example", "b.example", "c.example"] {
+        let key = Key::named(alloc, Kind::Domain, name)?;
+        if registry.get(alloc, &key)?.is_some() {
+            write!(text, " {name}")?;
         }
     }
     Ok(())
 }
 
-fn move_told(alloc: Global, old: &[usize], new: &[usize]) -> Result<String, Fault> {
+fn move_told(alloc: Global, old: &[&str], new: &[&str]) -> Result<String, Fault> {
     let old = deposits_of(alloc, old)?;
     let new = deposits_of(alloc, new)?;
-    let mut text = String::new(alloc);
-    push_moves(&mut text, alloc, &old, &new)?;
+    let mut registry = MemRegistry::new(alloc);
+    go(alloc, &mut registry, &[], &old)?;
+    let work = go(alloc, &mut registry, &old, &new)?;
+    let writes = registry.writes();
+    let mut text = format!(in alloc; "{work:?}, {writes} in all:")?;
+    push_domains(&mut text, alloc, &mut registry)?;
     Ok(text)
 }
 
 #[test]
-fn moves_and_faults_at_each_call(rt: HostRuntime) {
+fn moves_of_a_registry_in_memory(rt: HostRuntime) {
     for (old, new, told) in &MOVES {
         assert_told(&rt, *told, move_told(rt.alloc(), old, new), told);
     }

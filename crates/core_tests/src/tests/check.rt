@@ -1,22 +1,15 @@
-//! Findings and exports of small registries: of their tables, and of their objects one at a time.
+//! Findings in tables that are all in memory, and an export of such.
 
 use super::asserts::assert_told;
-use super::bodies::{AFTER_BOTH, AFTER_D6, DATED, EMPTY, FIRST, LATER, WITH_CHILDREN};
-use esc_apply::MapObjects;
+use super::bodies::{AFTER_D6, DATED, WITH_CHILDREN};
 use esc_bundle::{Fault, NoMemory};
-use esc_check::{Finding, StreamFault, export_from, export_rows, verify, verify_from};
+use esc_check::{export_rows, verify};
 use esc_envelope::Kind;
 use esc_tables::{Deposit, read_deposit};
 use std::alloc::Global;
 
 /// A body, and a line for each finding in what it has.
-static FOUND: [(&str, &str); 5] = [
-    (EMPTY, ""),
-    (
-        AFTER_BOTH,
-        "Finding { code: 1, kind: Domain, key: \"a.example\", field: \"clID\", value: \"R2\", other: \"registrar\" }
-",
-    ),
+static FOUND: [(&str, &str); 2] = [
     (
         AFTER_D6,
         "Finding { code: 1, kind: Domain, key: \"e.example\", field: \"hostName\", value: \"ns1.e.example\", other: \"host\" }
@@ -33,27 +26,11 @@ Finding { code: 6, kind: Domain, key: \"g.example\", field: \"exDate\", value: \
 Finding { code: 7, kind: Domain, key: \"h.example\", field: \"crDate\", value: \"2024-03-04\", other: \"\" }
 ",
     ),
-    (
-        LATER,
-        "Finding { code: 1, kind: Domain, key: \"b.example\", field: \"idnTableId\", value: \"I2\", other: \"idn\" }
-",
-    ),
 ];
 
-/// A body, a kind, and the export of its objects.
-static EXPORTS: [(&str, Kind, &str); 4] = [
+/// A kind, and the export of the objects of a body.
+static EXPORTED: [(Kind, &str); 2] = [
     (
-        FIRST,
-        Kind::Domain,
-        "kind,key,table,row,field,value
-domain,a.example,domain,0,name,a.example
-domain,a.example,domain,0,clID,R1
-domain,a.example,domain,0,registrant,C1
-",
-    ),
-    (FIRST, Kind::Nndn, "kind,key,table,row,field,value\n"),
-    (
-        WITH_CHILDREN,
         Kind::Registrar,
         "kind,key,table,row,field,value
 registrar,R1,registrar,0,id,R1
@@ -63,7 +40,6 @@ registrar,R2,registrar,0,name,\"Net, \"\"One\"\"\"
 ",
     ),
     (
-        WITH_CHILDREN,
         Kind::Domain,
         "kind,key,table,row,field,value
 domain,e.example,domain,0,name,e.example
@@ -77,63 +53,30 @@ domain,e.example,domainStatuses,1,status,ok
     ),
 ];
 
-// A line for each finding.
-fn shown(alloc: Global, found: &[Finding]) -> Result<String, NoMemory> {
+fn findings(alloc: Global, deposit: &Deposit) -> Result<String, NoMemory> {
+    let watermark = deposit.header.place.watermark;
     let mut text = String::new(alloc);
-    for finding in found {
+    for finding in &verify(alloc, &deposit.contents, watermark, &deposit.counts)? {
         writeln!(text, "{finding:?}")?;
     }
     Ok(text)
 }
 
-// What a report over a map's objects gives, which fail for want of memory alone.
-fn given<T: Drop>(report: Result<T, StreamFault<NoMemory>>) -> Result<T, NoMemory> {
-    match report {
-        Ok(report) => Ok(report),
-        Err(StreamFault::Source(NoMemory) | StreamFault::NoMemory) => Err(NoMemory),
-    }
-}
-
-// What is found of a deposit's objects, of all at once or one at a time.
-fn findings(alloc: Global, deposit: Deposit, whole: bool) -> Result<Vec<Finding>, NoMemory> {
-    let Deposit {
-        header,
-        counts,
-        contents,
-        ..
-    } = deposit;
-    let watermark = header.place.watermark;
-    if whole {
-        return verify(alloc, &contents, watermark, &counts);
-    }
-    let mut objects = MapObjects::new(contents);
-    given(verify_from(alloc, &mut objects, watermark, &counts))
-}
-
-fn found_told(alloc: Global, body: &str, whole: bool) -> Result<String, Fault> {
-    let found = findings(alloc, read_deposit(alloc, body.as_bytes())?, whole)?;
-    Ok(shown(alloc, &found)?)
+fn found_told(alloc: Global, body: &str) -> Result<String, Fault> {
+    let deposit = read_deposit(alloc, body.as_bytes())?;
+    Ok(findings(alloc, &deposit)?)
 }
 
 #[test]
 fn what_is_found(rt: HostRuntime) {
     for (body, told) in &FOUND {
-        for whole in [true, false] {
-            assert_told(&rt, whole, found_told(rt.alloc(), body, whole), told);
-        }
+        assert_told(&rt, *told, found_told(rt.alloc(), body), told);
     }
 }
 
-// The export of a deposit's objects, of all at once or one at a time.
-fn exported(alloc: Global, deposit: Deposit, kind: Kind, whole: bool) -> Result<Vec<u8>, NoMemory> {
-    if whole {
-        return export_rows(alloc, &deposit.contents, kind);
-    }
-    given(export_from(alloc, &mut MapObjects::new(deposit.contents), kind))
-}
-
-fn export_told(alloc: Global, body: &str, kind: Kind, whole: bool) -> Result<String, Fault> {
-    let bytes = exported(alloc, read_deposit(alloc, body.as_bytes())?, kind, whole)?;
+fn export_told(alloc: Global, kind: Kind) -> Result<String, Fault> {
+    let deposit = read_deposit(alloc, WITH_CHILDREN.as_bytes())?;
+    let bytes = export_rows(alloc, &deposit.contents, kind)?;
     match str::from_utf8(&bytes) {
         Ok(text) => Ok(String::from_str(alloc, text)?),
         Err(_) => Ok(String::new(alloc)),
@@ -142,10 +85,7 @@ fn export_told(alloc: Global, body: &str, kind: Kind, whole: bool) -> Result<Str
 
 #[test]
 fn what_is_exported(rt: HostRuntime) {
-    for (body, kind, told) in &EXPORTS {
-        for whole in [true, false] {
-            let found = export_told(rt.alloc(), body, *kind, whole);
-            assert_told(&rt, whole, found, told);
-        }
+    for (kind, told) in &EXPORTED {
+        assert_told(&rt, *kind, export_told(rt.alloc(), *kind), told);
     }
 }

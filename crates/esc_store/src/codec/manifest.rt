@@ -9,7 +9,7 @@ ghost use Rattle.esc_store.specs.Faults.{IsS1OrS2};
 ghost use Rattle.esc_store.specs.TypedRows.{listed_row, listed_from};
 
 use crate::codec::small;
-use crate::fault::SFault;
+use crate::fault::{DAMAGED, SFault};
 use esc_envelope::{DepositType, Header, Place};
 use esc_manifest::{MRow, Manifest, from_rows};
 use esc_rows::listed::Listed;
@@ -35,7 +35,7 @@ fn type_of(number: u32) -> Result<DepositType, SFault>
         0 => Ok(DepositType::Diff),
         1 => Ok(DepositType::Incr),
         2 => Ok(DepositType::Full),
-        _ => Err(SFault::S1),
+        _ => Err(DAMAGED),
     }
 }
 
@@ -88,7 +88,7 @@ fn accepted(alloc: Global, rows: Vec<MRow>) -> Result<Manifest, SFault>
 {
     match from_rows(alloc, rows) {
         Ok(manifest) => Ok(manifest),
-        Err(_) => Err(SFault::S1),
+        Err(_) => Err(DAMAGED),
     }
 }
 
@@ -98,11 +98,11 @@ pub(crate) fn digest_of(bytes: &[u8]) -> Result<[u8; 32], SFault>
     ensures cause { IfErr result (λ fault. fault ≡ SFault.S1) }
 {
     if bytes.len() != 32 {
-        return Err(SFault::S1);
+        return Err(DAMAGED);
     }
     match bytes.split_first_chunk::<32>() {
         Some((digest, _)) => Ok(*digest),
-        None => Err(SFault::S1),
+        None => Err(DAMAGED),
     }
 }
 

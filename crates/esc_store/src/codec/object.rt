@@ -29,7 +29,7 @@ ghost use Rattle.std.specs.BTreeMap.{IsOrdered};
 ghost use Rattle.esc_tables.specs.KeyName.{KeyName, key_cmp, key_eq};
 ghost use Rattle.esc_store.specs.Pages.{entry_row, stored_row};
 
-use crate::fault::SFault;
+use crate::fault::{DAMAGED, SFault};
 use esc_envelope::Kind;
 use esc_record::{no_record_begins_another, read_record, to_record};
 use esc_rows::object::StoredObject;
@@ -64,7 +64,7 @@ fn kind_of(number: u32) -> Result<Kind, SFault>
         3 => Ok(Kind::Domain),
         4 => Ok(Kind::Idn),
         5 => Ok(Kind::Nndn),
-        _ => Err(SFault::S1),
+        _ => Err(DAMAGED),
     }
 }
 
@@ -80,7 +80,7 @@ pub(crate) fn key_of(alloc: Global, kind: u32, text: &[u8]) -> Result<Key, SFaul
             kind,
             text: String::from_str(alloc, text)?,
         }),
-        Err(_) => Err(SFault::S1),
+        Err(_) => Err(DAMAGED),
     }
 }
 
@@ -91,7 +91,7 @@ pub(crate) fn record_bytes(alloc: Global, object: &Object) -> Result<Vec<u8>, SF
 {
     match to_record(alloc, object)? {
         Some(record) => Ok(record),
-        None => Err(SFault::S1),
+        None => Err(DAMAGED),
     }
 }
 
@@ -102,7 +102,7 @@ pub(crate) fn record_object(alloc: Global, bytes: &[u8]) -> Result<Object, SFaul
 {
     match read_record(alloc, bytes)? {
         Some(object) => Ok(object),
-        None => Err(SFault::S1),
+        None => Err(DAMAGED),
     }
 }
 
@@ -129,7 +129,7 @@ fn add_new<X: Drop>(all: &mut BTreeMap<Key, X>, key: Key, value: X) -> Result<()
 {
     match all.insert(key, value) {
         Ok(None) => Ok(()),
-        Ok(Some(_)) => Err(SFault::S1),
+        Ok(Some(_)) => Err(DAMAGED),
         Err(_) => Err(SFault::S2),
     }
 }

@@ -31,7 +31,7 @@ ghost use Rattle.esc_store.specs.Decoded.{AreOnce};
 ghost use Rattle.esc_store.specs.ReplyValue.{ReceiptValue, reply_kept, reply_alike, replies_from};
 
 use crate::codec::small;
-use crate::fault::SFault;
+use crate::fault::{DAMAGED, SFault};
 use crate::reply::{Receipt, Reply, Verdict};
 use esc_manifest::Manifest;
 use esc_rows::receipt::Receipt as StoredReceipt;
@@ -54,7 +54,7 @@ fn small_count(count: Option<u64>) -> Result<Option<u32>, SFault>
     match count {
         Some(count) => match u32::try_from(count) {
             Ok(count) => Ok(Some(count)),
-            Err(_) => Err(SFault::S1),
+            Err(_) => Err(DAMAGED),
         },
         None => Ok(None),
     }
@@ -126,9 +126,9 @@ fn verdict_of(number: u32, fault: Option<u32>) -> Result<Verdict, SFault>
         (5, None) => Ok(Verdict::A5),
         (3, Some(fault)) => match u8::try_from(fault) {
             Ok(fault) => Ok(Verdict::A3(fault)),
-            Err(_) => Err(SFault::S1),
+            Err(_) => Err(DAMAGED),
         },
-        _ => Err(SFault::S1),
+        _ => Err(DAMAGED),
     }
 }
 
@@ -142,7 +142,7 @@ fn again_of(again: Option<u32>) -> Result<Option<bool>, SFault>
         Some(1) => Ok(Some(true)),
         Some(0) => Ok(Some(false)),
         None => Ok(None),
-        _ => Err(SFault::S1),
+        _ => Err(DAMAGED),
     }
 }
 
@@ -173,7 +173,7 @@ fn listed_of(
     let rows = manifest.rows();
     let at = row as usize;
     if at >= rows.len() {
-        return Err(SFault::S1);
+        return Err(DAMAGED);
     }
     let listed = &rows[at].header;
     let id = String::from_str(alloc, listed.id.as_str())?;

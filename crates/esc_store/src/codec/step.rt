@@ -7,7 +7,7 @@ ghost use Rattle.esc_store.specs.TypedRows.{steps_from};
 ghost use Rattle.esc_store.specs.Kept.{step_at};
 
 use crate::codec::small;
-use crate::fault::SFault;
+use crate::fault::{DAMAGED, SFault};
 use esc_apply::Step;
 use esc_manifest::Manifest;
 use esc_rows::step::ChainStep;
@@ -41,7 +41,7 @@ fn step_of(manifest: &Manifest, stored: ChainStep) -> Result<Step, SFault>
     let rows = manifest.rows();
     let row = stored.row as usize;
     if row >= rows.len() {
-        return Err(SFault::S1);
+        return Err(DAMAGED);
     }
     let listed = &rows[row].header;
     Ok(Step {

@@ -1,15 +1,16 @@
-use Rattle.std.proofs.Common.{rules, ◌≡◌, List, ℕ, None, Some, sym, ap, subst, ◌∙◌}
+use Rattle.std.proofs.Common.{rules, ◌≡◌, List, ℕ, Some, sym, ap, subst, ◌∙◌}
 use Rattle.sha2.specs.Sha256.{sha256}
 use Rattle.esc_tables.specs.Reading.{reading}
 use Rattle.esc_manifest.specs.declared.row.MRow.{MRow}
-use Rattle.esc_store.specs.Kept.{IsFull}
 use Rattle.esc_store.specs.ReplyValue.{ReplyValue, reply_alike}
 use Rattle.esc_store.specs.StandingLaws.{was_honest}
 use Rattle.esc_events.specs.declared.assessment.Assessment.{Assessment}
 use Rattle.esc_events.specs.declared.assessment.Assessment.TheVariants.{Unlisted}
+use Rattle.esc_events.specs.declared.parking.Parking.TheVariants.{Crowded}
 use Rattle.esc_events.specs.ArrivalValue.{an_arrival}
 use Rattle.esc_events.specs.Assessment.{assessment}
 use Rattle.esc_events.specs.Events.{EventValue, union}
+use Rattle.esc_events.specs.Parks.{IsParking}
 use Rattle.esc_events.specs.Taking.{IsAgain}
 use Rattle.esc_desk.specs.declared.decision.Decision.{Decision}
 use Rattle.esc_desk.specs.Answering.{IsAnswer}
@@ -45,7 +46,7 @@ returns-in_ok-decision-in-A2-clause-answers g c = λ clean e n k asked.
     let at = subst (λ (f : Assessment). IsAgain e a k f c.args.reply) found is in
     let place = c.in_ok-decision-in-A2.ensures.place clean k there in
     again_answer at (c.in_ok-decision-in-A2.ensures.decided clean e n k there (arriving_again at knows)) c.in_ok-decision-in-A2.ensures.receipt
-    (subst (λ (d : List ℕ). c.in_ok-found-in-A2.found ≡ Unlisted → (k.parked d ≡ None) × IsFull k.parked → ⊥) c.requires place)
+    (subst (λ (d : List ℕ). c.in_ok-found-in-A2.found ≡ Unlisted → IsParking k.parked d Crowded → ⊥) c.requires place)
 
 pub returns-in-A1-clause-answers : goal.returns-in-A1-clause-answers
 returns-in-A1-clause-answers g c = λ clean e n k asked.

@@ -1,12 +1,13 @@
 use Rattle.std.proofs.Common.{rules, ◌≡◌, List, ℕ, None, sym, ap, subst, ◌∙◌}
 use Rattle.sha2.specs.Sha256.{sha256}
 use Rattle.esc_tables.specs.Reading.{reading}
-use Rattle.esc_store.specs.Kept.{IsFull}
 use Rattle.esc_store.specs.ReplyValue.{reply_alike}
 use Rattle.esc_store.specs.StandingLaws.{was_honest}
 use Rattle.esc_events.specs.declared.assessment.Assessment.TheVariants.{Unlisted}
+use Rattle.esc_events.specs.declared.parking.Parking.TheVariants.{Crowded}
 use Rattle.esc_events.specs.ArrivalValue.{an_arrival}
 use Rattle.esc_events.specs.Events.{union}
+use Rattle.esc_events.specs.Parks.{IsParking}
 use Rattle.esc_events.specs.Receipts.{reply_to}
 use Rattle.esc_desk.proofs.Answered.{new_answer, cause_new}
 use Rattle.esc_desk.proofs.CauseLemmas.{if_err_is}
@@ -34,4 +35,4 @@ returns-clause-answers g c = λ clean e k asked.
     let got = c.in_ok-found.ensures.received e k listed asked.stands_for knows asked.kept_is in
     let place = c.in_ok-decision.ensures.place clean k there in
     new_answer got (c.in_ok-decision.ensures.decided clean e a.number k there (arriving_new got)) c.in_ok-decision.ensures.receipt c.in_ok-found.ensures.reply (listed ∙ asked.stands_for.books.listed)
-    (subst (λ (d : List ℕ). c.in_ok-found.field-0.found ≡ Unlisted → (k.parked d ≡ None) × IsFull k.parked → ⊥) c.requires place)
+    (subst (λ (d : List ℕ). c.in_ok-found.field-0.found ≡ Unlisted → IsParking k.parked d Crowded → ⊥) c.requires place)

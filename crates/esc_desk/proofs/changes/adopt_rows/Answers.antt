@@ -1,11 +1,10 @@
-use Rattle.std.proofs.Common.{◌≡◌, ◌+◌, List, ℕ, Option, None, drop, get_or, sym, ap, ◌∙◌}
+use Rattle.std.proofs.Common.{◌≡◌, ◌+◌, List, ℕ, drop, get_or, sym, ap, ◌∙◌}
 use Rattle.std.proofs.lemmas.List.{at_drop_more}
 use Rattle.esc_manifest.specs.declared.row.MRow.{MRow}
 use Rattle.esc_manifest.specs.ManifestRows.{row_at, no_row}
-use Rattle.esc_store.specs.Kept.{with_body, with_parked}
-use Rattle.esc_store.specs.StandingLaws.{was_clean}
-use Rattle.esc_events.specs.Amended.{with_adopted, with_all_adopted}
-use Rattle.esc_desk.proofs.EditSteps.{uncommitted, uncommitted_then}
+use Rattle.esc_store.specs.Kept.{with_adopted}
+use Rattle.esc_store.specs.StandingLaws.{goes_then, part_was}
+use Rattle.esc_events.specs.Amended.{with_all_adopted}
 use Rattle.esc_desk.proofs.changes.adopt_rows.Goals as goal
 
 pub loop-row-preserved : goal.loop-row-preserved
@@ -18,18 +17,16 @@ loop-row-preserved g c =
     let d = c.in-Some.listed.now.digest in
     let same : d ≡ (row_at n r).digest = ap (λ (m : MRow). m.digest) (c.in-Some.ensures.lookup.3.1 no_row) in
     record {
-      goes_on = uncommitted_then now.goes_on (uncommitted c.adopt.ensures.goes_on);
-      count = c.adopt.ensures.count ∙ now.count;
+      goes_on = goes_then now.goes_on c.adopt.ensures.part.goes_on;
+      count = c.adopt.ensures.part.count ∙ now.count;
       makes = λ clean before k rest.
-          let so_far = now.makes (was_clean c.adopt.ensures.goes_on.survives clean) before k rest in
-          let made = so_far.0 in
-          let one = c.in_ok-adopt.ensures.adopted clean before made (c.in_ok-adopt.ensures.free clean before made so_far.1) so_far.1 in (
-            with_parked (with_body made r one.0) d None,
-            one.2,
-            ap (λ (o : Option (List ℕ)). with_all_adopted n (with_adopted made r d o) left) (sym one.1)
-                ∙ ap (λ (x : List ℕ). with_all_adopted n (with_adopted made r x (made.parked x)) left) same
+          let so_far = now.makes (part_was c.adopt.ensures.part clean) before k rest in
+          let made = so_far.0 in (
+            with_adopted made r d (made.parked d),
+            c.in_ok-adopt.ensures.part.makes clean before made so_far.1,
+            ap (λ (x : List ℕ). with_all_adopted n (with_adopted made r x (made.parked x)) left) same
                 ∙ sym (at_drop_more (with_all_adopted n made) c.args.adopted.now i 0 c.loop-row-test.true)
                 ∙ so_far.2,
           );
-      holds = λ s h. c.in_ok-adopt.ensures.holds s (now.holds s h);
+      holds = λ s h. c.in_ok-adopt.ensures.part.holds s (now.holds s h);
     }

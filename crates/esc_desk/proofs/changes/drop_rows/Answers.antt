@@ -3,9 +3,8 @@ use Rattle.std.proofs.lemmas.List.{at_drop_more}
 use Rattle.esc_manifest.specs.declared.row.MRow.{MRow}
 use Rattle.esc_manifest.specs.ManifestRows.{row_at, no_row}
 use Rattle.esc_store.specs.Kept.{with_parked}
-use Rattle.esc_store.specs.StandingLaws.{was_clean}
+use Rattle.esc_store.specs.StandingLaws.{goes_then, part_was}
 use Rattle.esc_events.specs.Amended.{with_all_dropped}
-use Rattle.esc_desk.proofs.EditSteps.{uncommitted, uncommitted_then}
 use Rattle.esc_desk.proofs.changes.drop_rows.Goals as goal
 
 pub loop-row-preserved : goal.loop-row-preserved
@@ -18,15 +17,15 @@ loop-row-preserved g c =
     let d = c.in-Some.listed.now.digest in
     let same : d ≡ (row_at n r).digest = ap (λ (m : MRow). m.digest) (c.in-Some.ensures.lookup.3.1 no_row) in
     record {
-      goes_on = uncommitted_then now.goes_on (uncommitted c.unpark.ensures.goes_on);
-      count = c.unpark.ensures.count ∙ now.count;
+      goes_on = goes_then now.goes_on c.unpark.ensures.part.goes_on;
+      count = c.unpark.ensures.part.count ∙ now.count;
       makes = λ clean before k rest.
-          let so_far = now.makes (was_clean c.unpark.ensures.goes_on.survives clean) before k rest in (
+          let so_far = now.makes (part_was c.unpark.ensures.part clean) before k rest in (
             with_parked so_far.0 d None,
-            c.in_ok-unpark.ensures.dropped before so_far.0 so_far.1,
+            c.in_ok-unpark.ensures.part.makes clean before so_far.0 so_far.1,
             ap (λ (x : List ℕ). with_all_dropped n (with_parked so_far.0 x None) left) same
                 ∙ sym (at_drop_more (with_all_dropped n so_far.0) c.args.dropped.now i 0 c.loop-row-test.true)
                 ∙ so_far.2,
           );
-      holds = λ s h. c.in_ok-unpark.ensures.holds s (now.holds s h);
+      holds = λ s h. c.in_ok-unpark.ensures.part.holds s (now.holds s h);
     }

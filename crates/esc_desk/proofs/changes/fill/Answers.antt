@@ -1,8 +1,8 @@
 use Rattle.std.proofs.Common.{refl}
 use Rattle.std.proofs.lemmas.Option.{IfSome_then}
-use Rattle.esc_store.specs.StandingLaws.{was_clean}
+use Rattle.esc_store.specs.StandingLaws.{part_then, part_was, was_clean}
 use Rattle.esc_desk.specs.Edits.{books_edited}
-use Rattle.esc_desk.proofs.EditSteps.{part_then, part_was, stays_put}
+use Rattle.esc_desk.proofs.EditSteps.{stays_put}
 use Rattle.esc_desk.proofs.changes.fill.Goals as goal
 
 pub returns-clause-fills : goal.returns-clause-fills

@@ -25,5 +25,5 @@ returns-clause-decided g c = λ clean e n k stood is none.
           plan.sound (late_move is row none books held moment (plan.latest k there) planned) (ap (λ v. v.items) plan.held)
           (subst (AreHeldBy (noted c.args.receipt k).receipts) (ap (λ v. v.items) (sym plan.told)) is.told);
       idle = λ work cost. late_idle is row none books work;
-      there = λ empty missing. stores_something (decision_by c.args.receipt None (Hold row c.args.body) None (Some c.plan_latest.new.known) (Some c.in_ok-plan.plan)).edit refl empty;
+      there = λ empty. absurd (stores_something (decision_by c.args.receipt None (Hold row c.args.body) None (Some c.plan_latest.new.known) (Some c.in_ok-plan.plan)).edit refl empty);
     }

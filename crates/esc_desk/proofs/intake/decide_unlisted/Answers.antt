@@ -40,7 +40,7 @@ returns-in-Crowded-clause-cause g c = elim c.crowded_fault.ensures.cause [
     refl,
     λ clean k stood.
         let at = subst (IsParking k.parked c.args.digest) c.in-Crowded.is (c.in_ok-parking_of.ensures.parking (was_honest c.crowded_fault.ensures.same clean) k stood) in
-        (at.0, at.1, full.1 clean k (c.in_ok-parking_of.ensures.same.stands k stood)),
+        (at, full.1 clean k (c.in_ok-parking_of.ensures.same.stands k stood)),
   )
   | inr other ↦ inr (edit_fault_then g.S.Store _ _ _ c.args.receipt c.crowded_fault.result c.in_ok-parking_of.ensures.same other)
 ]

@@ -8,7 +8,7 @@ returns-in-Ok-clause-answers g c = inl (record {
   work = _;
   answers = λ clean e serves. c.in-Ok.ensures.answered clean e serves;
   left = λ e doubtful serves left. c.in-Ok.ensures.crash e doubtful serves left;
-  told = text_is _ c.reply_response.result c.reply_response.ensures;
+  sends = text_is _ c.reply_response.result c.reply_response.ensures;
 })
 
 pub returns-in-Err-clause-answers : goal.returns-in-Err-clause-answers
@@ -18,5 +18,5 @@ returns-in-Err-clause-answers g c = inr (record {
   is_one = c.in-Err.ensures.cause;
   cause = c.in-Err.ensures.full;
   left = λ e doubtful serves left. c.in-Err.ensures.crash e doubtful serves left;
-  told = text_is _ c.fault_response.result c.fault_response.ensures;
+  sends = text_is _ c.fault_response.result c.fault_response.ensures;
 })

@@ -1,5 +1,5 @@
 use Rattle.std.proofs.Common.{inl, inr, sym, subst}
-use Rattle.esc_http.specs.Reports.{IsReport}
+use Rattle.esc_reports.specs.Reports.{IsReport}
 use Rattle.esc_http.proofs.AnswerLemmas.{text_is, leaves_still}
 use Rattle.esc_http.proofs.answer.answer_report.Goals as goal
 
@@ -10,7 +10,7 @@ returns-in-Ok-clause-answers g c = (
   inl (record {
     body = c.deref.result.now;
     is = λ clean e serves. subst (IsReport e c.args.what) (sym c.deref.ensures.value) (c.in-Ok.ensures.text clean e serves);
-    told = text_is _ c.report_response.result c.report_response.ensures.text;
+    sends = text_is _ c.report_response.result c.report_response.ensures;
   }),
 )
 
@@ -21,6 +21,6 @@ returns-in-Err-clause-answers g c = (
   inr (record {
     fault = c.in-Err.fault;
     cause = c.in-Err.ensures.cause;
-    told = text_is _ c.fault_response.result c.fault_response.ensures;
+    sends = text_is _ c.fault_response.result c.fault_response.ensures;
   }),
 )

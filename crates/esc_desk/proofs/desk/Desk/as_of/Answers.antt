@@ -51,4 +51,4 @@ returns-clause-whole g c =
 
 pub returns-clause-crash : goal.returns-clause-crash
 returns-clause-crash g c = λ e doubtful served left.
-    if_clean g.S.Store _ _ _ (λ clean. leaves_only g.S.Store _ (e ++ moved c.args.moment ∷ []) ((made g c clean e served).left c.in_ok-decision.ensures.some))
+    if_clean g.S.Store _ _ _ (λ clean. leaves_only g.S.Store _ (e ++ moved c.args.moment ∷ []) [] ((made g c clean e served).left c.in_ok-decision.ensures.some))

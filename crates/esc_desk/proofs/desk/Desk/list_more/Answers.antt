@@ -74,4 +74,4 @@ returns-clause-whole g c =
 
 pub returns-clause-crash : goal.returns-clause-crash
 returns-clause-crash g c = λ more e doubtful served left united.
-    if_clean g.S.Store _ _ _ (λ clean. leaves_only g.S.Store _ (e ++ listed more ∷ []) ((made g c clean more e served united).left c.in_ok-decision.ensures.some))
+    if_clean g.S.Store _ _ _ (λ clean. leaves_only g.S.Store _ (e ++ listed more ∷ []) [] ((made g c clean more e served united).left c.in_ok-decision.ensures.some))

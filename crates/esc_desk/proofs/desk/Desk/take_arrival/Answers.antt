@@ -13,7 +13,7 @@ returns-in-Ok-clause-taken g c = λ clean e served.
 pub returns-in-Ok-clause-crash : goal.returns-in-Ok-clause-crash
 returns-in-Ok-clause-crash g c = λ e doubtful served left.
     subst (λ (x : ArrivalValue). DeskLeavesEvent g.S.Store c.arrive.new.self e doubtful (as_event x) (as_outcome (Done c.in-Ok.reply))) c.arrival.view_is
-    (c.in-Ok.ensures.crash e doubtful served left).answered
+    (c.in-Ok.ensures.crash e doubtful served left)
 
 pub returns-in-Err-clause-taken : goal.returns-in-Err-clause-taken
 returns-in-Err-clause-taken g c = λ clean e served. record {
@@ -25,4 +25,4 @@ returns-in-Err-clause-taken g c = λ clean e served. record {
 pub returns-in-Err-clause-crash : goal.returns-in-Err-clause-crash
 returns-in-Err-clause-crash g c = λ e doubtful served left.
     subst (λ (x : ArrivalValue). DeskLeavesEvent g.S.Store c.arrive.new.self e doubtful (as_event x) (as_outcome (Lost c.in-Err.fault))) c.arrival.view_is
-    (leaves_without g.S.Store c.arrive.new.self e _ (c.in-Err.ensures.crash e doubtful served left))
+    (λ apart known. leaves_without g.S.Store c.arrive.new.self e _ (c.in-Err.ensures.crash e doubtful served left))

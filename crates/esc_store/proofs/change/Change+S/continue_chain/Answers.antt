@@ -1,4 +1,4 @@
-use Rattle.esc_store.proofs.Common.{◌≡◌, ◌+◌, map, arith, refl, sym, if_ok}
+use Rattle.esc_store.proofs.Common.{◌≡◌, ◌+◌, ap, unwrap_or, map, arith, refl, sym, if_ok}
 use Rattle.esc_store.proofs.RowSteps.{books_steps}
 use Rattle.esc_store.proofs.Following.{stepped, goes_step, made_then, holds_all, registry_same, become_turns}
 use Rattle.esc_store.proofs.change.Change+S.continue_chain.Goals as goal
@@ -8,6 +8,9 @@ returns-clause-goes_on g c =
     let at : c.args.front + 1 ≡ c.in_ok-from.from = omega (arith, c.in_ok-from.ensures.number, c.saturating_add.ensures) in
     let done = c.continue_steps_here.ensures in
     goes_step (stepped done.manifest done.writes (done.step (map (λ step. step.row) c.args.steps.now) (rw (c.as_slice.ensures.value, ← at) c.in_ok-stored.ensures.rows)) (become_turns _))
+
+pub returns-clause-listed : goal.returns-clause-listed
+returns-clause-listed g c = ap (unwrap_or c.args.self.now.listing) c.continue_steps_here.ensures.manifest
 
 pub returns-clause-set : goal.returns-clause-set
 returns-clause-set g c = if_ok c.continue_steps_here.result _ (λ x is before k within.

@@ -1,17 +1,14 @@
 use Rattle.esc_store.proofs.Common.{◌∙◌, refl, sym, IfOk-at_ok, was_clean, if_ok, RestIn}
 use Rattle.esc_rows.specs.Rows.{HeldRow}
 use Rattle.esc_store.proofs.RowSteps.{held_turns, books_held, none_in}
-use Rattle.esc_store.proofs.Following.{moved, goes_step, made_all, holds_all, step_is, registry_same}
+use Rattle.esc_store.proofs.Following.{moved, part_step, lists_same, step_is, registry_same}
 use Rattle.esc_store.proofs.change.Change+S.hold_row.Goals as goal
 
-pub returns-clause-goes_on : goal.returns-clause-goes_on
-returns-clause-goes_on g c = goes_step (moved c.settle.ensures c.insert_held-done.ensures.part (held_turns _))
+pub returns-clause-part : goal.returns-clause-part
+returns-clause-part g c = part_step (moved c.settle.ensures c.insert_held-done.ensures.part (held_turns _)) (λ _. refl) (λ k. books_held k _) (λ _ _ _ turn. registry_same turn.is refl refl)
 
-pub returns-clause-held : goal.returns-clause-held
-returns-clause-held g c = made_all (moved c.settle.ensures c.insert_held-done.ensures.part (held_turns _)) _ (λ _. refl) (λ k. books_held k _)
-
-pub returns-clause-holds : goal.returns-clause-holds
-returns-clause-holds g c = holds_all (moved c.settle.ensures c.insert_held-done.ensures.part (held_turns _)) (λ _ _ _ turn. registry_same turn.is refl refl)
+pub returns-clause-listed : goal.returns-clause-listed
+returns-clause-listed g c = lists_same c.args.self.now (moved c.settle.ensures c.insert_held-done.ensures.part (held_turns _))
 
 -- a row that is given a body had none before
 pub returns-clause-free : goal.returns-clause-free

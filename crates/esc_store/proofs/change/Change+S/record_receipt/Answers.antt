@@ -1,14 +1,14 @@
-use Rattle.esc_store.proofs.Common.{◌∙◌, ◌+◌, ap, refl, arith, IfOk-at_ok, IfErr-weaker, if_ok, was_clean, last_number, RestIn}
+use Rattle.esc_store.proofs.Common.{◌∙◌, ◌+◌, ap, unwrap_or, refl, arith, IfOk-at_ok, IfErr-weaker, if_ok, was_clean, last_number, RestIn}
 use Rattle.esc_store.proofs.Reading.{counted}
 use Rattle.esc_store.proofs.RowSteps.{books_receipt}
-use Rattle.esc_store.proofs.Following.{stepped, goes_step, made_all, holds_all, registry_same, become_turns}
+use Rattle.esc_store.proofs.Following.{stepped, part_step, registry_same, become_turns}
 use Rattle.esc_store.proofs.change.Change+S.record_receipt.Goals as goal
 
-pub returns-clause-goes_on : goal.returns-clause-goes_on
-returns-clause-goes_on g c = goes_step (stepped c.add_next_here.ensures.manifest c.add_next_here.ensures.writes c.add_next_here.ensures.step (become_turns _))
+pub returns-clause-part : goal.returns-clause-part
+returns-clause-part g c = part_step (stepped c.add_next_here.ensures.manifest c.add_next_here.ensures.writes c.add_next_here.ensures.step (become_turns _)) (λ _. refl) (λ k. books_receipt k _) (λ _ _ _ turn. registry_same turn.is refl refl)
 
-pub returns-clause-recorded : goal.returns-clause-recorded
-returns-clause-recorded g c = made_all (stepped c.add_next_here.ensures.manifest c.add_next_here.ensures.writes c.add_next_here.ensures.step (become_turns _)) _ (λ _. refl) (λ k. books_receipt k _)
+pub returns-clause-listed : goal.returns-clause-listed
+returns-clause-listed g c = ap (unwrap_or c.args.self.now.listing) c.add_next_here.ensures.manifest
 
 pub returns-clause-number : goal.returns-clause-number
 unfolding RestIn
@@ -24,6 +24,3 @@ returns-clause-full g c = IfErr-weaker c.add_next_here.result _ _ (λ e full is 
     let was = was_clean c.add_next_here.ensures.step.survives clean in
     omega (arith, it.1 _ (made.begun.on was it.0).2, ap last_number (made.books was it.0).receipts, counted k.receipts))
     c.add_next_here.ensures.full
-
-pub returns-clause-holds : goal.returns-clause-holds
-returns-clause-holds g c = holds_all (stepped c.add_next_here.ensures.manifest c.add_next_here.ensures.writes c.add_next_here.ensures.step (become_turns _)) (λ _ _ _ turn. registry_same turn.is refl refl)

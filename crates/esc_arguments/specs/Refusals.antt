@@ -1,0 +1,43 @@
+-- What a word for a moment and the text of a manifest are read as, and what they are refused for.
+use Rattle.std.specs.Prelude.{
+  ◌≡◌,
+  ℕ,
+  ℤ,
+  List,
+  Option,
+  Some,
+  None,
+  option_map,
+  Err,
+  String,
+  string_bytes,
+  codes,
+  if◌then◌else◌,
+}
+use Rattle.std.specs.Str.{bytes_eq}
+use Rattle.esc_envelope.specs.Watermark.{watermark_of}
+use Rattle.esc_manifest.specs.Manifest.{manifest_of}
+use Rattle.esc_manifest.specs.declared.fault.MFault.TheVariants.{Refused, NoMemory}
+use Rattle.esc_store.specs.declared.fault.SFault.TheVariants.{S2}
+use Rattle.esc_arguments.specs.declared.stop.Stop.{Stop}
+use Rattle.esc_arguments.specs.declared.stop.Stop.TheVariants.{Unreadable, Manifest, Moment, Store}
+
+-- the moment that a word names, or none for `latest`; no other word names one
+abbrev pub named_moment : List ℕ → Option (Option ℤ)
+named_moment word =
+    if bytes_eq word (codes "latest") then Some None else option_map Some (watermark_of word)
+
+-- the stop for a word that names no moment: it has the word, or memory was refused for that
+abbrev pub IsMomentStop : List ℕ → Stop → Type 0
+IsMomentStop word (Moment text) = string_bytes text ≡ word
+IsMomentStop word (Store fault) = fault ≡ S2
+IsMomentStop word (Manifest fault) = ⊥
+IsMomentStop word (Unreadable path) = ⊥
+
+-- the stop for a text that isn't read as a manifest: its refusal, or memory was refused
+abbrev pub IsManifestStop : List ℕ → Stop → Type 0
+IsManifestStop text (Manifest (Refused code row)) = manifest_of text ≡ Err (code, row)
+IsManifestStop text (Manifest NoMemory) = Unit {0}
+IsManifestStop text (Moment word) = ⊥
+IsManifestStop text (Store fault) = ⊥
+IsManifestStop text (Unreadable path) = ⊥

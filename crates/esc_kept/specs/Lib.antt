@@ -1,3 +1,0 @@
-pub mod Blank
-pub mod FileImages
-pub mod Rest

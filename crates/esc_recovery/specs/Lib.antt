@@ -1,0 +1,5 @@
+pub mod Blank
+pub mod FileImages
+pub mod Opened
+pub mod PathFaults
+pub mod Rest

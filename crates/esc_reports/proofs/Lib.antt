@@ -1,0 +1,4 @@
+pub mod Listed
+pub mod Pieces
+pub mod StatusLemmas
+pub mod StoreFacts

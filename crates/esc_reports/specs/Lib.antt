@@ -1,0 +1,10 @@
+pub mod GapsText
+pub mod LinksText
+pub mod MomentText
+pub mod ParkedText
+pub mod ReceiptsText
+pub mod ReplyText
+pub mod Reports
+pub mod StatusText
+pub mod Walked
+pub mod Words

@@ -1,0 +1,118 @@
+//! The report of gaps.
+
+ghost use Rattle.std.specs.Prelude.{
+  ◌≡◌,
+  ◌∷◌,
+  [],
+  ◌++◌,
+  IfOk,
+  IfErr,
+  OnOk,
+  string_bytes,
+  option_map,
+};
+ghost use Rattle.esc_chain.specs.GapTexts.{state_text, blocker_text};
+ghost use Rattle.esc_csv.specs.Lines.{line_text};
+ghost use Rattle.esc_store.specs.Faults.{IsS1OrS2};
+ghost use Rattle.esc_reports.specs.GapsText.{heading, gap_line, gap_lines_text, gaps_text};
+ghost use Rattle.esc_reports.specs.ReceiptsText.{or_empty};
+
+use crate::receipts::resend_text;
+use crate::watermark::printed_watermark;
+use esc_bundle::NoMemory;
+use esc_chain::{Blocker, GapLine, State};
+use esc_csv::Lines;
+use esc_store::SFault;
+use std::alloc::{AllocError, Global};
+
+/// The report of gaps: the heading `watermark,type,used,state,blocker,awaited`, and a line for each
+/// of these places. `S1` if a watermark is outside the years 1970 to 2261, as no listed one is;
+/// `S2`.
+pub(crate) fn gaps_text(alloc: Global, gaps: &[GapLine]) -> Result<Vec<u8>, SFault>
+    ensures text { IfOk result (λ text. text.items ≡ gaps_text gaps.now) }
+    ensures cause { IfErr result IsS1OrS2 }
+{
+    let mut lines = Lines::new(alloc);
+    write_heading(&mut lines)?;
+    write_lines(alloc, &mut lines, gaps)?;
+    Ok(lines.into_text()?)
+}
+
+fn write_heading(lines: &mut Lines) -> Result<(), SFault>
+    ensures written { OnOk result (lines.new ≡ lines.old ++ line_text heading) }
+    ensures cause { IfErr result IsS1OrS2 }
+{
+    write_fields(
+        lines,
+        b"watermark",
+        b"type",
+        b"used",
+        b"state",
+        b"blocker",
+        b"awaited",
+    )
+}
+
+fn write_lines(alloc: Global, lines: &mut Lines, gaps: &[GapLine]) -> Result<(), SFault>
+    ensures written { OnOk result (lines.new ≡ lines.old ++ gap_lines_text gaps.now) }
+    ensures cause { IfErr result IsS1OrS2 }
+{
+    for gap in gaps {
+        write_line(alloc, lines, gap)?;
+    }
+    Ok(())
+}
+
+fn write_line(alloc: Global, lines: &mut Lines, gap: &GapLine) -> Result<(), SFault>
+    ensures written { OnOk result (lines.new ≡ lines.old ++ line_text (gap_line gap.now)) }
+    ensures cause { IfErr result IsS1OrS2 }
+{
+    let watermark = printed_watermark(alloc, gap.place.watermark)?;
+    let used = resend_text(alloc, gap.used)?;
+    let state = state_text(alloc, gap.state)?;
+    let blocker = blocker_text(alloc, &gap.blocker)?;
+    let awaited = resend_text(alloc, gap.awaited)?;
+    write_fields(
+        lines,
+        watermark.as_bytes(),
+        gap.place.kind.name().as_bytes(),
+        used.as_bytes(),
+        state.as_bytes(),
+        blocker.as_bytes(),
+        awaited.as_bytes(),
+    )
+}
+
+fn state_text(alloc: Global, state: State) -> Result<String, AllocError>
+    ensures { IfOk result (λ text. string_bytes text ≡ state_text state) }
+{
+    format!(in alloc; "{state}")
+}
+
+fn blocker_text(alloc: Global, blocker: &Option<Blocker>) -> Result<String, NoMemory>
+    ensures { IfOk result (λ text. string_bytes text
+        ≡ or_empty (option_map blocker_text blocker.now)) }
+{
+    match blocker {
+        Some(blocker) => Ok(format!(in alloc; "{blocker}")?),
+        None => Ok(String::new(alloc)),
+    }
+}
+
+fn write_fields<'x>(
+    lines: &mut Lines,
+    watermark: &'x [u8],
+    kind: &'x [u8],
+    used: &'x [u8],
+    state: &'x [u8],
+    blocker: &'x [u8],
+    awaited: &'x [u8],
+) -> Result<(), SFault>
+    ensures written { OnOk result (lines.new
+        ≡ lines.old ++ line_text (watermark.now ∷ kind.now ∷ used.now ∷ state.now ∷ blocker.now
+        ∷ awaited.now ∷ [])) }
+    ensures cause { IfErr result IsS1OrS2 }
+{
+    lines.write(&[watermark, kind, used, state, blocker, awaited])?;
+    Ok(())
+}

@@ -1,0 +1,57 @@
+//! The reports of a desk, and the texts of replies.
+//!
+//! | Call | Text |
+//! |---|---|
+//! | [`report`] | a [`Report`] of a desk, which `restore report`, `restore export` and HTTP give |
+//! | [`reply_text`] | a reply as JSON: an object of eight members, null where there is no value |
+//! | [`receipts_heading`], [`receipt_line`] | the heading of the receipts, and the line of one reply |
+//! | [`end_line`] | the line of the status that says where a chain ends |
+//!
+//! What goes in is a desk (`esc_desk`), or a reply or an end that it gave; what comes out is a text.
+//! The status and the moment are plain lines. The other reports are CSV as `csv` writes it (RFC
+//! 4180, except that lines end with a line feed alone): a heading, and a line for each listed place
+//! (gaps), each finding (links), each reply (receipts), each parked body, or each cell of each
+//! object of a kind (an export). A value that isn't there is empty.
+//!
+//! # Example
+//!
+//! ```text
+//! let text = report(alloc, &mut desk, Report::Gaps)?;   // watermark,type,used,state,blocker,awaited ..
+//! let line = receipt_line(alloc, &reply)?;              // 1,n1,A1,,F1,0,new,0 and a line feed
+//! let json = reply_text(alloc, &reply)?;                // {"copy":"new","fault":null,"id":"F1", ..}
+//! ```
+//!
+//! # What is promised
+//!
+//! [`report`] gives exactly the text that `specs/Reports.antt` (`IsReport`) has for the events that
+//! the desk's store stands for, or `S1`, `S2`; the desk is as it was, and serves what it served.
+//! What a report says of bodies has the premise that no two different ones have the same digest.
+//! The lines are defined in `StatusText.antt`, `GapsText.antt`, `LinksText.antt`,
+//! `ReceiptsText.antt`, `ParkedText.antt`, `MomentText.antt` and `ReplyText.antt`, with the words of
+//! `Words.antt`. `S1` also stands for a watermark without a text: no manifest has such a place, and
+//! no word sets such a moment.
+//!
+//! # Cost
+//!
+//! The links and an export walk the desk's objects one at a time, and hold no map of them. A text is
+//! whole in memory before it is returned.
+#![tactic(auto)]
+
+mod catalog;
+mod gaps;
+mod links;
+mod moment;
+mod parked;
+mod receipts;
+mod reply;
+mod reports;
+mod status;
+mod watermark;
+mod words;
+
+pub use catalog::Report;
+pub use receipts::{receipt_line, receipts_heading};
+pub use reply::reply_text;
+pub use reports::report;
+pub use status::end_line;
+pub use watermark::printed_watermark;

@@ -1,7 +1,0 @@
-use Rattle.std.proofs.Common.{◌≡◌, ◌++◌, drop}
-use Rattle.esc_texts.specs.ReceiptsText.{replies_text}
-use Rattle.esc_texts.proofs.receipts.write_replies.Given as goal
-
--- what was written, and the replies that are left
-abbrev pub invariant-loop-reply : goal.invariant-loop-reply
-invariant-loop-reply l = l.lines ++ replies_text (drop l.reply-index l.replies) ≡ l.fn.lines ++ replies_text l.replies

@@ -1,6 +1,0 @@
-use Rattle.esc_texts.proofs.StatusLineLemmas.{kind_written}
-use Rattle.esc_texts.proofs.status_lines.push_objects.Goals as goal
-
-pub loop-kind-preserved : goal.loop-kind-preserved
-loop-kind-preserved c =
-    kind_written _ _ _ _ _ c.next.new.self c.in-Some.kind.now c.in-Some.count.now c.in-Some.ensures.steps c.name.ensures c.loop-kind.invariant c.in_ok-push_number.ensures

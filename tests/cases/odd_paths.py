@@ -1,0 +1,382 @@
+"""Paths that are no plain files, and files that change while they are read, for FILE, DIR and the manifest; and what a run gets from the
+system beside them: other rights, closed streams, limits. A run has 1 GB of memory, so that what is read without an end would show."""
+import contextlib, os, resource, shutil, signal, socket, stat, threading
+
+from support import TOP
+from support.files import read, write
+from support.messages import put
+from support.outputs import NarrowPipe
+from support.sockets import HOST, free_port
+from support.stage import Failed, Wanted, faults, pieces_of
+from support.stores import copy, is_whole, rows
+
+MANIFEST, DEPOSITS = f'{TOP}/samples/release/manifest.csv', f'{TOP}/samples/release/deposits'
+HEADING = 'receipt,number,verdict,fault,id,resend,copy,orphans\n'
+LISTED, EMPTY, S1, S3 = Wanted(0, 'listed 7\n'), Wanted(0, HEADING), Wanted(3, '', 'S1\n'), Wanted(3, '', 'S3\n')
+WHOLE = Wanted(0, HEADING + ''.join(f'{at},n{at},A1,,{it},new,0\n' for at, it in enumerate(('F1,0', 'D2,0', 'D3,0', 'I4,0', 'D6,0', 'D3,1'), 1)))
+RECEIPTS = ('report', '--store', 'a.db', 'receipts')
+TAKE = ('take', '--store', 'a.db')
+GIGABYTE, NOBODY = 2**30, 65534
+
+
+def refused(path):
+    return Wanted(3, '', f'E1 {path or "(an empty path)"}\n')
+
+
+def manifest_fault(fault):
+    return Wanted(1, '', f'{fault}\n')
+
+
+# ---- what is no plain file
+
+def linked(target):
+    return lambda path: os.symlink(target, path)
+
+
+def sparse(size):
+    def make(path):
+        with open(path, 'ab') as file:
+            file.truncate(size)
+    return make
+
+
+def listening(path):
+    """A socket in the file system. It stays as the listener goes."""
+    with socket.socket(socket.AF_UNIX) as listener:
+        listener.bind(path)
+
+
+# Paths that are refused wherever a plain file or a folder is read, and what makes them, if anything does.
+LONG = 'n/' * 2500
+ODD = {'nothing': linked('gone'), 'loop': linked('loop'), 'socket': listening, 'file/x': None, 'n' * 300: None, LONG: None, 'absent': None}
+
+
+def make_odd(stage, folder='.'):
+    os.makedirs(stage.at(folder), exist_ok=True)
+    for name, make in ODD.items():
+        if make:
+            make(stage.at(f'{folder}/{name}'))
+    stage.write('file', b'')
+
+
+def remove(path):
+    with contextlib.suppress(FileNotFoundError):
+        (os.rmdir if os.path.isdir(path) and not os.path.islink(path) else os.remove)(path)
+
+
+# ---- runs
+
+def bounded(closed=(), user=None, limits=(), ignored=()):
+    """What a child does before it becomes the program: its limits, its user, its closed streams."""
+    def prepare():
+        for what, most in ((resource.RLIMIT_AS, GIGABYTE), *limits):
+            resource.setrlimit(what, (most, most))
+        if user:
+            os.setgid(user)
+            os.setuid(user)
+        for it in closed:
+            os.close(it)
+        for it in ignored:
+            signal.signal(it, signal.SIG_IGN)
+    return prepare
+
+
+def check(stage, words, *wanted, **before):
+    """Runs the program, which must give one of these."""
+    got = stage.end(stage.begin(words, prepare=bounded(**before)))
+    if all(faults(it, got) for it in wanted):
+        stage.compare(' '.join(words), wanted[0], got)
+    return got
+
+
+def make_store(stage, taken=True, store='a.db'):
+    """A store of the second sample, with its folder taken if asked, and its rows."""
+    copy(None, stage.at(store))
+    check(stage, ('init', '--store', store, '--manifest', MANIFEST), LISTED)
+    if taken:
+        check(stage, ('take', '--store', store, DEPOSITS), WHOLE)
+    return rows(stage.at(store))
+
+
+def check_whole(stage, what, before=None, store='a.db'):
+    """Fails if a store is not whole, or not as it was before."""
+    if not is_whole(stage.at(store)) or before not in (None, rows(stage.at(store))):
+        raise Failed(f'{what}: the store has changed')
+
+
+def check_init(stage, manifest, *wanted):
+    """`init` by a manifest. Where it is refused there is no store."""
+    got = check(stage, ('init', '--store', 'new.db', '--manifest', manifest), *wanted)
+    if os.path.exists(stage.at('new.db')) != (got.status == 0):
+        raise Failed(f'manifest {manifest:.40}: whether there is a store')
+    copy(None, stage.at('new.db'))
+
+
+@contextlib.contextmanager
+def beside(work):
+    """Does something again and again in another thread, until the block ends."""
+    going = True
+
+    def repeat():
+        while going:
+            work()
+    worker = threading.Thread(target=repeat)
+    worker.start()
+    try:
+        yield
+    finally:
+        going = False
+        worker.join()
+
+
+# ---- the manifest
+
+# Files in its place, and what comes of each. (The length of /proc/version is told as 0.)
+MANIFESTS = (
+    ('link.csv', linked(MANIFEST), LISTED), ('link2.csv', linked('link.csv'), LISTED), ('.', None, refused('.')), ('', None, refused('')),
+    ('a\nS1', None, refused('a\\nS1')), ('/dev/null', None, refused('/dev/null')), ('/proc/self/mem', None, refused('/proc/self/mem')),
+    ('/proc/version', None, manifest_fault('M2 row 0')), ('/dev/zero', None, refused('/dev/zero')), ('a.pipe', os.mkfifo, refused('a.pipe')),
+    ('pipe.csv', linked('a.pipe'), refused('pipe.csv')), ('long.csv', sparse(4_194_305), manifest_fault('M1 row 0')),
+    ('huge.csv', sparse(5 * 10**9), manifest_fault('M1 row 0')),
+)
+
+
+def test_manifests(stage):
+    """The manifest is a link, a folder, a device, a pipe, or far too long."""
+    make_odd(stage)
+    for name, make, wanted in (*MANIFESTS, *((it, None, refused(it)) for it in ODD)):
+        if make:
+            make(stage.at(name))
+        check_init(stage, name, wanted)
+    # One that somebody has open is not waited for either.
+    holder = os.open(stage.at('a.pipe'), os.O_RDWR)
+    check_init(stage, 'a.pipe', refused('a.pipe'))
+    os.close(holder)
+
+
+def test_a_manifest_that_changes(stage):
+    """A manifest that changes while it is read: what was there of it at some time is read."""
+    path, text = stage.at('m.csv'), read(MANIFEST)
+    parts = [manifest_fault('M3 row 0'), *(manifest_fault(f'M{code} row {row}') for code in (2, 9) for row in range(8))]
+    parts += [Wanted(0, f'listed {row}\n') for row in range(8)]
+    write(path, text)
+    with beside(lambda: (write(path, text), write(path, text[:300]))):
+        for _ in range(30):
+            check_init(stage, 'm.csv', *parts)
+    write(path, text)
+    with open(path, 'ab') as file, beside(lambda: file.tell() < 10**8 and file.write(bytes(10**7))):
+        for _ in range(10):
+            check_init(stage, 'm.csv', LISTED, manifest_fault('M1 row 0'), manifest_fault('M2 row 8'))
+
+
+# ---- the store
+
+# What is in its place, what `init` gives, and what a report does.
+STORES = (
+    ('link.db', linked('linked.db'), [refused('link.db')], [S3]), ('.', None, [refused('.')], [refused('.')]),
+    ('nowhere/a.db', None, [refused('nowhere/a.db')], [S3]), ('loop', None, [refused('loop')], [refused('loop')]),
+    ('socket', None, [refused('socket')], [refused('socket')]), ('file/x', None, [refused('file/x')], [S3]),
+    ('n' * 300, None, [refused('n' * 300)], [refused('n' * 300)]), (LONG, None, [refused(LONG)], [refused(LONG)]),
+    ('absent', None, [LISTED], [EMPTY]), ('empty.db', sparse(0), [LISTED], [EMPTY]),
+    ('text.db', lambda path: write(path, b'words\n' * 1000), [S1], [S1]), ('/dev/null', None, [S1, S3], [S1, S3]),
+    ('/dev/zero', None, [S1, S3], [S1, S3]), ('pipe.db', os.mkfifo, [S1, S3], [S1, S3]), ('', None, [refused('')], [S3]),
+    (':memory:', None, [S1], [S1, S3]),
+)
+LOGS = (os.mkdir, os.mkfifo, linked('no-log'), lambda path: os.symlink(path, path), lambda path: write(path, bytes(range(256)) * 20))
+
+
+def test_stores(stage):
+    """The store is a link, a folder, a device, a pipe, or another file."""
+    make_odd(stage)
+    for store, make, made, told in STORES:
+        if make:
+            make(stage.at(store))
+        check(stage, ('init', '--store', store, '--manifest', MANIFEST), *made)
+        check(stage, ('report', '--store', store, 'receipts'), *told)
+
+
+def test_logs(stage):
+    """What is beside a store in the place of its log is something else."""
+    before, log = make_store(stage), stage.at('a.db-wal')
+    for at, make in enumerate(LOGS):
+        remove(log)
+        make(log)
+        check(stage, RECEIPTS, WHOLE, S1)
+        remove(log)
+        check_whole(stage, f'log {at}', before)
+
+
+def serve(stage, store):
+    """A desk over a store, and its port."""
+    port = free_port()
+    child = stage.begin(['serve', '--store', store, '--port', f'{port}', '--count', '9'])
+    if next(pieces_of(child.stdout), b'') != f'listening {HOST}:{port}\n'.encode():
+        raise Failed(f'{store} is not served')
+    return child, port
+
+
+def test_a_store_by_a_link(stage):
+    """A store that is named by a link is locked by either name, and has by either what was answered before a kill."""
+    make_store(stage)
+    os.symlink('a.db', stage.at('link.db'))
+    check(stage, ('take', '--store', 'link.db', DEPOSITS), WHOLE)
+    child, port = serve(stage, 'link.db')
+    check(stage, RECEIPTS, S1)
+    with socket.create_connection((HOST, port), 10) as client:
+        client.sendall(put('killed', 3, 'abc').encode())
+        client.recv(65_536)
+    child.kill()
+    child.wait()
+    for store in ('link.db', 'a.db'):
+        check(stage, ('report', '--store', store, 'receipts'), Wanted(0, f'{WHOLE.out}7,killed,A5,,,,,\n'))
+
+
+# ---- the folder
+
+NAMES = (b'a\nS1', b'b\x1b[2J', b'c\\', b'd\\\t', b'e\xff')
+TOLD = 'N1 (a name that is no UTF-8)\nN1 a\\nS1\nN1 b\\u{1b}[2J\nN1 c\\\nN1 d\\\\\\t\n'
+
+
+def test_folders(stage):
+    """The folder is a link, a file, a device, a pipe; it holds these and others, or is empty."""
+    make_odd(stage)
+    before = make_store(stage)
+    os.symlink(DEPOSITS, stage.at('deposits'))
+    os.mkfifo(stage.at('pipe'))
+    make_odd(stage, 'mixed')
+    for name in os.listdir(DEPOSITS):
+        shutil.copy(f'{DEPOSITS}/{name}', stage.at('mixed'))
+    for name, make in (('a-link', linked(MANIFEST)), ('to-folder', linked(DEPOSITS)), ('a-pipe', os.mkfifo), ('folder', os.mkdir)):
+        make(stage.at(f'mixed/{name}'))
+    if not os.geteuid():
+        os.mknod(stage.at('mixed/device'), stat.S_IFCHR | 0o666, os.makedev(1, 5))
+    for name in ('named', 'none'):
+        os.mkdir(stage.at(name))
+    for name in NAMES:
+        write(os.path.join(os.fsencode(stage.at('named')), name), b'abc')
+    wanted = {'deposits': WHOLE, 'mixed': WHOLE, 'none': EMPTY, 'named': Wanted(1, HEADING, TOLD)}
+    for folder in (*wanted, *ODD, MANIFEST, '/dev/null', 'pipe', ''):
+        check(stage, (*TAKE, folder), wanted.get(folder, refused(folder)))
+        check_whole(stage, f'{folder:.40}', before)
+
+
+def replaced(make):
+    return lambda path: (os.remove(path), make(path))
+
+
+# How a file of a folder changes once the folder is listed, and what comes of it.
+CHANGES = ((os.remove, None), (replaced(os.mkdir), None), (replaced(linked(MANIFEST)), None), (replaced(linked('/dev/zero')), None),
+           (replaced(os.mkfifo), None), (sparse(17 * 10**6), Wanted(1, '', 'E2 z\n')))
+
+
+@contextlib.contextmanager
+def held_up(stage, *words):
+    """A run that prints its heading, and then waits until the block ends. Its pipe has no room before."""
+    with NarrowPipe(len(HEADING)) as pipe:
+        child = stage.begin(words, out=pipe.writer, prepare=bounded())
+        pipe.writer.close()
+        pipe.wait_until_full(child)
+        yield child
+        b''.join(pieces_of(pipe.reader))
+
+
+def test_files_that_change(stage):
+    """A file of the folder goes, or becomes something else, once the folder is listed."""
+    for at, (change, wanted) in enumerate(CHANGES):
+        make_store(stage, taken=False)
+        folder = f'folder{at}'
+        for name in ('n1', 'z'):
+            write(stage.at(f'{folder}/{name}'), read(f'{DEPOSITS}/n1'))
+        with held_up(stage, *TAKE, folder) as child:
+            change(stage.at(f'{folder}/z'))
+        stage.compare(f'take {folder}', wanted or refused(f'{folder}/z'), stage.end(child))
+        check(stage, RECEIPTS, Wanted(0, f'{HEADING}1,n1,A1,,F1,0,new,0\n'))
+
+
+def test_a_file_that_is_rewritten(stage):
+    """A file of the folder is written anew while it is read: it is held, or another body comes."""
+    make_store(stage, taken=False)
+    path, body = stage.at('folder/n1'), read(f'{DEPOSITS}/n1')
+    write(path, body)
+    with beside(lambda: (write(path, body), write(path, body[:100]))):
+        for _ in range(30):
+            got = stage.end(stage.begin([*TAKE, 'folder']))
+            if (got.status, got.err) not in ((0, b''), (1, b'')) or (b',A1,' in got.out) != (got.status == 0):
+                raise Failed(f'{got}')
+    write(path, body)
+    check(stage, (*TAKE, 'folder'), Wanted(0, part=',n1,A1,,F1,0,'))
+
+
+def test_the_store_in_its_folder(stage):
+    """The store lies in the folder that is taken: it is an arrival that no row lists, and stays locked."""
+    os.mkdir(stage.at('own'))
+    make_store(stage, taken=False, store='own/a.db')
+    shutil.copy(f'{DEPOSITS}/n1', stage.at('own/a'))
+    with held_up(stage, 'take', '--store', 'own/a.db', 'own') as child:
+        check(stage, ('report', '--store', 'own/a.db', 'status'), S1)
+    stage.compare('take own', Wanted(1), stage.end(child))
+    check_whole(stage, 'the store in its folder', store='own/a.db')
+
+
+# ---- rights, streams and limits
+
+def test_rights(stage):
+    """What may not be read, searched or written. (This asks for root.)"""
+    if os.geteuid():
+        return
+    # Another user may not see the folder that the program is in.
+    stage.programs = {'restore': shutil.copy(stage.programs['restore'], stage.at('restore'))}
+    os.chmod(stage.room.name, 0o777)
+    shutil.copy(MANIFEST, stage.at('readable.csv'))
+    for folder, mode in (('closed', 0o700), ('unread', 0o300), ('unsearched', 0o744), ('some', 0o755)):
+        shutil.copytree(DEPOSITS, stage.at(folder))
+        os.chmod(stage.at(folder), mode)
+    os.chown(stage.at('unread'), NOBODY, -1)
+    for path in ('closed/n2', 'some/n4'):
+        os.chmod(stage.at(path), 0o600)
+    for words, path in ((('init', '--store', 'b.db', '--manifest', 'some/n4'), 'some/n4'),
+                        (('init', '--store', 'b.db', '--manifest', 'closed/n1'), 'closed/n1'),
+                        (('init', '--store', 'closed/b.db', '--manifest', 'readable.csv'), 'closed/b.db')):
+        check(stage, words, refused(path), user=NOBODY)
+    before = make_store(stage)
+    for mode in (0o600, 0o644):
+        for end in ('', '-wal'):
+            os.chmod(stage.at(f'a.db{end}'), mode)
+        for words in (RECEIPTS, (*TAKE, 'closed'), ('export', '--store', 'a.db', 'domain')):
+            check(stage, words, refused('a.db'), user=NOBODY)
+    check_whole(stage, 'rights', before)
+    make_store(stage, taken=False)
+    for end in ('', '-wal'):
+        os.chown(stage.at(f'a.db{end}'), NOBODY, NOBODY)
+    check(stage, (*TAKE, 'unread'), refused('unread'), user=NOBODY)
+    check(stage, (*TAKE, 'unsearched'), refused('unsearched'), refused('unsearched/n1'), user=NOBODY)
+    # The receipts before a file that may not be read are the same once it may.
+    check(stage, (*TAKE, 'some'), Wanted(3, ''.join(WHOLE.out.splitlines(keepends=True)[:4]), 'E1 some/n4\n'), user=NOBODY)
+    os.chmod(stage.at('some/n4'), 0o644)
+    check(stage, (*TAKE, 'some'), WHOLE, user=NOBODY)
+
+
+def test_closed_streams(stage):
+    """Standard streams are closed: a store never gets what is printed."""
+    for closed in ((1,), (0, 1), (0, 1, 2), (2,)):
+        for words in (('init', '--store', 'b.db', '--manifest', MANIFEST), (*TAKE, DEPOSITS)):
+            make_store(stage, taken=False)
+            copy(None, stage.at('b.db'))
+            got = stage.end(stage.begin(words, prepare=bounded(closed)))
+            if (got.status, got.err) not in ((0, b''), (3, b'E1 -\n'), (3, b'')):
+                raise Failed(f'{words[0]}, closed {closed}: {got}')
+            check_whole(stage, f'{words[0]}, closed {closed}', store='b.db' if words[0] == 'init' else 'a.db')
+
+
+def test_limits(stage):
+    """The system allows no longer file, or no more open files: what was answered is there."""
+    few, small = (resource.RLIMIT_NOFILE, 4), (resource.RLIMIT_FSIZE, 60_000)
+    for limit, ignored in ((few, ()), (small, ()), (small, (signal.SIGXFSZ,))):
+        make_store(stage, taken=False)
+        got = stage.end(stage.begin([*TAKE, DEPOSITS], prepare=bounded(limits=[limit], ignored=ignored)))
+        out = got.out.decode()
+        allowed = (Wanted(0, out), Wanted(3, out, 'S1\n'), Wanted(-signal.SIGXFSZ, out), refused(DEPOSITS), refused('a.db'))
+        if all(faults(it, got) for it in allowed):
+            raise Failed(f'{limit}: {got}')
+        check_whole(stage, f'{limit}')
+        check(stage, RECEIPTS, Wanted(0, part=out))

@@ -1,0 +1,15 @@
+"""The reports of a desk, as a program prints them and a desk responds with them."""
+from support.stage import text_of
+
+HEADINGS = {
+    'receipts': 'receipt,number,verdict,fault,id,resend,copy,orphans',
+    'parked': 'sha256,bytes',
+    'gaps': 'watermark,type,used,state,blocker,awaited',
+    'links': 'code,kind,key,field,value,other',
+    'export': 'kind,key,table,row,field,value',
+}
+
+
+def report(name, rows=()):
+    """The heading of a report, and its rows."""
+    return text_of([HEADINGS[name], *rows])

@@ -1,0 +1,51 @@
+"""Tests of samples/run_book: which blocks of a page it runs, and that it tells what a page has else than is printed."""
+import contextlib, io, pathlib, runpy, tempfile, unittest
+
+from support import TOP
+
+RUN_PAGE = runpy.run_path(f'{TOP}/samples/run_book')['run_page']
+PAGE = '''# A page
+```
+$ echo one; echo two >&2
+one
+two
+$ seq 4
+1
+...
+4
+```
+```sh
+touch made
+```
+```sh by hand
+false
+```
+```python
+import sys
+print(sys.argv[1])
+```
+```text
+$$ no command
+```
+'''
+
+
+def run_page(text):
+    """Whether a page has what is printed, how many of its blocks are run, and how many are for hands; and what is told."""
+    with tempfile.TemporaryDirectory() as folder, contextlib.redirect_stdout(io.StringIO()) as told:
+        path = pathlib.Path(folder, 'PAGE.md')
+        path.write_text(text)
+        return RUN_PAGE(path, {}, writes=False), told.getvalue()
+
+
+class Pages(unittest.TestCase):
+    def test_blocks_are_run_and_those_for_hands_counted(self):
+        self.assertEqual(run_page(PAGE)[0], (True, 3, 1))
+
+    def test_another_output_is_told(self):
+        for text in (PAGE.replace('\ntwo', '\nthree'), PAGE.replace('\n4\n', '\n5\n'), PAGE.replace('touch made', 'touch no/folder'),
+                     PAGE.replace('print', 'raise ')):
+            with self.subTest(text):
+                ends, told = run_page(text)
+                self.assertEqual(ends[0], False)
+                self.assertIn('something else', told)

@@ -1,0 +1,65 @@
+"""A trial of the program: its runs, in a folder of its own, and what was counted."""
+import collections, os, resource, sys, tempfile
+
+from support.files import write
+from support.sockets import HOST, free_port
+from support.stage import Failed, Stage
+from support.stores import READINGS, is_whole
+
+
+class Trial(Stage):
+    """`restore` with its most memory (in GB), a folder in which wrong inputs are kept, and the counts. It is there in a `with` statement."""
+
+    def __init__(self, program, memory=6, keep=None):
+        super().__init__({'restore': program})
+        self.program, self.most = program, memory * 2**30
+        self.kept = keep or os.path.join(tempfile.gettempdir(), f'wrong-{os.getpid()}')
+        self.counts = collections.Counter()
+
+    def bounded(self):
+        """What a child does before it becomes the program."""
+        resource.setrlimit(resource.RLIMIT_AS, (self.most, self.most))
+
+    def end_of(self, child):
+        """Status, output and refusals of a run. The status of one that does not end in time is None."""
+        try:
+            got = self.end(child)
+        except Failed as late:
+            child.kill()
+            return None, b'', f'{late}'.encode()
+        return got.status, got.out, got.err
+
+    def run(self, *words):
+        return self.end_of(self.begin(words, prepare=self.bounded))
+
+    def serve(self, store, count):
+        """A desk that serves so many connections, and its port."""
+        port = free_port()
+        child = self.begin(['serve', '--store', store, '--port', f'{port}', '--count', f'{count}'], prepare=self.bounded)
+        if child.stdout.readline() != f'listening {HOST}:{port}\n'.encode():
+            sys.exit(f'{store} is not served')
+        return child, port
+
+    def wrong(self, what, expected, got, **files):
+        """Keeps a wrong input, and how to run it again."""
+        self.counts['wrong'] += 1
+        folder = os.path.join(self.kept, f'{self.counts["wrong"]:04d}')
+        for name, content in {**files, 'how': f'{what}\nexpected {expected!r}\ngot {got!r}\n'.encode()}.items():
+            write(os.path.join(folder, name), content)
+        print(f'WRONG {what}: {expected!r:.300}, got {got!r:.300}: {folder}', flush=True)
+
+    def expect(self, what, expected, got, **files):
+        if got != expected:
+            self.wrong(what, expected, got, **files)
+
+    def check_store(self, what, store):
+        """The C library's checks of a store's file."""
+        self.expect(f'{what}: the checks of the C library', True, is_whole(store))
+
+    def texts(self, store):
+        """What the reports and exports print but those of arrivals, by their paths over HTTP."""
+        said = {f'/export/{what}' if command == 'export' else f'/{what}': self.run(command, '--store', store, what)
+                for command, what in READINGS if what not in ('receipts', 'parked')}
+        for path, (status, _, refusals) in said.items():
+            self.expect(f'{path} of {store}', (0, b''), (status, refusals))
+        return {path: text for path, (_, text, _) in said.items()}
