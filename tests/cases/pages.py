@@ -6,7 +6,7 @@ from support import TOP
 from support.stage import Failed
 
 BY_HAND = 'docs/RUNBOOK.md'
-# A page that has commands which are run: sessions, or scripts.
+# A page that has commands which are run: with what they print, or as scripts.
 HAS_COMMANDS = re.compile(r'^\$ |^```(sh|python)$', re.M)
 
 # The page of each program, beside those of all.
