@@ -18,7 +18,7 @@ from running import Program, made_release
 from support import TOP, arguments_over_restore
 
 SOURCE = os.path.join(TOP, 'bench', 'statements', 'main.txt')
-TEXTS = os.path.join(TOP, 'crates', 'esc_rows', 'src')
+TEXTS = os.path.join(TOP, 'crates', 'esc_sql', 'src')
 arguments = arguments_over_restore(__doc__)
 arguments.add_argument('--release', help='a folder that release.py made')
 arguments.add_argument('--deposit', default='full', help='its folder with one Full: full, or growth/N')

@@ -13,7 +13,7 @@ MOST_ROWS, MOST_BYTES = 100_000, 16_777_216
 
 
 def words_of(given):
-    parser = argparse.ArgumentParser(prog='unpack_rde', description=__doc__, epilog='Status: 0 done; 1 the deposit is refused; 2 other words; '
+    parser = argparse.ArgumentParser(prog='unpack_rde', description=__doc__, epilog='Status: 0 done; 1 the deposit is refused; 2 invalid usage; '
                                      '3 a file cannot be read or written.')
     parser.add_argument('deposit', metavar='DEPOSIT', help='the XML document of the deposit')
     parser.add_argument('folder', metavar='OUT', help='the folder that is written; nothing may be there')

@@ -298,12 +298,12 @@ OTHERS = (
 
 
 def check_no_store(stage, line, made, refusal, is_opened):
-    """Compares a refusal of what is no store, which stays as it is. An empty log stays beside a file, and an empty file is a database then."""
+    """Compares a refusal of what is no store, which stays as it is, beside an empty log. An empty file is a database without tables then."""
     made.do(stage)
     names, before = {*names_in(stage.room.name), *(['a.db-wal'] if is_opened else [])}, read(stage.at('a.db')) if is_opened else b''
     stage.check(line, Wanted(3, '', f'{refusal}\n'), program='handover')
     compare('files', '\n'.join(sorted(names)), '\n'.join(names_in(stage.room.name)))
-    if is_opened and len(read(stage.at('a.db-wal'))) > EMPTY_LOG or before and read(stage.at('a.db')) != before:
+    if before and (len(read(stage.at('a.db-wal'))) > EMPTY_LOG or read(stage.at('a.db')) != before):
         raise Failed('a file is changed')
     if is_opened and not before and names_of_tables(stage, 'a.db'):
         raise Failed('an empty file has got tables')
@@ -360,6 +360,17 @@ def test_where_a_bundle_is_not_written(stage):
         check_refused(stage, 'E1 out', status=3, prepare=limit_files)
     with open('/dev/full', 'wb') as full:
         stage.check(CHECK, Wanted(3, '', 'E1 -\n'), program='handover', out=full)
+
+
+def test_progress(stage):
+    """How far the work is stands on standard error, if it is asked for: of a short one, that it begins."""
+    store_of(stage, (FIRST,))
+    lines = run(stage, CHECK, 'handover', (1,)).decode()
+    stage.check(f'{CHECK} --progress', Wanted(1, lines, 'opening a.db\n'), program='handover')
+    stage.check(f'--progress {BUNDLE}', Wanted(2, '', None), program='handover')
+    for line in (BUNDLE, 'page --store a.db page'):
+        stage.check(f'{line} --progress', Wanted(0, '', 'opening a.db\n'), program='handover')
+    check_refused(stage, 'opening a.db\nE1 out', f'{BUNDLE} --progress', 3)
 
 
 # Words that are no command. The last one has a byte that is no UTF-8.

@@ -271,11 +271,19 @@ def gaps_line(seen):
     return False, f'{len(passed)} before the end are missing or blocked, the first {place_text(first.place)} {first.state};'
 
 
+def control_spelled(text):
+    """A text as it is shown: if it has control characters, these and its backslashes are escaped."""
+    if not any(ord(it) < 32 or 127 <= ord(it) < 160 for it in text):
+        return text
+    named = {'\t': '\\t', '\n': '\\n', '\r': '\\r', '\\': '\\\\'}
+    return ''.join(named.get(it) or (f'\\u{{{ord(it):x}}}' if ord(it) < 32 or 127 <= ord(it) < 160 else it) for it in text)
+
+
 def findings_line(seen):
     if not seen.findings:
         return True, ''
     code, kind, key, field, _ = seen.findings[0]
-    return False, f'{len(seen.findings)}, the first V{code} {" ".join(filter(None, (kind, key, field)))};'
+    return False, f'{len(seen.findings)}, the first V{code} {" ".join(filter(None, (kind, control_spelled(key), field)))};'
 
 
 def fields_line(seen):

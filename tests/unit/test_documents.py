@@ -16,8 +16,8 @@ CODES = {'E': 3, 'N': 1, 'M': 13, 'A': 5, 'U': 11, 'S': 5, 'V': 7}
 LISTED = 'UMAV'
 
 MOST_COLUMNS = 100
-# Of all documents together. The goal is 24,000.
-MOST_WORDS = 34_000
+# Of all documents together, outside of fenced code.
+MOST_WORDS = 24_000
 
 # What has a letter or a digit: the bars and rules of tables are no words.
 WORD = re.compile(r'\S*[^\W_]\S*')
@@ -115,7 +115,7 @@ class Documents(unittest.TestCase):
         self.assertEqual({it for it in named if '/out' not in it[1] and not (TOP / it[1]).exists()}, set())
 
     def test_words(self):
-        counts = {it.name: len(WORD.findall(it.read_text('utf-8'))) for it in DOCUMENTS}
+        counts = {it.name: len(WORD.findall('\n'.join(prose(it.read_text('utf-8'))))) for it in DOCUMENTS}
         listed = ', '.join(f'{name} {count}' for name, count in counts.items())
         self.assertLessEqual(sum(counts.values()), MOST_WORDS, listed)
 

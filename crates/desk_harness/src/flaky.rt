@@ -31,8 +31,8 @@ impl Failures {
     }
 }
 
-/// A disk that passes calls on to another, except for those that fail. It is a `Fuse` (`sqlite_disk`)
-/// whose calls may pass again.
+/// A disk that passes calls on to another, except for those that fail. It is a `Fuse`
+/// (`sqlite_disk`) whose calls may pass again.
 #[derive(Drop)]
 pub struct FlakyDisk<D: Disk> {
     inner: D,

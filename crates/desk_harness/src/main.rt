@@ -47,9 +47,9 @@
 //! It ends with its input. Where memory runs out, a statement is refused or a file can't be read,
 //! it ends with a line on standard error and status 1.
 //!
-//! By proof: that no call is unsafe and that each ends; and that a file whose calls fail is a `Disk`
-//! (`sqlite_disk`), so that what is proved of every disk holds of it. The other functions have no
-//! clause.
+//! By proof: that no call is unsafe and that each ends; and that a file whose calls fail is a
+//! `Disk` (`sqlite_disk`), so that what is proved of every disk holds of it. The other functions
+//! have no clause.
 //!
 //! # Example
 //!

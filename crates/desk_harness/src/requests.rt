@@ -1,5 +1,5 @@
-//! Requests to a desk, over memory: of clients that break off, and of slow ones, by a clock that moves
-//! only while one is waited for.
+//! Requests to a desk, over memory: of clients that break off, and of slow ones, by a clock that
+//! moves only while one is waited for.
 
 use crate::input::split;
 use crate::texts::push_bytes;
@@ -218,8 +218,8 @@ fn push_response<S: Alter + Drop>(
     Ok(())
 }
 
-/// Serves the request in a file to a client that takes its response slowly, and adds what came of it,
-/// and the time.
+/// Serves the request in a file to a client that takes its response slowly, and adds what came of
+/// it, and the time.
 pub fn push_taken<S: Alter + Drop>(
     rt: &HostRuntime,
     text: &mut String,

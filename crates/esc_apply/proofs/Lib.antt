@@ -2,7 +2,7 @@ pub mod Chains
 pub mod Counts
 pub mod Few
 pub mod Fronts
-pub mod Keys
+pub mod KeyLemmas
 pub mod Listings
 pub mod Mentions
 pub mod Runs

@@ -11,7 +11,7 @@ use Rattle.esc_tables.specs.DepositValue.{DepositValue}
 use Rattle.esc_apply.specs.Tables.{deletes_of, mentioned, mentions, says, mention_count}
 use Rattle.esc_apply.specs.Changes.{Change, with_object, without}
 use Rattle.esc_tables.specs.KeyLaws.{keys_total, keys_exact, key_itself}
-use Rattle.esc_apply.proofs.Keys.{Keys, one, two, keys}
+use Rattle.esc_apply.proofs.KeyLemmas.{Keys, one, two, keys}
 use Rattle.esc_apply.proofs.Runs.{AreChangesOf}
 
 -- what shall be at a key, if a change is of it

@@ -8,8 +8,8 @@ use Rattle.esc_tables.specs.KeyName.{KeyName, key_eq}
 use Rattle.esc_tables.specs.DepositValue.{DepositValue}
 use Rattle.esc_apply.specs.Tables.{mentions, says, mention_count}
 use Rattle.esc_apply.specs.Registry.{State, nothing, taken, changed, stepped, restored, IsEntriesOf}
-use Rattle.esc_apply.specs.declared.registry.Targets.{Targets}
-use Rattle.esc_apply.specs.declared.registry.Targets.TheVariants.{Free, Any}
+use Rattle.esc_apply.specs.declared.registry.Keys.{Keys}
+use Rattle.esc_apply.specs.declared.registry.Keys.TheVariants.{Vacant, Unknown}
 use Rattle.esc_apply.specs.Changes.{Change, changed_by, AreNew, AreFirst, CanBePut, written_by}
 use Rattle.esc_apply.specs.ChangeLaws.{Noted, changed_by-append, content-written_by, content-changed_by, undo-changed_by, undo-changed_by_other, undo-written_by, new_rest, new_first, new_then, Returns}
 
@@ -18,9 +18,9 @@ fresh_all : (s : State) (j : ℕ) (ks : List KeyName) → s.undo j ≡ nothing �
 fresh_all s j [] none = tt
 fresh_all s j (k ∷ ks) none = ((λ i. none i k), fresh_all s j ks none)
 
-pub put_new : (targets : Targets) (s : State) (j : ℕ) (es : List Change) → CanBePut targets s j es → AreNew s j es
-put_new Free s j es are = are.new
-put_new Any s j es are = are
+pub put_new : (targets : Keys) (s : State) (j : ℕ) (es : List Change) → CanBePut targets s j es → AreNew s j es
+put_new Vacant s j es are = are.new
+put_new Unknown s j es are = are
 
 -- of a registry without objects
 pub first_all : (s : State) (j : ℕ) (es : List Change) → ((q : KeyName) → s.content q ≡ None) → AreNew s j es → AreFirst s j es

@@ -31,8 +31,8 @@ use Rattle.esc_tables.specs.KeyName.{KeyName, key_eq}
 use Rattle.esc_tables.specs.KeyLaws.{keys_alike, one_key}
 use Rattle.esc_tables.specs.ObjectValue.{ObjectValue}
 use Rattle.esc_apply.specs.Registry.{State, Content, with_key, written, changed}
-use Rattle.esc_apply.specs.declared.registry.Targets.{Targets}
-use Rattle.esc_apply.specs.declared.registry.Targets.TheVariants.{Free, Any}
+use Rattle.esc_apply.specs.declared.registry.Keys.{Keys}
+use Rattle.esc_apply.specs.declared.registry.Keys.TheVariants.{Vacant, Unknown}
 use Rattle.esc_apply.specs.Changes.{Change, changed_by, AreNew, AreFirst, CanBePut, written_by}
 
 -- what was noted of a key, if anything
@@ -229,20 +229,20 @@ first_then s j [] fs are = are
 first_then s j (e ∷ es) fs are =
     first_then (changed s j e.0 e.1) j es fs (first_rest s j e (es ++ fs) are)
 
-put_first : (targets : Targets) (s : State) (j : ℕ) (es fs : List Change)
+put_first : (targets : Keys) (s : State) (j : ℕ) (es fs : List Change)
     → CanBePut targets s j (es ++ fs) → CanBePut targets s j es
-put_first Free = first_first
-put_first Any = new_first
+put_first Vacant = first_first
+put_first Unknown = new_first
 
-put_then : (targets : Targets) (s : State) (j : ℕ) (es fs : List Change)
+put_then : (targets : Keys) (s : State) (j : ℕ) (es fs : List Change)
     → CanBePut targets s j (es ++ fs) → CanBePut targets (changed_by s j es) j fs
-put_then Free = first_then
-put_then Any = new_then
+put_then Vacant = first_then
+put_then Unknown = new_then
 
 -- ---- a run of changes, or of writes, on a registry of which these states are held
 
 -- some state is held from which the changes that are left can be put, and lead to the end
-pub record Fills (Held : State → Type 0) (targets : Targets) (end : State) (j : ℕ)
+pub record Fills (Held : State → Type 0) (targets : Keys) (end : State) (j : ℕ)
     (left : List Change) : Type 0 where
   pub now : State
   pub held : Held now
@@ -250,7 +250,7 @@ pub record Fills (Held : State → Type 0) (targets : Targets) (end : State) (j 
   pub leads : changed_by now j left ≡ end
 
 -- the first of them made
-pub fills_more : (Before After : State → Type 0) (targets : Targets) (end : State) (j : ℕ)
+pub fills_more : (Before After : State → Type 0) (targets : Keys) (end : State) (j : ℕ)
     (es fs left : List Change) → left ≡ es ++ fs → Fills Before targets end j left
     → ((t : State) → Before t → CanBePut targets t j es → After (changed_by t j es))
     → Fills After targets end j fs
@@ -265,7 +265,7 @@ fills_more Before After targets end j es fs left is going made =
     }
 
 -- all of them made
-pub fills_last : (Held : State → Type 0) (targets : Targets) (end : State) (j : ℕ)
+pub fills_last : (Held : State → Type 0) (targets : Keys) (end : State) (j : ℕ)
     (left : List Change) → left ≡ [] → Fills Held targets end j left → Held end
 fills_last Held targets end j left is going =
     let last : Fills Held targets end j [] =

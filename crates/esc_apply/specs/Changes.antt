@@ -4,8 +4,8 @@ use Rattle.std.specs.List.{IsDistinct, AllByRecursion}
 use Rattle.std.specs.Map.{keys_of}
 use Rattle.esc_tables.specs.KeyName.{KeyName, key_eq}
 use Rattle.esc_tables.specs.ObjectValue.{ObjectValue}
-use Rattle.esc_apply.specs.declared.registry.Targets.{Targets}
-use Rattle.esc_apply.specs.declared.registry.Targets.TheVariants.{Free, Any}
+use Rattle.esc_apply.specs.declared.registry.Keys.{Keys}
+use Rattle.esc_apply.specs.declared.registry.Keys.TheVariants.{Vacant, Unknown}
 use Rattle.esc_apply.specs.Registry.{State, written, changed}
 
 -- a key, and the object to be put there, or none
@@ -37,9 +37,9 @@ pub record AreFirst (s : State) (j : ℕ) (es : List Change) : Type 0 where
 
 -- these changes can be made as step j: their keys are new, and have no object where they are said to
 -- be free
-abbrev pub CanBePut : Targets → State → ℕ → List Change → Type 0
-CanBePut Free s j es = AreFirst s j es
-CanBePut Any s j es = AreNew s j es
+abbrev pub CanBePut : Keys → State → ℕ → List Change → Type 0
+CanBePut Vacant s j es = AreFirst s j es
+CanBePut Unknown s j es = AreNew s j es
 
 -- the state after each change in turn, without notes
 abbrev pub written_by : State → List Change → State

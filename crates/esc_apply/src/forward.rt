@@ -31,7 +31,7 @@ ghost use Rattle.esc_apply.specs.Registry.{State, nothing, noted, changed, stepp
 ghost use Rattle.esc_apply.specs.Changes.{without, changed_by, AreNew};
 ghost use Rattle.esc_apply.specs.Images.{chain_state};
 
-use crate::registry::{Registry, Targets};
+use crate::registry::{Keys, Registry};
 use esc_bundle::NoMemory;
 use esc_envelope::DepositType;
 use esc_tables::{Deposit, Key, Object};
@@ -65,7 +65,7 @@ pub fn apply_step<R: Registry>(
         → R.holds registry.new (stepped s pos deposit.now)) }
 {
     let deletes = plain_deletes(alloc, deletes_of(deposit), &deposit.contents)?;
-    registry.put_all(alloc, pos, Targets::Any, &deposit.contents)?;
+    registry.put_all(alloc, pos, Keys::Unknown, &deposit.contents)?;
     remove_deletes(registry, alloc, pos, &deletes)?;
     Ok((deposit.contents.len() + deletes.len()) as u64)
 }
@@ -138,7 +138,7 @@ fn apply_first<R: Registry>(
         → R.holds registry.new (chain_state (deposit.now ∷ []))) }
 {
     let deletes = plain_deletes(alloc, deletes_of(deposit), &deposit.contents)?;
-    registry.put_all(alloc, 1, Targets::Free, &deposit.contents)?;
+    registry.put_all(alloc, 1, Keys::Vacant, &deposit.contents)?;
     remove_deletes(registry, alloc, 1, &deletes)?;
     Ok((deletes.len() + deposit.contents.len()) as u64)
 }

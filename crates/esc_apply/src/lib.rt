@@ -23,7 +23,7 @@
 //! - [`move_chain`]: the steps past the common front are taken back, the last first, and the new
 //!   ones applied. Where nothing is common, all is cleared at once, which is no write. The contents
 //!   of a step are put by one call, `Registry::put_all`; of a first step it is told that no key has
-//!   an object, so that it need look nothing up ([`Targets`]).
+//!   an object, so that it need look nothing up ([`Keys`]).
 //! - [`MemRegistry`]: a registry in memory.
 //! - [`Objects`]: objects one at a time, for a report that need not keep all of them.
 //! - [`MapObjects`]: those of a map in memory.
@@ -57,4 +57,4 @@ pub use map::MapObjects;
 pub use memory::MemRegistry;
 pub use moves::{Work, move_chain};
 pub use objects::Objects;
-pub use registry::{Registry, Targets};
+pub use registry::{Keys, Registry};

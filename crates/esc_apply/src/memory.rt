@@ -8,7 +8,7 @@ ghost use Rattle.esc_tables.specs.KeyName.{KeyName, key_cmp, key_eq};
 ghost use Rattle.esc_apply.specs.Registry.{empty};
 ghost use Rattle.esc_apply.specs.Memory.{noted_at};
 
-use crate::registry::{Registry, Targets};
+use crate::registry::{Keys, Registry};
 use esc_bundle::NoMemory;
 use esc_tables::{Key, Object};
 use std::alloc::Global;
@@ -150,7 +150,7 @@ impl Registry for MemRegistry {
         &mut self,
         alloc: Global,
         step: u32,
-        targets: Targets,
+        targets: Keys,
         objects: &BTreeMap<Key, Object>,
     ) -> Result<(), NoMemory> {
         for (key, object) in objects.iter() {

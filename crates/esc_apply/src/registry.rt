@@ -35,11 +35,11 @@ use std::collections::BTreeMap;
 
 /// What is known of the keys at which objects are put.
 #[derive(Clone, Copy, Debug, PartialEq, Eq)]
-pub enum Targets {
+pub enum Keys {
     /// None of them has an object.
-    Free,
+    Vacant,
     /// Any of them may have one.
-    Any,
+    Unknown,
 }
 
 /// Objects by their keys, and their before-images: by step and key the object that the key had
@@ -113,13 +113,13 @@ pub trait Registry {
             → holds self.new (noted s step key.now (option_copied before.entry))) };
 
     /// Puts objects, in place of earlier ones, and notes for the step what each of their keys had;
-    /// nothing may be noted for this step and any of them yet, and with `Targets::Free` none may
+    /// nothing may be noted for this step and any of them yet, and with `Keys::Vacant` none may
     /// have an object. As many writes as objects.
     fn put_all(
         &mut self,
         alloc: Global,
         step: u32,
-        targets: Targets,
+        targets: Keys,
         objects: &BTreeMap<Key, Object>,
     ) -> Result<(), Self::Error>
         ensures follows { follows self.old self.new }

@@ -67,8 +67,8 @@ Refusals go to standard error, one a line: E1 PATH (can't be read, listed or wri
 E3 MOMENT (it is no watermark), N1 NAME (the name is no number of an arrival), M1 to M13 with the row (the manifest), S1 (the
 store failed), S2 (no memory), S3 (no store, one of another version, or a used database), S4 (the store is full), S5 (1,024
 bundles wait for a row).
-Status: 0 done; 1 the manifest or the moment is refused, or a file was not taken as a listed deposit; 2 other words; 3 stopped
-by S or E1.
+Status: 0 done; 1 the manifest or the moment is refused, or a file was not taken as a listed deposit; 2 invalid usage; 3
+stopped by S or E1.
 ";
 
 const ROUTES: &str = "\
@@ -79,7 +79,7 @@ A connection carries one request. PUT /arrivals/NUMBER takes its body as an arri
     curl -T deposits/n1 http://127.0.0.1:8080/arrivals/n1
     curl http://127.0.0.1:8080/gaps
 
-A connection that fails is told on standard error (read fault, write fault), and the next one is served.
+A connection that fails is reported on standard error (read fault, write fault), and the next one is served.
 ";
 
 const AMENDMENTS: &str = "\
@@ -93,11 +93,11 @@ A store of version 1, which a program before this one made, is S3 to every other
 deposits, chain and tables stay as they are. Version 1 kept no bundle that no row listed: such a receipt says A2. Send the
 bundle again, under the same number: its receipt stays A2, and the bundle is kept until a row lists it, or held if one does.
 
-There is no way back but a copy. Before it, copy FILE, and FILE-wal if it is there. Another database, and a store of this
-version, are S3 and left as they were. Example:
+There is no way back but a copy. Before it, copy FILE, and FILE-wal if it is there. A store of this version is S3, and so is
+another database, whose log may be merged into it. Example:
 
     cp desk.db desk-before.db
-    cp desk.db-wal desk-before.db-wal
+    test ! -e desk.db-wal || cp desk.db-wal desk-before.db-wal
     restore migrate --store desk.db
 ";
 
@@ -243,8 +243,8 @@ static PROGRAM: Program = Program {
     ],
 };
 
-/// The words, matched with the table of commands; the first of them is the program's name. A request
-/// for help or for the version is an `Err`, too.
+/// The words, matched with the table of commands; the first of them is the program's name. A
+/// request for help or for the version is an `Err`, too.
 pub fn matches_of<'a>(alloc: Global, words: &'a [String]) -> Result<ArgMatches<'a>, Error> {
     PROGRAM.matches_of(alloc, words)
 }
@@ -263,8 +263,8 @@ pub fn print_error<O: Write, E: Write>(
     }
 }
 
-/// What the matched words ask for: a manifest that they name is read, and so is a word for a moment.
-/// `clap` makes sure that there is a command with its arguments; else it is `None`.
+/// What the matched words ask for: a manifest that they name is read, and so is a word for a
+/// moment. `clap` makes sure that there is a command with its arguments; else it is `None`.
 pub fn invocation_of<'a>(
     rt: &HostRuntime,
     matches: &ArgMatches<'a>,

@@ -39,10 +39,15 @@ pub fn check_access(rt: &HostRuntime, path: &str) -> Result<(), Stop> {
     }
 }
 
-// The text of a manifest in a plain file, or in one that a link leads to. Of a file that is too long
-// only the first bytes are read, one more than a manifest has at most.
+// The text of a manifest in a plain file, or in one that a link leads to. Of a file that is too
+// long only the first bytes are read, one more than a manifest has at most.
 fn read_manifest_text(rt: &HostRuntime, path: &str) -> Result<Vec<u8>, Stop> {
-    let front = read_front(rt, path, Links::Followed, esc_manifest::MOST_BYTES as u64);
+    let front = read_front(
+        rt,
+        path,
+        Links::Followed,
+        esc_manifest::MOST_MANIFEST_BYTES as u64,
+    );
     or_stop(rt, path, front)
 }
 
@@ -52,8 +57,8 @@ pub(crate) fn manifest_of(rt: &HostRuntime, path: &str) -> Result<Manifest, Stop
     manifest_in(rt.alloc(), &text)
 }
 
-/// The text of an amendment in a file, which is a manifest by itself: the faults that it has so come
-/// before those of the store.
+/// The text of an amendment in a file, which is a manifest by itself: the faults that it has so
+/// come before those of the store.
 pub(crate) fn amendment_of(rt: &HostRuntime, path: &str) -> Result<Vec<u8>, Stop> {
     let text = read_manifest_text(rt, path)?;
     let _ = manifest_in(rt.alloc(), &text)?;

@@ -2,9 +2,9 @@
 //! `restore`, the files that its words name, and the refusals that `handover` has too.
 //!
 //! What goes in: the words of the process, and the paths and the word for a moment in them. What
-//! comes out: an [`Invocation`], the store and the [`Command`] that are asked for, with the manifest
-//! or the moment of that; a body; or a [`Stop`], which has a line for standard error (`E1` to `S5`)
-//! and a status. No store is opened here.
+//! comes out: an [`Invocation`], the store and the [`Command`] that are asked for, with the
+//! manifest or the moment of that; a body; or a [`Stop`], which has a line for standard error (`E1`
+//! to `S5`) and a status. No store is opened here.
 //!
 //! | Module | Does |
 //! |---|---|
@@ -33,11 +33,11 @@
 //!
 //! # What the contracts mean
 //!
-//! By proof no call is unsafe, and each ends, whatever the words and files are. `specs/Refusals.antt`
-//! says what two of them return: `moment_named` the moment that a word names and `manifest_in` the
-//! manifest that a text is read as, or the stop with the word or the refusal. No contract can say what
-//! a file holds or what is printed, so the texts, the statuses and the order of refusals are tested on
-//! the built program, by the cases of `tests/`.
+//! By proof no call is unsafe, and each ends, whatever the words and files are.
+//! `specs/Refusals.antt` says what two of them return: `moment_named` the moment that a word names
+//! and `manifest_in` the manifest that a text is read as, or the stop with the word or the refusal.
+//! No contract can say what a file holds or what is printed, so the texts, the statuses and the
+//! order of refusals are tested on the built program, by the cases of `tests/`.
 #![tactic(auto)]
 
 mod command_line;

@@ -7,8 +7,9 @@ ghost use Rattle.esc_chain.specs.Laws.{
   OneListOfLines,
 };
 
-/// A manifest has one latest chain, up to a moment if there is one, which depends on nothing but the
-/// moment and which rows are held. There is nothing to run: a caller calls it for what it ensures.
+/// A manifest has one latest chain, up to a moment if there is one, which depends on nothing but
+/// the moment and which rows are held. There is nothing to run: a caller calls it for what it
+/// ensures.
 pub fn latest_chain_at_is_one()
     ensures { OneLatestChainAt }
 {}

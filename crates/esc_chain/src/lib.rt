@@ -19,6 +19,8 @@
 //!   the place of the one before. [`latest_chain`] is the chain whose end is the greatest place
 //!   among the ends of all chains: not the longest one, and not the one that grew last. Where there
 //!   is no chain, it is empty. [`latest_chain_at`] is the same of the chains that end by a moment.
+//! - [`goes_at_end`] says whether one more row only makes the latest chain longer: it comes after
+//!   all held rows, and builds on the chain's end. Then there is no need to make the chain anew.
 //! - [`gaps`] has a line for each listed place, in the order of places: which revision of it is
 //!   used, its [`State`], what blocks it if no chain ends there, and which revision is still
 //!   awaited. A [`Blocker`] is the first base on the way back that isn't held or isn't listed: not
@@ -35,8 +37,9 @@
 //! What goes in is a manifest whose rows were accepted and a set of its rows; what comes out are
 //! places and row indices, or a [`GapLine`] a place. The contracts give the exact result by
 //! definitions over all rows and all chains of the manifest: `specs/Base` has bases, `specs/Chain`
-//! has used rows and chains, `specs/Gap` has the lines. The one error is out of memory, and after
-//! it nothing has changed. `base_of` and `used` don't allocate.
+//! has used rows and chains, `specs/AtEnd` has what lengthens a chain, `specs/Gap` has the lines.
+//! The one error is out of memory, and after it nothing has changed. `base_of`, `used` and
+//! `goes_at_end` don't allocate.
 //!
 //! Laws without a body say what follows from the definitions alone: [`latest_chain_at_is_one`],
 //! [`latest_chain_at_rows_are_held`] and [`gap_lines_are_one`]. By [`chains_are_of_rows`], two
@@ -44,6 +47,7 @@
 //! the same are held.
 #![tactic(auto)]
 
+mod at_end;
 mod base;
 mod bases;
 mod gap;
@@ -56,6 +60,7 @@ mod revision;
 mod stops;
 mod unheld;
 
+pub use at_end::goes_at_end;
 pub use base::{Base, base_of};
 pub use gap::{Blocker, GapLine, Id, ListedPlace, State};
 pub use gap_lines::{gaps, gaps_at};

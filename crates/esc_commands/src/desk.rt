@@ -18,7 +18,8 @@ where
     O: Write,
     E: Write,
 {
-    /// Does a command with the desk of its store. `line` is what is printed of a store that was made.
+    /// Does a command with the desk of its store. `line` is what is printed of a store that was
+    /// made.
     pub fn use_desk<S: Alter>(
         &mut self,
         desk: &mut Desk<S>,
@@ -43,8 +44,8 @@ where
     }
 }
 
-// `amend --store FILE --manifest FILE`: lists the rows of one more manifest, whose text this is. The
-// text of the end says how many are new.
+// `amend --store FILE --manifest FILE`: lists the rows of one more manifest, whose text this is.
+// The text of the end says how many are new.
 fn amend<S: Alter>(alloc: Global, desk: &mut Desk<S>, text: &[u8]) -> Result<Ended, Stop> {
     let count = match desk.amend(alloc, text) {
         Ok((count, _work)) => count,

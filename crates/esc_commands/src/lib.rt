@@ -42,14 +42,15 @@
 //! # What is promised
 //!
 //! By proof: that no call is unsafe and that each ends, whatever the words, files and requests are.
-//! What the store at a path serves, and what is left of it, is the contract of
-//! [`esc_recovery::open_desk_at`], [`esc_recovery::new_desk_at`] and [`esc_recovery::close_desk`]; what
-//! it stands for after an arrival, an amendment or a moment that of [`esc_desk::Desk::arrive`],
-//! [`esc_desk::Desk::amend`] and [`esc_desk::Desk::as_of`], and after a migration that of
-//! [`esc_recovery::migrated_desk`]. What a request is answered is that of [`esc_http::serve_one`], how
-//! long its client is waited for that of [`esc_client::TimedStream`], and the texts of reports are that
-//! of [`esc_reports::report`]. No contract can say what a file holds or what is printed, so the texts,
-//! statuses and the order of refusals are tested on the built program, by the cases of `tests/`.
+//! What the desk of a path reflects, and what is left of it, is the contract of
+//! [`esc_recovery::open_desk_at`], [`esc_recovery::new_desk_at`] and [`esc_recovery::close_desk`];
+//! what it stands for after an arrival, an amendment or a moment that of
+//! [`esc_desk::Desk::arrive`], [`esc_desk::Desk::amend`] and [`esc_desk::Desk::as_of`], and after a
+//! migration that of [`esc_recovery::migrated_desk`]. What a request is answered is that of
+//! [`esc_http::serve_one`], how long its client is waited for that of [`esc_client::TimedStream`],
+//! and the texts of reports are that of [`esc_reports::report`]. No contract can say what a file
+//! holds or what is printed, so the texts, statuses and the order of refusals are tested on the
+//! built program, by the cases of `tests/`.
 #![tactic(auto)]
 
 mod commands;

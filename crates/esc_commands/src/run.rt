@@ -20,8 +20,8 @@ impl<N, O: Write, E: Write> Run<'_, N, O, E> {
         or_stop(self.rt, "-", self.out.write_all(text))
     }
 
-    /// Prints a refusal that doesn't stop the program. A failure of standard error is ignored: there
-    /// is nowhere to report it.
+    /// Prints a refusal that doesn't stop the program. A failure of standard error is ignored:
+    /// there is nowhere to report it.
     pub fn print_refusal(&mut self, refusal: &str, name: &str) -> Result<(), Stop> {
         let line = format!(in self.rt.alloc(); "{refusal} {}\n", OneLine(name))?;
         let _ = self.err.write_all(line.as_bytes());

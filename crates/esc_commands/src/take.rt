@@ -46,8 +46,8 @@ impl<N, O: Write, E: Write> Run<'_, N, O, E> {
         Ok(are_held)
     }
 
-    // Takes one file, and says whether its deposit is held. A name that is no number and a body that
-    // is too long are reported, and are no arrivals.
+    // Takes one file, and says whether its deposit is held. A name that is no number and a body
+    // that is too long are reported, and are no arrivals.
     fn take_file<S: Alter>(
         &mut self,
         desk: &mut Desk<S>,

@@ -8,16 +8,16 @@ use Rattle.esc_manifest.specs.ManifestRows.{row_at}
 use Rattle.esc_manifest.specs.Accepted.{IsAccepted}
 use Rattle.esc_manifest.specs.Extension.{new_rows, extended}
 use Rattle.esc_chain.specs.Laws.{LatestChainsAtAreHeldRows}
-use Rattle.esc_store.specs.Kept.{Kept, AreHeld, AreHeldBy, with_listed}
+use Rattle.esc_store.specs.StoreState.{StoreState, AreHeld, AreHeldBy, with_listed}
 use Rattle.esc_store.specs.ReplyValue.{ReceiptValue}
-use Rattle.esc_events.specs.declared.known.Known.{Known}
+use Rattle.esc_events.specs.declared.cache.Cache.{Cache}
 use Rattle.esc_events.specs.declared.plan.Plan.{Plan}
 use Rattle.esc_events.specs.Amended.{judged, adopted_rows, dropped_rows, amended_bodies, amended_kept, with_all_adopted, with_all_dropped}
 use Rattle.esc_events.specs.Events.{EventValue, union}
 use Rattle.esc_events.specs.Events.EventValue.{listed}
-use Rattle.esc_events.specs.Known.{IsKnown}
+use Rattle.esc_events.specs.Cache.{IsCacheOf}
 use Rattle.esc_events.specs.Plans.{AreLatestSteps, IsPlanned}
-use Rattle.esc_events.specs.Stands.{StandsFor, AreBooks}
+use Rattle.esc_events.specs.StateAfter.{IsStateAfter, AreBooks}
 use Rattle.esc_events.specs.Works.{MentionsFew}
 use Rattle.esc_desk.proofs.AmendedBooks.{kept_bodies, books_amended}
 use Rattle.esc_desk.proofs.AmendingKept.{StayBesides, rest_stays}
@@ -33,22 +33,22 @@ use Rattle.esc_desk.proofs.AmendedRows.{held_with_adopted}
 
 -- ---- what is known when the rows of a union are to be listed: the store stands for e, n is the union of its rows and more, this was
 -- judged of the parked bodies, these are the rows of which a body is held then, and the plan goes to the latest steps of those
-pub record IsListing (e : List EventValue) (k : Kept) (more n : List MRow) (known : Known) (told : Judged) (rows : List ℕ) (plan : Plan) : Type 0 where
-  pub stood : StandsFor sha256 reading e k
+pub record IsListing (e : List EventValue) (k : StoreState) (more n : List MRow) (cache : Cache) (told : Judged) (rows : List ℕ) (plan : Plan) : Type 0 where
+  pub stood : IsStateAfter sha256 reading e k
   pub is_union : n ≡ extended k.listed more
   pub first : IsAccepted k.listed
   pub accepted : IsAccepted n
-  pub knows : IsKnown k known
+  pub knows : IsCacheOf k cache
   pub are_judged : AreJudged n k.parked (length k.listed) told
-  pub are_held : rows ≡ known.held.items ++ told.adopted.items
+  pub are_held : rows ≡ cache.held_rows.items ++ told.adopted.items
   pub latest : AreLatestSteps n rows k.moment plan.new.items
   pub planned : IsPlanned k (amended_bodies n k.parked (length k.listed) k.bodies) plan
 
-module _ {e : List EventValue} {k : Kept} {more n : List MRow} {known : Known} {told : Judged} {rows : List ℕ} {plan : Plan} (is : IsListing e k more n known told rows plan) where
+module _ {e : List EventValue} {k : StoreState} {more n : List MRow} {cache : Cache} {told : Judged} {rows : List ℕ} {plan : Plan} (is : IsListing e k more n cache told rows plan) where
   abbrev from : ℕ
   from = length k.listed
 
-  abbrev l : Kept
+  abbrev l : StoreState
   l = amended_kept k more
 
   few : (r : ℕ) (body : List ℕ) → k.bodies r ≡ Some body → r < from
@@ -76,8 +76,8 @@ module _ {e : List EventValue} {k : Kept} {more n : List MRow} {known : Known} {
 
   held : AreHeld l.bodies rows
   held =
-      subst (AreHeld l.bodies) (ap (λ (xs : List ℕ). known.held.items ++ xs) (sym is.are_judged.adopted) ∙ sym is.are_held)
-      (subst (λ (b : ℕ → Option (List ℕ)). AreHeld b (known.held.items ++ adopted_rows n k.parked from)) (λ i r. same r i) (held_with_adopted n k few known.held.items is.knows.held))
+      subst (AreHeld l.bodies) (ap (λ (xs : List ℕ). cache.held_rows.items ++ xs) (sym is.are_judged.adopted) ∙ sym is.are_held)
+      (subst (λ (b : ℕ → Option (List ℕ)). AreHeld b (cache.held_rows.items ++ adopted_rows n k.parked from)) (λ i r. same r i) (held_with_adopted n k few cache.held_rows.items is.knows.held))
 
   latest : AreLatestSteps l.listed rows l.moment plan.new.items
   latest =
@@ -93,10 +93,10 @@ module _ {e : List EventValue} {k : Kept} {more n : List MRow} {known : Known} {
   amend_move : IsMove e (listed more) k l (new_rows k.listed more) rows (amended_bodies n k.parked from k.bodies) plan
   amend_move = record { stood = is.stood; books = books; begins = stays.0; keeps = keeps; held = held; same = same; latest = latest; planned = is.planned }
 
-  pub decided_amended : LatestChainsAtAreHeldRows → MentionsFew → IsSoundPlan plan → (then : Known) → then.held.items ≡ rows → then.told.items ≡ known.told.items
+  pub decided_amended : LatestChainsAtAreHeldRows → MentionsFew → IsSoundPlan plan → (then : Cache) → then.held_rows.items ≡ rows → then.rows_with_receipt.items ≡ cache.rows_with_receipt.items
       → IsDecided e (listed more) k (decision_by None (Some (record { union = n; judged = told })) Nothing None (Some then) (Some plan))
   decided_amended law few sound then held_is told_is =
       decided_moved None (Some (record { union = n; judged = told })) Nothing None then law few sound
-      (subst (λ (m : Kept). IsMove e (listed more) k m (new_rows k.listed more) rows (amended_bodies n k.parked from k.bodies) plan) (sym amend_made) amend_move) held_is
-      (subst (λ (m : Kept). AreHeldBy m.receipts then.told.items) (sym amend_made)
-      (subst (λ (rs : List ReceiptValue). AreHeldBy rs then.told.items) (sym stays.1) (subst (AreHeldBy k.receipts) (sym told_is) is.knows.told)))
+      (subst (λ (m : StoreState). IsMove e (listed more) k m (new_rows k.listed more) rows (amended_bodies n k.parked from k.bodies) plan) (sym amend_made) amend_move) held_is
+      (subst (λ (m : StoreState). AreHeldBy m.receipts then.rows_with_receipt.items) (sym amend_made)
+      (subst (λ (rs : List ReceiptValue). AreHeldBy rs then.rows_with_receipt.items) (sym stays.1) (subst (AreHeldBy k.receipts) (sym told_is) is.knows.told)))

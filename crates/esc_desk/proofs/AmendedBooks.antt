@@ -11,14 +11,14 @@ use Rattle.esc_manifest.specs.ManifestRows.{row_at}
 use Rattle.esc_manifest.specs.Accepted.{IsAccepted}
 use Rattle.esc_manifest.specs.Extension.{new_rows, extended}
 use Rattle.esc_store.specs.ReplyValue.{ReceiptValue, reply_alike}
-use Rattle.esc_store.specs.Kept.{Kept, SaysHeld, TellsUnlisted, with_listed, with_moment}
+use Rattle.esc_store.specs.StoreState.{StoreState, SaysHeld, TellsUnlisted, with_listed, with_moment}
 use Rattle.esc_store.specs.ListLaws.{any_weaker}
 use Rattle.esc_events.specs.ArrivalValue.{ArrivalValue}
 use Rattle.esc_events.specs.Events.{EventValue, Coming, union, comings}
 use Rattle.esc_events.specs.Events.EventValue.{listed, moved}
 use Rattle.esc_events.specs.Assessment.{found, row_of}
 use Rattle.esc_events.specs.Receipts.{holds_row, distinct, receipts_after, receipts_of, reply_to}
-use Rattle.esc_events.specs.Stands.{AreBooks, IsApart, TellsOf, CameFor, holds_by, kept_arrivals, held_body, parked_body}
+use Rattle.esc_events.specs.StateAfter.{AreBooks, IsApart, TellsOf, CameFor, holds_by, kept_arrivals, held_body, parked_body}
 use Rattle.esc_events.specs.Amended.{judged, amended_bodies, still_parked, amended_kept}
 use Rattle.esc_desk.proofs.AmendingLemmas.{row_is, row_has, row_held, same_at, listed_still, holds_same, judged_at, judged_some}
 use Rattle.esc_desk.proofs.AmendingLemmas.{reply_same, rows_short, receipts_below}
@@ -32,12 +32,12 @@ no_shorter : (m more : List MRow) → length m ≤ length (extended m more)
 no_shorter m more = omega (arith, length-append m (new_rows m more))
 
 -- the same of the bodies that a store keeps
-pub kept_bodies : (k : Kept) (more : List MRow) → IsAccepted (extended k.listed more) → ((r : ℕ) (body : List ℕ) → k.bodies r ≡ Some body → r < length k.listed) → (r : ℕ)
+pub kept_bodies : (k : StoreState) (more : List MRow) → IsAccepted (extended k.listed more) → ((r : ℕ) (body : List ℕ) → k.bodies r ≡ Some body → r < length k.listed) → (r : ℕ)
     → (amended_kept k more).bodies r ≡ amended_bodies (extended k.listed more) k.parked (length k.listed) k.bodies r
 kept_bodies k more ok few r = bodies_are (extended k.listed more) ok k (length k.listed) (no_shorter k.listed more) few r
 
 -- the books after an amendment
-pub books_amended : (e : List EventValue) (k : Kept) (more : List MRow) → AreBooks sha256 reading e k → IsAccepted (union e) → IsAccepted (extended (union e) more)
+pub books_amended : (e : List EventValue) (k : StoreState) (more : List MRow) → AreBooks sha256 reading e k → IsAccepted (union e) → IsAccepted (extended (union e) more)
     → AreBooks sha256 reading (e ++ listed more ∷ []) (amended_kept k more)
 books_amended e k more books ok okn = record {
   listed = rest.0 ∙ rows_k ∙ sym rows;
@@ -172,7 +172,7 @@ books_amended e k more books ok okn = record {
         (books.parked_told d (ap is_some (parked_was n okk k (length k.listed) (no_shorter k.listed more) d body is)))
 
 -- the books after a moment was set
-pub books_of_moment : (e : List EventValue) (k : Kept) (moment : Option ℤ) → AreBooks sha256 reading e k → AreBooks sha256 reading (e ++ moved moment ∷ []) (with_moment k moment)
+pub books_of_moment : (e : List EventValue) (k : StoreState) (moment : Option ℤ) → AreBooks sha256 reading e k → AreBooks sha256 reading (e ++ moved moment ∷ []) (with_moment k moment)
 books_of_moment e k moment books =
     let rows : union (e ++ moved moment ∷ []) ≡ union e = union-moved e moment in
     let same : comings (e ++ moved moment ∷ []) ≡ comings e = comings-moved e moment in

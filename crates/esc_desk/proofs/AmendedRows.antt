@@ -7,7 +7,7 @@ use Rattle.std.proofs.lemmas.List.Elements.{All-nil, All-cons, All-head, All-tai
 use Rattle.std.proofs.lemmas.List.Elements.{filter_passes, Contains-append_left, Contains-append_right, Contains-append_cases}
 use Rattle.esc_manifest.specs.declared.row.MRow.{MRow}
 use Rattle.esc_manifest.specs.ManifestRows.{row_at}
-use Rattle.esc_store.specs.Kept.{Kept, IsRising, AreHeld}
+use Rattle.esc_store.specs.StoreState.{StoreState, IsRising, AreHeld}
 use Rattle.esc_store.specs.ListLaws.{first_or_later, later}
 use Rattle.esc_events.specs.Amended.{judged, numbers_from, is_adopted, adopted_rows, amended_bodies}
 
@@ -67,7 +67,7 @@ rises_on b (x ∷ xs) ys up more below above =
     )
 
 -- ---- n is listed where fewer rows were, and no body is held of a row that is new
-module _ (n : List MRow) (k : Kept) (few : (r : ℕ) (body : List ℕ) → k.bodies r ≡ Some body → r < length k.listed) where
+module _ (n : List MRow) (k : StoreState) (few : (r : ℕ) (body : List ℕ) → k.bodies r ≡ Some body → r < length k.listed) where
   abbrev from : ℕ
   from = length k.listed
 

@@ -12,7 +12,7 @@ use Rattle.esc_events.specs.Events.{EventValue, Coming, union, comings}
 use Rattle.esc_events.specs.Events.EventValue.{listed}
 use Rattle.esc_events.specs.Assessment.{row_of}
 use Rattle.esc_events.specs.Receipts.{distinct, receipts_after, receipts_of}
-use Rattle.esc_events.specs.Stands.{Among, IsApart, CameFor, CameWith, body_of, holds_by, has_digest, is_lost, kept_arrivals, held_body, parked_body}
+use Rattle.esc_events.specs.StateAfter.{Among, IsApart, CameFor, CameWith, arrived_body, holds_by, has_digest, is_lost, kept_arrivals, held_body, parked_body}
 use Rattle.esc_events.specs.Amended.{judged, amended_bodies, still_parked}
 use Rattle.esc_desk.proofs.AmendingLemmas.{find_never, holds_same, beyond_held, listed_still, unlisted_before, judged_first}
 use Rattle.esc_desk.proofs.EventLemmas.{union-listed, comings-listed}
@@ -20,10 +20,10 @@ use Rattle.esc_desk.proofs.EventLemmas.{union-listed, comings-listed}
 module _ (digest : List ℕ → List ℕ) where
   -- the body that is held of a row, and that is parked under a digest, of these arrivals
   abbrev pub held_from : List MRow → List Coming → ℕ → Option (List ℕ)
-  held_from m l r = body_of (find (holds_by digest reading m r) l)
+  held_from m l r = arrived_body (find (holds_by digest reading m r) l)
 
   abbrev pub came_under : List Coming → List ℕ → Option (List ℕ)
-  came_under l d = body_of (find (has_digest digest reading d) l)
+  came_under l d = arrived_body (find (has_digest digest reading d) l)
 
   -- what is parked under a digest, that is, what came with it while no row lists it
   abbrev pub parked_from : List MRow → List Coming → List ℕ → Option (List ℕ)
@@ -87,7 +87,7 @@ module _ (digest : List ℕ → List ℕ) where
         old : r < length m → held_body digest reading e r ≡ held_body digest reading f r
         old lt =
             let same : holds_by digest reading n r ≡ holds_by digest reading m r = λ i c. holds_same digest reading x ok okn r lt c i in
-            ap (λ (p : Coming → Bool). body_of (find p (kept_arrivals digest reading e))) (sym same) ∙ sym (after r)
+            ap (λ (p : Coming → Bool). arrived_body (find p (kept_arrivals digest reading e))) (sym same) ∙ sym (after r)
 
         inside : length m ≤ r → r < length n → judged n r (parked_body digest reading e (row_at n r).digest) ≡ held_body digest reading f r
         inside new lt =
@@ -95,7 +95,7 @@ module _ (digest : List ℕ → List ℕ) where
             ∙ judged_first digest okn lt (kept_arrivals digest reading e) apart ∙ sym (after r)
 
         beyond : length n ≤ r → None ≡ held_body digest reading f r
-        beyond far = sym (after r ∙ ap body_of (find_never (holds_by digest reading n r) (kept_arrivals digest reading e) (λ c among is. beyond_held digest reading n r far c is)))
+        beyond far = sym (after r ∙ ap arrived_body (find_never (holds_by digest reading n r) (kept_arrivals digest reading e) (λ c among is. beyond_held digest reading n r far c is)))
 
         by_old : (s : Bool) → nat_lt r (length m) ≡ s → (t : Bool) → nat_lt r (length n) ≡ t
             → cond s (held_body digest reading e r) (cond t (judged n r (parked_body digest reading e (row_at n r).digest)) None) ≡ held_body digest reading f r

@@ -9,9 +9,9 @@ use Rattle.std.proofs.lemmas.Bool.{eqb-true, false_from_ne_true}
 use Rattle.esc_manifest.specs.declared.row.MRow.{MRow}
 use Rattle.esc_manifest.specs.ManifestRows.{row_at}
 use Rattle.esc_manifest.specs.Accepted.{IsAccepted}
-use Rattle.esc_store.specs.Kept.{Kept, parked_put, with_adopted, with_listed, with_parked}
+use Rattle.esc_store.specs.StoreState.{StoreState, parked_put, with_adopted, with_listed, with_parked}
 use Rattle.esc_events.specs.Assessment.{row_of}
-use Rattle.esc_events.specs.Stands.{Among}
+use Rattle.esc_events.specs.StateAfter.{Among}
 use Rattle.esc_events.specs.Amended.{judged, numbers_from, is_adopted, is_dropped, adopted_rows, dropped_rows}
 use Rattle.esc_events.specs.Amended.{amended_bodies, still_parked, with_all_adopted, with_all_dropped}
 use Rattle.esc_desk.proofs.AmendingLemmas.{row_is, row_has, judged_some}
@@ -74,10 +74,10 @@ module _ (p : ℕ → Bool) where
 -- ---- what stays
 
 -- the rows, the receipts, the moment, the chain and its tables stay
-abbrev pub StayBesides : Kept → Kept → Type 0
+abbrev pub StayBesides : StoreState → StoreState → Type 0
 StayBesides k l = (l.listed ≡ k.listed) × (l.receipts ≡ k.receipts) × (l.moment ≡ k.moment) × (l.steps ≡ k.steps) × (l.registry ≡ k.registry)
 
-stay_then : (a b c : Kept) → StayBesides a b → StayBesides b c → StayBesides a c
+stay_then : (a b c : StoreState) → StayBesides a b → StayBesides b c → StayBesides a c
 stay_then a b c p q = (q.0 ∙ p.0, q.1 ∙ p.1, q.2 ∙ p.2, q.3 ∙ p.3, q.4 ∙ p.4)
 
 module _ (n : List MRow) where
@@ -85,22 +85,22 @@ module _ (n : List MRow) where
   digest_at r = (row_at n r).digest
 
   -- what is kept, with the parked body of a row held for it
-  abbrev adopt : Kept → ℕ → Kept
+  abbrev adopt : StoreState → ℕ → StoreState
   adopt k r = with_adopted k r (digest_at r) (k.parked (digest_at r))
 
-  one_stays : (k : Kept) (r : ℕ) (d : List ℕ) (o : Option (List ℕ)) → StayBesides k (with_adopted k r d o)
+  one_stays : (k : StoreState) (r : ℕ) (d : List ℕ) (o : Option (List ℕ)) → StayBesides k (with_adopted k r d o)
   one_stays k r d None = (refl, refl, refl, refl, refl)
   one_stays k r d (Some body) = (refl, refl, refl, refl, refl)
 
-  pub adopted_stay : (k : Kept) (rows : List ℕ) → StayBesides k (with_all_adopted n k rows)
+  pub adopted_stay : (k : StoreState) (rows : List ℕ) → StayBesides k (with_all_adopted n k rows)
   adopted_stay k [] = (refl, refl, refl, refl, refl)
   adopted_stay k (r ∷ rows) = stay_then k (adopt k r) (with_all_adopted n (adopt k r) rows) (one_stays k r (digest_at r) (k.parked (digest_at r))) (adopted_stay (adopt k r) rows)
 
-  pub dropped_stay : (k : Kept) (rows : List ℕ) → StayBesides k (with_all_dropped n k rows)
+  pub dropped_stay : (k : StoreState) (rows : List ℕ) → StayBesides k (with_all_dropped n k rows)
   dropped_stay k [] = (refl, refl, refl, refl, refl)
   dropped_stay k (r ∷ rows) = dropped_stay (with_parked k (digest_at r) None) rows
 
-  dropped_bodies : (k : Kept) (rows : List ℕ) (q : ℕ) → (with_all_dropped n k rows).bodies q ≡ k.bodies q
+  dropped_bodies : (k : StoreState) (rows : List ℕ) (q : ℕ) → (with_all_dropped n k rows).bodies q ≡ k.bodies q
   dropped_bodies k [] q = refl
   dropped_bodies k (r ∷ rows) q = dropped_bodies (with_parked k (digest_at r) None) rows q
 
@@ -111,11 +111,11 @@ module _ (n : List MRow) where
   gone parked [] d = parked d
   gone parked (r ∷ rows) d = gone (parked_put parked (digest_at r) None) rows d
 
-  dropped_gone : (k : Kept) (rows : List ℕ) (d : List ℕ) → (with_all_dropped n k rows).parked d ≡ gone k.parked rows d
+  dropped_gone : (k : StoreState) (rows : List ℕ) (d : List ℕ) → (with_all_dropped n k rows).parked d ≡ gone k.parked rows d
   dropped_gone k [] d = refl
   dropped_gone k (r ∷ rows) d = dropped_gone (with_parked k (digest_at r) None) rows d
 
-  one_gone : (k : Kept) (r : ℕ) (d : List ℕ) (o : Option (List ℕ)) → k.parked d ≡ o → (x : List ℕ) → (with_adopted k r d o).parked x ≡ parked_put k.parked d None x
+  one_gone : (k : StoreState) (r : ℕ) (d : List ℕ) (o : Option (List ℕ)) → k.parked d ≡ o → (x : List ℕ) → (with_adopted k r d o).parked x ≡ parked_put k.parked d None x
   one_gone k r d (Some body) is x = refl
   one_gone k r d None is x = by_test (bytes_eq d x) refl
     where
@@ -123,7 +123,7 @@ module _ (n : List MRow) where
       by_test true same = ap k.parked (sym ((bytes_decides d x).0 same)) ∙ is
       by_test false other = refl
 
-  adopted_gone : (k : Kept) (rows : List ℕ) (d : List ℕ) → (with_all_adopted n k rows).parked d ≡ gone k.parked rows d
+  adopted_gone : (k : StoreState) (rows : List ℕ) (d : List ℕ) → (with_all_adopted n k rows).parked d ≡ gone k.parked rows d
   adopted_gone k [] d = refl
   adopted_gone k (r ∷ rows) d =
       let one : (adopt k r).parked ≡ parked_put k.parked (digest_at r) None = λ i x. one_gone k r (digest_at r) (k.parked (digest_at r)) refl x i in
@@ -157,17 +157,17 @@ module _ (n : List MRow) where
 
   -- ---- bodies
 
-  one_body : (k : Kept) (r : ℕ) (d : List ℕ) (o : Option (List ℕ)) (q : ℕ) → (q == r) ≡ false → (with_adopted k r d o).bodies q ≡ k.bodies q
+  one_body : (k : StoreState) (r : ℕ) (d : List ℕ) (o : Option (List ℕ)) (q : ℕ) → (q == r) ≡ false → (with_adopted k r d o).bodies q ≡ k.bodies q
   one_body k r d None q other = refl
   one_body k r d (Some body) q other = ap (λ (t : Bool). cond t (Some body) (k.bodies q)) other
 
-  adopted_others : (k : Kept) (rows : List ℕ) (q : ℕ) → ((r : ℕ) → Among rows r → (q == r) ≡ false) → (with_all_adopted n k rows).bodies q ≡ k.bodies q
+  adopted_others : (k : StoreState) (rows : List ℕ) (q : ℕ) → ((r : ℕ) → Among rows r → (q == r) ≡ false) → (with_all_adopted n k rows).bodies q ≡ k.bodies q
   adopted_others k [] q others = refl
   adopted_others k (r ∷ rows) q others =
       adopted_others (adopt k r) rows q (λ s there. others s (inr there))
       ∙ one_body k r (digest_at r) (k.parked (digest_at r)) q (others r (inl refl))
 
-  adopted_here : (okn : IsAccepted n) (k : Kept) (first : ℕ) (rows : List ℕ) → RisesFrom first rows → ((r : ℕ) → Among rows r → r < length n)
+  adopted_here : (okn : IsAccepted n) (k : StoreState) (first : ℕ) (rows : List ℕ) → RisesFrom first rows → ((r : ℕ) → Among rows r → r < length n)
       → (q : ℕ) (body : List ℕ) → Among rows q → k.parked (digest_at q) ≡ Some body → (with_all_adopted n k rows).bodies q ≡ Some body
   adopted_here okn k first [] rises few q body there parked = absurd there
   adopted_here okn k first (r ∷ rows) rises few q body (inl is) parked =
@@ -193,7 +193,7 @@ module _ (n : List MRow) where
 
 -- ---- rows are listed; the parked bodies of those from this one on are held or dropped
 
-module _ (n : List MRow) (okn : IsAccepted n) (k : Kept) (from : ℕ) (le : from ≤ length n) where
+module _ (n : List MRow) (okn : IsAccepted n) (k : StoreState) (from : ℕ) (le : from ≤ length n) where
   abbrev pub adopted : List ℕ
   adopted = adopted_rows n k.parked from
 
@@ -201,13 +201,13 @@ module _ (n : List MRow) (okn : IsAccepted n) (k : Kept) (from : ℕ) (le : from
   dropped = dropped_rows n k.parked from
 
   -- what is kept with the rows, then with the bodies, and then without the dropped ones
-  abbrev rows_listed : Kept
+  abbrev rows_listed : StoreState
   rows_listed = with_listed k n
 
-  abbrev bodies_held : Kept
+  abbrev bodies_held : StoreState
   bodies_held = with_all_adopted n rows_listed adopted
 
-  abbrev pub last : Kept
+  abbrev pub last : StoreState
   last = with_all_dropped n (with_all_adopted n (with_listed k n) adopted) dropped
 
   pub rest_stays : StayBesides (with_listed k n) last

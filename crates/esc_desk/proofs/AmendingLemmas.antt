@@ -23,7 +23,7 @@ use Rattle.esc_events.specs.Events.{EventValue, Coming, union_after, comings_aft
 use Rattle.esc_events.specs.Events.EventValue.{listed, arrived, moved, arrived_early}
 use Rattle.esc_events.specs.Assessment.{assessment, found_at, found, as_listed, row_of, held_row}
 use Rattle.esc_events.specs.Receipts.{is_row, holds_row, receipt_by, holds_any, receipt_for, receipts_after}
-use Rattle.esc_events.specs.Stands.{Among, body_of, holds_by, has_digest}
+use Rattle.esc_events.specs.StateAfter.{Among, arrived_body, holds_by, has_digest}
 use Rattle.esc_events.specs.Amended.{judged}
 
 -- ---- tests
@@ -157,7 +157,7 @@ module _ (digest : List ℕ → List ℕ) {n : List MRow} (okn : IsAccepted n) {
   -- of bodies that all are one where they have one digest, the first with its digest is judged for
   -- all
   pub judged_first : (l : List Coming) → ((a b : Coming) → Among l a → Among l b → digest a.body ≡ digest b.body → a.body ≡ b.body)
-      → judged n r (body_of (find (has_digest digest reading d) l)) ≡ body_of (find (holds_by digest reading n r) l)
+      → judged n r (arrived_body (find (has_digest digest reading d) l)) ≡ arrived_body (find (holds_by digest reading n r) l)
   judged_first [] apart = refl
   judged_first (c ∷ l) apart = by_digest (has_digest digest reading d c) refl (holds_by digest reading n r c) refl (judged_first l (λ a b i j. apart a b (inr i) (inr j)))
     where
@@ -170,12 +170,12 @@ module _ (digest : List ℕ → List ℕ) {n : List MRow} (okn : IsAccepted n) {
           true≢false (sym is ∙ ap (λ (x : List ℕ). holds_row r (assessment digest reading n x)) (sym one) ∙ miss)
 
       by_digest : (t : Bool) → has_digest digest reading d c ≡ t → (h : Bool) → holds_by digest reading n r c ≡ h
-          → judged n r (body_of (find (has_digest digest reading d) l)) ≡ body_of (find (holds_by digest reading n r) l)
-          → judged n r (body_of (cond t (Some c) (find (has_digest digest reading d) l))) ≡ body_of (cond h (Some c) (find (holds_by digest reading n r) l))
+          → judged n r (arrived_body (find (has_digest digest reading d) l)) ≡ arrived_body (find (holds_by digest reading n r) l)
+          → judged n r (arrived_body (cond t (Some c) (find (has_digest digest reading d) l))) ≡ arrived_body (cond h (Some c) (find (holds_by digest reading n r) l))
       by_digest true is true held rest = ap (λ (b : Bool). cond b (Some c.body) None) (sym (judged_at c (here is)) ∙ held)
       by_digest true is false miss rest =
           ap (λ (b : Bool). cond b (Some c.body) None) (sym (judged_at c (here is)) ∙ miss)
-          ∙ sym (ap body_of (find_never (holds_by digest reading n r) l (never (here is) miss)))
+          ∙ sym (ap arrived_body (find_never (holds_by digest reading n r) l (never (here is) miss)))
       by_digest false other true held rest = absurd (true≢false (sym ((bytes_decides (digest c.body) d).1 (digest_is digest reading n r c held)) ∙ other))
       by_digest false other false miss rest = rest
 

@@ -14,22 +14,22 @@ use Rattle.esc_store.specs.declared.fault.SFault.{SFault}
 use Rattle.esc_store.specs.declared.reply.Verdict.{Verdict}
 use Rattle.esc_store.specs.declared.reply.Verdict.TheVariants.{A1, A2, A3, A4, A5}
 use Rattle.esc_store.specs.declared.store.Store.{Store}
-use Rattle.esc_store.specs.Kept.{Kept}
+use Rattle.esc_store.specs.StoreState.{StoreState}
 use Rattle.esc_store.specs.ReplyValue.{ReceiptValue, ReplyValue, reply_alike, reply_kept}
-use Rattle.esc_store.specs.Standing.{IsAsBefore, IsHonest, Stands, StoreLeavesNoMore}
+use Rattle.esc_store.specs.Representation.{IsAsBefore, IsHonest, Represents, StoreLeavesNoMore}
 use Rattle.esc_events.specs.declared.assessment.Assessment.{Assessment}
 use Rattle.esc_events.specs.declared.assessment.Assessment.TheVariants.{Unlisted}
-use Rattle.esc_events.specs.declared.known.Known.{Known}
+use Rattle.esc_events.specs.declared.cache.Cache.{Cache}
 use Rattle.esc_events.specs.declared.parking.Parking.TheVariants.{Crowded}
 use Rattle.esc_events.specs.Apart.{WhereApart}
 use Rattle.esc_events.specs.ArrivalValue.{ArrivalValue}
 use Rattle.esc_events.specs.Assessment.{assessment, found_at, row_of}
 use Rattle.esc_events.specs.Events.{EventValue, union}
 use Rattle.esc_events.specs.Events.EventValue.{arrived}
-use Rattle.esc_events.specs.Known.{IsKnown}
+use Rattle.esc_events.specs.Cache.{IsCacheOf}
 use Rattle.esc_events.specs.Parks.{IsParking}
 use Rattle.esc_events.specs.Receipts.{receipts_of, reply_to}
-use Rattle.esc_events.specs.Stands.{AreBooks, StandsFor}
+use Rattle.esc_events.specs.StateAfter.{AreBooks, IsStateAfter}
 use Rattle.esc_events.specs.Taking.{IsAgain}
 use Rattle.esc_desk.specs.declared.answering.Answer.{Answer}
 use Rattle.esc_desk.specs.declared.decision.Decision.{Decision}
@@ -38,7 +38,7 @@ use Rattle.esc_desk.specs.declared.edit.Storing.TheVariants.{Nothing}
 use Rattle.esc_desk.specs.declared.receiving.Received.{Received}
 use Rattle.esc_desk.specs.Again.{IsUnkept, changes_table, is_missing, is_missing_after, is_unkept}
 use Rattle.esc_desk.specs.Answering.{IsAnswer, IsAsked, numbered}
-use Rattle.esc_desk.specs.Serving.{DeskServes}
+use Rattle.esc_desk.specs.Reflection.{DeskReflects}
 use Rattle.esc_desk.specs.Calls.{HadPlace, HadRoom, HasNoPlace, IsCause}
 use Rattle.esc_desk.specs.Crashes.{CrashLeaves, IsApartIf, LeavesAnswered, still_doubtful}
 use Rattle.esc_desk.specs.Decisions.{IsDecidedArrival, IsDone, still_by}
@@ -58,29 +58,29 @@ use Rattle.esc_desk.proofs.OneArrival.{new_reply}
 use Rattle.esc_desk.proofs.RunLemmas.{reply_stays}
 
 -- what a store was asked
-pub asked_of : {S : Type 0} (g : Ghosts S) (desk : Desk S) (mid : Store S) (known : Option Known) (n digest : List ℕ) (kept : Option ReplyValue) (e : List EventValue) (served : DeskServes g desk e)
-    → IsAsBefore g desk.store mid → known ≡ desk.known → kept ≡ reply_alike served.serves.kept.listed 1 n digest served.serves.kept.receipts
-    → IsAsked g mid known n digest kept e served.serves.kept
-asked_of g desk mid known n digest kept e served same is found =
+pub asked_of : {S : Type 0} (g : Ghosts S) (desk : Desk S) (mid : Store S) (cache : Option Cache) (n digest : List ℕ) (kept : Option ReplyValue) (e : List EventValue) (served : DeskReflects g desk e)
+    → IsAsBefore g desk.store mid → cache ≡ desk.cache → kept ≡ reply_alike served.serves.kept.listed 1 n digest served.serves.kept.receipts
+    → IsAsked g mid cache n digest kept e served.serves.kept
+asked_of g desk mid cache n digest kept e served same is found =
     let k = served.serves.kept in
     record {
       stood = same.stands k served.serves.stands;
       stands_for = served.serves.stands_for;
-      known_is = subst (λ (o : Option Known). IfSome o (IsKnown k)) (sym is) served.remembers;
+      cache_is = subst (λ (o : Option Cache). IfSome o (IsCacheOf k)) (sym is) served.remembers;
       kept_is = sym (found ∙ ap (λ (m : List MRow). reply_alike m 1 n digest k.receipts) served.serves.stands_for.books.listed);
     }
 
 -- ---- what is answered
 
 -- there was a place, if there is one where no row lists the body
-had_place : (e : List EventValue) (a : ArrivalValue) (k : Kept) (found : Assessment) → AreBooks sha256 reading e k → found ≡ assessment sha256 reading (union e) a.body
+had_place : (e : List EventValue) (a : ArrivalValue) (k : StoreState) (found : Assessment) → AreBooks sha256 reading e k → found ≡ assessment sha256 reading (union e) a.body
     → (found ≡ Unlisted → IsParking k.parked (sha256 a.body) Crowded → ⊥) → HadPlace e a
 had_place e a k found books is place apart full =
     let (unlisted, parking) = crowded_of e a k books apart full in
     place (is ∙ ap (λ (o : Option ℕ). found_at (union e) o (reading a.body)) full.crowded.0) parking
 
 -- a new arrival
-pub new_answer : {e : List EventValue} {a : ArrivalValue} {k : Kept} {before : Known} {r : Received} {d : Decision} {m : List MRow} → IsReceived e a k before r
+pub new_answer : {e : List EventValue} {a : ArrivalValue} {k : StoreState} {before : Cache} {r : Received} {d : Decision} {m : List MRow} → IsReceived e a k before r
     → IsDecidedArrival e a k r.found d → d.edit.receipt ≡ Some r.receipt → r.reply ≡ reply_kept m 0 r.receipt → m ≡ union e
     → (r.found ≡ Unlisted → IsParking k.parked (sha256 a.body) Crowded → ⊥) → IsAnswer e a k (record { reply = r.reply; decision = d })
 new_answer {e = e} {a = a} {k = k} {before = before} {r = r} {d = d} got done receipt reply listed place =
@@ -103,7 +103,7 @@ new_answer {e = e} {a = a} {k = k} {before = before} {r = r} {d = d} got done re
     }
 
 -- one that comes again with its reply A2
-pub again_answer : {e : List EventValue} {a : ArrivalValue} {k : Kept} {found : Assessment} {reply : ReplyValue} {d : Decision} → IsAgain e a k found reply
+pub again_answer : {e : List EventValue} {a : ArrivalValue} {k : StoreState} {found : Assessment} {reply : ReplyValue} {d : Decision} → IsAgain e a k found reply
     → IsDecidedArrival e a k found d → d.edit.receipt ≡ None
     → (found ≡ Unlisted → IsParking k.parked (sha256 a.body) Crowded → ⊥) → IsAnswer e a k (record { reply = reply; decision = d })
 again_answer {e = e} {a = a} {k = k} {found = found} {reply = reply} {d = d} is done receipt place =
@@ -121,14 +121,14 @@ again_answer {e = e} {a = a} {k = k} {found = found} {reply = reply} {d = d} is 
     }
 
 -- one that comes again with another reply
-pub other_answer : (e : List EventValue) (a : ArrivalValue) (k : Kept) (reply : ReplyValue) (known : Option Known) → StandsFor sha256 reading e k → IfSome known (IsKnown k)
+pub other_answer : (e : List EventValue) (a : ArrivalValue) (k : StoreState) (reply : ReplyValue) (cache : Option Cache) → IsStateAfter sha256 reading e k → IfSome cache (IsCacheOf k)
     → reply_alike (union e) 1 a.number (sha256 a.body) k.receipts ≡ Some reply → (reply.verdict ≡ A2 → ⊥)
-    → IsAnswer e a k (record { reply = reply; decision = still_by None known Nothing })
-other_answer e a k reply known stands knows there other =
+    → IsAnswer e a k (record { reply = reply; decision = still_by None cache Nothing })
+other_answer e a k reply cache stands knows there other =
     let none = nothing_repeated e a k stands.books reply there other in
     let at : reply_to sha256 reading e a ≡ Some reply = ap (reply_alike (union e) 1 a.number (sha256 a.body)) (sym stands.books.receipts) ∙ there in
     record {
-      decided = decided_still None None Nothing None known stands (still_stands e a k none stands) (union-arrived e a) knows;
+      decided = decided_still None None Nothing None cache stands (still_stands e a k none stands) (union-arrived e a) knows;
       idle = λ work cost. λ apart same. cost;
       told = λ n counted. reply_stays e (arrived a) a reply at;
       is_new = λ new. absurd (none-some _ (sym new ∙ at));
@@ -138,7 +138,7 @@ other_answer e a k reply known stands knows there other =
     }
 
 -- a new arrival has a receipt, for which there was room
-pub had_room : {e : List EventValue} {a : ArrivalValue} {k : Kept} {p : Answer} (n : ℕ) → StandsFor sha256 reading e k → IsAnswer e a k p
+pub had_room : {e : List EventValue} {a : ArrivalValue} {k : StoreState} {p : Answer} (n : ℕ) → IsStateAfter sha256 reading e k → IsAnswer e a k p
     → IfSome p.decision.edit.receipt (λ r. (n ≡ length k.receipts + 1) × (n ≤ MOST_RECEIPTS)) → HadRoom e a
 had_room {e = e} {a = a} {k = k} {p = p} n stood is counted none = by_receipt p.decision.edit.receipt (is.is_new none) counted
   where
@@ -149,7 +149,7 @@ had_room {e = e} {a = a} {k = k} {p = p} n stood is counted none = by_receipt p.
 -- ---- why one is lost
 
 module _ {S : Type 0} (g : Ghosts S) (mid new : Store S) (found : Assessment) (digest : List ℕ) (f : SFault) where
-  module _ (e : List EventValue) (a : ArrivalValue) (k : Kept) (clean : IsHonest g new) (stood : Stands g mid k) (books : AreBooks sha256 reading e k)
+  module _ (e : List EventValue) (a : ArrivalValue) (k : StoreState) (clean : IsHonest g new) (stood : Represents g mid k) (books : AreBooks sha256 reading e k)
       (same : digest ≡ sha256 a.body) (is : found ≡ assessment sha256 reading (union e) a.body) where
     no_place : IsUnkept e a → found ≡ Unlisted → IsParking k.parked digest Crowded → WhereApart e (HasNoPlace e a)
     no_place unkept unlisted full = no_place_of e a k books unkept (
@@ -178,7 +178,7 @@ unkept_by : (e : List EventValue) (a : ArrivalValue) (r : ReplyValue) → reply_
 unkept_by e a r told a2 x other = ap (λ (y : ReplyValue). y.verdict) (same_Some _ _ (sym other ∙ told)) ∙ a2
 
 -- one that comes again, and for which nothing is done, adds nothing
-adds_nothing : {e : List EventValue} {a : ArrivalValue} {k : Kept} {p : Answer} (r : ReplyValue) → StandsFor sha256 reading e k → IsAnswer e a k p → is_empty p.decision.edit ≡ true
+adds_nothing : {e : List EventValue} {a : ArrivalValue} {k : StoreState} {p : Answer} (r : ReplyValue) → IsStateAfter sha256 reading e k → IsAnswer e a k p → is_empty p.decision.edit ≡ true
     → reply_to sha256 reading e a ≡ Some r → AddsNothing e a
 adds_nothing {e = e} {a = a} {k = k} {p = p} r stood is empty told = by_verdict r.verdict refl
   where
@@ -192,32 +192,32 @@ adds_nothing {e = e} {a = a} {k = k} {p = p} r stood is empty told = by_verdict 
     by_verdict A4 other = nothing_repeated e a k stood.books r at (λ a2. let never : ⊥ = cc in never)
     by_verdict A5 other = nothing_repeated e a k stood.books r at (λ a2. let never : ⊥ = cc in never)
 
-module _ {S : Type 0} (g : Ghosts S) (first old : Store S) (new : Desk S) (e doubtful : List EventValue) (a : ArrivalValue) (k : Kept) (p : Answer) (done : ℕ × Work)
-    (stood : StandsFor sha256 reading e k) (left : CrashLeaves g first.conn e doubtful) (leaves : StoreLeavesNoMore g first old) where
+module _ {S : Type 0} (g : Ghosts S) (first old : Store S) (new : Desk S) (e doubtful : List EventValue) (a : ArrivalValue) (k : StoreState) (p : Answer) (done : ℕ × Work)
+    (stood : IsStateAfter sha256 reading e k) (left : CrashLeaves g first.conn e doubtful) (leaves : StoreLeavesNoMore g first old) where
   abbrev IsAnswered : Type 0
   IsAnswered = IsAnswer e a k p × IsDone g old new e (arrived a) k p.decision done
 
   -- nothing was done: nothing was missing
   idle : (r : ReplyValue) → IsAnswered → is_empty p.decision.edit ≡ true → reply_to sha256 reading e a ≡ Some r → (apart : Bool) → IsApartIf apart e
       → (is_unkept r.verdict && (apart && is_missing_after e a)) ≡ false
-  idle r is empty told false known = and_right (is_unkept r.verdict) false refl
-  idle r is empty told true known = by_verdict r.verdict refl
+  idle r is empty told false cache = and_right (is_unkept r.verdict) false refl
+  idle r is empty told true cache = by_verdict r.verdict refl
     where
       by_verdict : (v : Verdict) → r.verdict ≡ v → (is_unkept v && is_missing_after e a) ≡ false
-      by_verdict A2 a2 = sym (missing_of e a k stood.books known) ∙ is.0.there empty (unkept_by e a r told a2)
+      by_verdict A2 a2 = sym (missing_of e a k stood.books cache) ∙ is.0.there empty (unkept_by e a r told a2)
       by_verdict A1 other = refl
       by_verdict (A3 n) other = refl
       by_verdict A4 other = refl
       by_verdict A5 other = refl
 
   answered : IsAnswered → LeavesAnswered g new.store.conn e doubtful a
-  answered is apart known = by_empty (is_empty p.decision.edit) refl
+  answered is apart cache = by_empty (is_empty p.decision.edit) refl
     where
       by_reply : is_empty p.decision.edit ≡ true → (o : Option ReplyValue) → reply_to sha256 reading e a ≡ o
           → CrashLeaves g new.store.conn (e ++ arrived a ∷ []) (cond (changes_table o (apart && is_missing_after e a)) [] doubtful)
       by_reply empty None told = absurd (true≢false (sym (is.0.is_new told) ∙ ap is_some (is_none_of p.decision.edit empty).receipt))
       by_reply empty (Some r) told =
-          subst (λ (b : Bool). CrashLeaves g new.store.conn (e ++ arrived a ∷ []) (cond b [] doubtful)) (sym (idle r is empty told apart known))
+          subst (λ (b : Bool). CrashLeaves g new.store.conn (e ++ arrived a ∷ []) (cond b [] doubtful)) (sym (idle r is empty told apart cache))
           (leaves_nothing g old.conn new.store.conn e doubtful (leaves_as g first.conn old.conn e doubtful left leaves) (adds_nothing r stood is.0 empty told) (is.1.rests empty).1)
 
       by_empty : (b : Bool) → is_empty p.decision.edit ≡ b → CrashLeaves g new.store.conn (e ++ arrived a ∷ []) (still_doubtful apart e doubtful a)
@@ -225,4 +225,4 @@ module _ {S : Type 0} (g : Ghosts S) (first old : Store S) (new : Desk S) (e dou
       by_empty false some = leaves_only g new.store.conn (e ++ arrived a ∷ []) (still_doubtful apart e doubtful a) (is.1.left some)
 
   pub leaves_answered : (HasCleanDisk (state g new.store.conn) → IsAnswered) → LeavesAnswered g new.store.conn e doubtful a
-  leaves_answered made apart known = if_clean g new.store.conn (e ++ arrived a ∷ []) _ (λ clean. answered (made clean) apart known)
+  leaves_answered made apart cache = if_clean g new.store.conn (e ++ arrived a ∷ []) _ (λ clean. answered (made clean) apart cache)

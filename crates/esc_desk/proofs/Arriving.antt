@@ -12,11 +12,11 @@ use Rattle.std.proofs.lemmas.Bool.{eqb-true}
 use Rattle.sha2.specs.Sha256.{sha256}
 use Rattle.esc_tables.specs.DepositValue.{DepositValue}
 use Rattle.esc_tables.specs.Reading.{reading}
-use Rattle.esc_store.specs.Kept.{Kept, SaysHeld, TellsUnlisted, is_unlisted, AreHeldBy, body_put, parked_put, with_body, with_receipt}
+use Rattle.esc_store.specs.StoreState.{StoreState, SaysHeld, TellsUnlisted, is_unlisted, AreHeldBy, body_put, parked_put, with_body, with_receipt}
 use Rattle.esc_store.specs.ReplyValue.{ReplyValue, ReceiptValue}
 use Rattle.esc_events.specs.declared.assessment.Assessment.{Assessment}
 use Rattle.esc_events.specs.declared.assessment.Assessment.TheVariants.{Unlisted, Holding}
-use Rattle.esc_events.specs.declared.known.Known.{Known}
+use Rattle.esc_events.specs.declared.cache.Cache.{Cache}
 use Rattle.esc_events.specs.declared.parking.Parking.{Parking}
 use Rattle.esc_events.specs.declared.parking.Parking.TheVariants.{Needless, Free, Crowded}
 use Rattle.esc_events.specs.ArrivalValue.{ArrivalValue}
@@ -26,7 +26,7 @@ use Rattle.esc_events.specs.Assessment.{assessment, found_at, held_row, row_of}
 use Rattle.esc_events.specs.Notes.{noted_by, held_by}
 use Rattle.esc_events.specs.Parks.{IsParking, with_parking}
 use Rattle.esc_events.specs.Receipts.{holds_row, holds, holds_any, is_among, distinct, receipt_by, receipt_for, receipts_after}
-use Rattle.esc_events.specs.Stands.{TellsOf, holds_by, held_body, parked_body, IsApart, AreBooks}
+use Rattle.esc_events.specs.StateAfter.{TellsOf, holds_by, held_body, parked_body, IsApart, AreBooks}
 use Rattle.esc_events.specs.Taking.{IsNew, IsAgain}
 use Rattle.esc_events.specs.HeldLaws.{same_self, exact, holding_listed}
 use Rattle.esc_desk.proofs.AmendingLemmas.{same_bool, row_found}
@@ -49,22 +49,22 @@ told_before before rows told (Some r) = sym (set.contains-from_list_nat rows r) 
     back : list_any (holds sha256 reading r) before ≡ true → list_any (eq_by_cmp nat_cmp r) rows ≡ true
     back any = list_any-from_Contains (eq_by_cmp_equiv nat_cmp_total) r rows ((told.each r).1 (any_says sha256 reading r [] before any))
 
-pub new_receipt : (e : List EventValue) (a : ArrivalValue) (k : Kept) (found : Assessment) (known : Known) (receipt : ReceiptValue) → IsNew e a k found known receipt
+pub new_receipt : (e : List EventValue) (a : ArrivalValue) (k : StoreState) (found : Assessment) (cache : Cache) (receipt : ReceiptValue) → IsNew e a k found cache receipt
     → receipt ≡ receipt_for sha256 reading (distinct sha256 reading (comings e)) (coming (union e) a)
-new_receipt e a k found known receipt is =
+new_receipt e a k found cache receipt is =
     is.receipt_is
-    ∙ ap (λ (f : Assessment). receipt_by a.number (sha256 a.body) false f (is_among known.told.items (held_row f))) is.found_is
+    ∙ ap (λ (f : Assessment). receipt_by a.number (sha256 a.body) false f (is_among cache.rows_with_receipt.items (held_row f))) is.found_is
     ∙ ap (receipt_by a.number (sha256 a.body) false (assessment sha256 reading (union e) a.body))
-    (told_before (distinct sha256 reading (comings e)) known.told.items told (held_row (assessment sha256 reading (union e) a.body)))
+    (told_before (distinct sha256 reading (comings e)) cache.rows_with_receipt.items told (held_row (assessment sha256 reading (union e) a.body)))
   where
-    told : AreHeldBy (receipts_after sha256 reading [] (distinct sha256 reading (comings e))) known.told.items
-    told = subst (λ (rs : List ReceiptValue). AreHeldBy rs known.told.items) is.stood.books.receipts is.known_is.told
+    told : AreHeldBy (receipts_after sha256 reading [] (distinct sha256 reading (comings e))) cache.rows_with_receipt.items
+    told = subst (λ (rs : List ReceiptValue). AreHeldBy rs cache.rows_with_receipt.items) is.stood.books.receipts is.cache_is.told
 
 -- what the receipt says is held was found to be held
-says_found : {e : List EventValue} {a : ArrivalValue} {k : Kept} {found : Assessment} {known : Known} {receipt : ReceiptValue} → IsNew e a k found known receipt
+says_found : {e : List EventValue} {a : ArrivalValue} {k : StoreState} {found : Assessment} {cache : Cache} {receipt : ReceiptValue} → IsNew e a k found cache receipt
     → (r : ℕ) → SaysHeld r receipt → held_row found ≡ Some r
-says_found {a = a} {found = found} {known = known} is r says =
-    is_row_of r (held_row found) (holds_from_says r a.number (sha256 a.body) false found (is_among known.told.items (held_row found)) (subst (SaysHeld r) is.receipt_is says))
+says_found {a = a} {found = found} {cache = cache} is r says =
+    is_row_of r (held_row found) (holds_from_says r a.number (sha256 a.body) false found (is_among cache.rows_with_receipt.items (held_row found)) (subst (SaysHeld r) is.receipt_is says))
 
 -- the row that the body holds was found
 held_found : (e : List EventValue) (a : ArrivalValue) (found : Assessment) → found ≡ assessment sha256 reading (union e) a.body
@@ -84,10 +84,10 @@ no_row None is = refl
 no_row (Some q) is = absurd (true≢false is)
 
 -- no body is kept: a row lists it, and it is not the deposit of a row that has no body yet
-pub books_noted : (e : List EventValue) (a : ArrivalValue) (k : Kept) (found : Assessment) (known : Known) (receipt : ReceiptValue) → IsNew e a k found known receipt
+pub books_noted : (e : List EventValue) (a : ArrivalValue) (k : StoreState) (found : Assessment) (cache : Cache) (receipt : ReceiptValue) → IsNew e a k found cache receipt
     → (found ≡ Unlisted → ⊥) → ((q : ℕ) → held_row found ≡ Some q → IsSome (k.bodies q)) → AreBooks sha256 reading (e ++ arrived a ∷ []) (with_receipt k receipt)
-books_noted e a k found known receipt is listed there =
-    books_with sha256 reading e k a is.stood.books is.none receipt (new_receipt e a k found known receipt is) k.bodies k.parked
+books_noted e a k found cache receipt is listed there =
+    books_with sha256 reading e k a is.stood.books is.none receipt (new_receipt e a k found cache receipt is) k.bodies k.parked
     (λ apart r. old_body sha256 reading e k a is.stood.books apart r (λ holds. there r (held_found e a found is.found_is r holds)))
     (λ apart d. old_parked sha256 reading e k a is.stood.books apart d (λ same none. absurd (none_parked e a found is.found_is listed d same none)))
     (λ r body at. inl at)
@@ -106,7 +106,7 @@ held_none : {X : Type 0} (r : ℕ) → held_row Unlisted ≡ Some r → X
 held_none r held = absurd (true≢false (sym (ap is_some held)))
 
 -- it is parked under its digest
-module _ (e : List EventValue) (a : ArrivalValue) (k : Kept) (books : AreBooks sha256 reading e k)
+module _ (e : List EventValue) (a : ArrivalValue) (k : StoreState) (books : AreBooks sha256 reading e k)
     (found_is : Unlisted ≡ assessment sha256 reading (union e) a.body) (key : List ℕ) (key_is : key ≡ sha256 a.body) where
   bodies_stay : IsApart sha256 reading (e ++ arrived a ∷ []) → (r : ℕ) → k.bodies r ≡ held_body sha256 reading (e ++ arrived a ∷ []) r
   bodies_stay apart r = old_body sha256 reading e k a books apart r (λ holds. held_none r (held_found e a Unlisted found_is r holds))
@@ -136,9 +136,9 @@ module _ (e : List EventValue) (a : ArrivalValue) (k : Kept) (books : AreBooks s
       by_test false other put = inl put
 
 -- it is parked, unless it is already
-pub books_parked : (e : List EventValue) (a : ArrivalValue) (k : Kept) (known : Known) (receipt : ReceiptValue) → IsNew e a k Unlisted known receipt
+pub books_parked : (e : List EventValue) (a : ArrivalValue) (k : StoreState) (cache : Cache) (receipt : ReceiptValue) → IsNew e a k Unlisted cache receipt
     → (parking : Parking) → IsParking k.parked (sha256 a.body) parking → (parking ≡ Crowded → ⊥) → AreBooks sha256 reading (e ++ arrived a ∷ []) (noted_by receipt parking a.body k)
-books_parked e a k known receipt is parking at free = by_parking parking at free
+books_parked e a k cache receipt is parking at free = by_parking parking at free
   where
     digest_is : receipt.digest ≡ sha256 a.body
     digest_is = ap (λ (r : ReceiptValue). r.digest) is.receipt_is
@@ -157,7 +157,7 @@ books_parked e a k known receipt is parking at free = by_parking parking at free
     by_parking : (parking : Parking) → IsParking k.parked (sha256 a.body) parking → (parking ≡ Crowded → ⊥)
         → AreBooks sha256 reading (e ++ arrived a ∷ []) (noted_by receipt parking a.body k)
     by_parking Needless some free =
-        books_with sha256 reading e k a is.stood.books is.none receipt (new_receipt e a k Unlisted known receipt is) k.bodies k.parked
+        books_with sha256 reading e k a is.stood.books is.none receipt (new_receipt e a k Unlisted cache receipt is) k.bodies k.parked
         (bodies_stay e a k is.stood.books is.found_is receipt.digest digest_is)
         (λ apart d. old_parked sha256 reading e k a is.stood.books apart d (λ same none. subst (λ (x : List ℕ). IsSome (k.parked x)) same some))
         (λ r body at. inl at)
@@ -165,7 +165,7 @@ books_parked e a k known receipt is parking at free = by_parking parking at free
         by_receipt
         (λ d some. inl some)
     by_parking Free at free =
-        books_with sha256 reading e k a is.stood.books is.none receipt (new_receipt e a k Unlisted known receipt is) k.bodies (parked_put k.parked receipt.digest (Some a.body))
+        books_with sha256 reading e k a is.stood.books is.none receipt (new_receipt e a k Unlisted cache receipt is) k.bodies (parked_put k.parked receipt.digest (Some a.body))
         (bodies_stay e a k is.stood.books is.found_is receipt.digest digest_is)
         (put_parked e a k is.stood.books is.found_is receipt.digest digest_is at.0)
         (λ r body at. inl at)
@@ -187,7 +187,7 @@ module _ (e : List EventValue) (a : ArrivalValue) (row : ℕ) (d : DepositValue)
   put_holds : (r : ℕ) → row ≡ r → holds_by sha256 reading (union e) r (coming (union e) a) ≡ true
   put_holds r same = ap (holds_row r) (sym found_is) ∙ ap (λ (q : ℕ). q == r) same ∙ same_self r
 
-  put_bodies : (k : Kept) → AreBooks sha256 reading e k → k.bodies row ≡ None → IsApart sha256 reading (e ++ arrived a ∷ [])
+  put_bodies : (k : StoreState) → AreBooks sha256 reading e k → k.bodies row ≡ None → IsApart sha256 reading (e ++ arrived a ∷ [])
       → (r : ℕ) → body_put k.bodies row a.body r ≡ held_body sha256 reading (e ++ arrived a ∷ []) r
   put_bodies k books none apart r = by_test (r == row) refl
     where
@@ -200,7 +200,7 @@ module _ (e : List EventValue) (a : ArrivalValue) (row : ℕ) (d : DepositValue)
           again : holds_by sha256 reading (union e) r (coming (union e) a) ≡ true → (r == row) ≡ true
           again holds = ap (λ (q : ℕ). r == q) (same_Some _ _ (held_found e a (Holding row d) found_is r holds)) ∙ same_self r
 
-  put_comes : (k : Kept) (r : ℕ) (body : List ℕ) → body_put k.bodies row a.body r ≡ Some body → OldOrHolds sha256 reading e k a r body
+  put_comes : (k : StoreState) (r : ℕ) (body : List ℕ) → body_put k.bodies row a.body r ≡ Some body → OldOrHolds sha256 reading e k a r body
   put_comes k r body put = by_test (r == row) refl put
     where
       by_test : (b : Bool) → (r == row) ≡ b → cond b (Some a.body) (k.bodies r) ≡ Some body → OldOrHolds sha256 reading e k a r body
@@ -208,10 +208,10 @@ module _ (e : List EventValue) (a : ArrivalValue) (row : ℕ) (d : DepositValue)
       by_test false other put = inl put
 
 -- the body is the deposit of a row that has no body yet
-pub books_held : (e : List EventValue) (a : ArrivalValue) (k : Kept) (row : ℕ) (d : DepositValue) (known : Known) (receipt : ReceiptValue)
-    → IsNew e a k (Holding row d) known receipt → k.bodies row ≡ None → AreBooks sha256 reading (e ++ arrived a ∷ []) (held_by receipt row a.body k)
-books_held e a k row d known receipt is none =
-    books_with sha256 reading e k a is.stood.books is.none receipt (new_receipt e a k (Holding row d) known receipt is) (body_put k.bodies row a.body) k.parked
+pub books_held : (e : List EventValue) (a : ArrivalValue) (k : StoreState) (row : ℕ) (d : DepositValue) (cache : Cache) (receipt : ReceiptValue)
+    → IsNew e a k (Holding row d) cache receipt → k.bodies row ≡ None → AreBooks sha256 reading (e ++ arrived a ∷ []) (held_by receipt row a.body k)
+books_held e a k row d cache receipt is none =
+    books_with sha256 reading e k a is.stood.books is.none receipt (new_receipt e a k (Holding row d) cache receipt is) (body_put k.bodies row a.body) k.parked
     (put_bodies e a row d is.found_is k is.stood.books none)
     (λ apart g. old_parked sha256 reading e k a is.stood.books apart g (λ same none. absurd (none_parked e a (Holding row d) is.found_is (holding_listed row d) g same none)))
     (put_comes e a row d is.found_is k)
@@ -228,9 +228,9 @@ books_held e a k row d known receipt is none =
 -- ---- an arrival whose body was not kept comes again
 
 -- nothing has to be done
-pub books_known_again : (e : List EventValue) (a : ArrivalValue) (k : Kept) (found : Assessment) (reply : ReplyValue) → IsAgain e a k found reply
+pub books_cached_again : (e : List EventValue) (a : ArrivalValue) (k : StoreState) (found : Assessment) (reply : ReplyValue) → IsAgain e a k found reply
     → ((q : ℕ) → held_row found ≡ Some q → IsSome (k.bodies q)) → (found ≡ Unlisted → IsSome (k.parked (sha256 a.body))) → AreBooks sha256 reading (e ++ arrived a ∷ []) k
-books_known_again e a k found reply is there waits =
+books_cached_again e a k found reply is there waits =
     books_again sha256 reading e k a is.stood.books reply is.kept k.bodies k.parked
     (λ apart r. old_body sha256 reading e k a is.stood.books apart r (λ holds. there r (held_found e a found is.found_is r holds)))
     (λ apart d. old_parked sha256 reading e k a is.stood.books apart d (still d))
@@ -250,7 +250,7 @@ books_known_again e a k found reply is there waits =
     still d same none = subst (λ (x : List ℕ). IsSome (k.parked x)) same (waits (unlisted d same none))
 
 -- no row lists the body: it is parked, unless it is already
-pub books_parked_again : (e : List EventValue) (a : ArrivalValue) (k : Kept) (reply : ReplyValue) → IsAgain e a k Unlisted reply
+pub books_parked_again : (e : List EventValue) (a : ArrivalValue) (k : StoreState) (reply : ReplyValue) → IsAgain e a k Unlisted reply
     → (parking : Parking) → IsParking k.parked (sha256 a.body) parking → (parking ≡ Crowded → ⊥)
     → AreBooks sha256 reading (e ++ arrived a ∷ []) (with_parking k (sha256 a.body) parking a.body)
 books_parked_again e a k reply is parking at free = by_parking parking at free
@@ -266,7 +266,7 @@ books_parked_again e a k reply is parking at free = by_parking parking at free
 
     by_parking : (parking : Parking) → IsParking k.parked (sha256 a.body) parking → (parking ≡ Crowded → ⊥)
         → AreBooks sha256 reading (e ++ arrived a ∷ []) (with_parking k (sha256 a.body) parking a.body)
-    by_parking Needless some free = books_known_again e a k Unlisted reply is (λ q held. held_none q held) (λ same. some)
+    by_parking Needless some free = books_cached_again e a k Unlisted reply is (λ q held. held_none q held) (λ same. some)
     by_parking Free at free =
         books_again sha256 reading e k a is.stood.books reply is.kept k.bodies (parked_put k.parked (sha256 a.body) (Some a.body))
         (bodies_stay e a k is.stood.books is.found_is (sha256 a.body) refl)
@@ -279,7 +279,7 @@ books_parked_again e a k reply is parking at free = by_parking parking at free
     by_parking Crowded at free = absurd (free refl)
 
 -- the body is the deposit of a row that has no body
-pub books_held_again : (e : List EventValue) (a : ArrivalValue) (k : Kept) (row : ℕ) (d : DepositValue) (reply : ReplyValue) → IsAgain e a k (Holding row d) reply
+pub books_held_again : (e : List EventValue) (a : ArrivalValue) (k : StoreState) (row : ℕ) (d : DepositValue) (reply : ReplyValue) → IsAgain e a k (Holding row d) reply
     → k.bodies row ≡ None → AreBooks sha256 reading (e ++ arrived a ∷ []) (with_body k row a.body)
 books_held_again e a k row d reply is none =
     books_again sha256 reading e k a is.stood.books reply is.kept (body_put k.bodies row a.body) k.parked

@@ -10,13 +10,13 @@ use Rattle.esc_manifest.specs.declared.row.MRow.{MRow}
 use Rattle.esc_chain.specs.Chain.{Rows, IsChainBack, IsLatestChainAt}
 use Rattle.esc_apply.specs.Images.{chain_state}
 use Rattle.esc_apply.specs.ChainLaws.{empty-chain}
-use Rattle.esc_store.specs.Kept.{fresh}
+use Rattle.esc_store.specs.StoreState.{fresh}
 use Rattle.esc_events.specs.ArrivalValue.{ArrivalValue}
-use Rattle.esc_events.specs.Events.{Coming, union, moment_after, moment_of, manifest_then}
+use Rattle.esc_events.specs.Events.{Coming, union, moment_after, last_moment, manifest_then}
 use Rattle.esc_events.specs.Events.EventValue.{listed, arrived}
 use Rattle.esc_events.specs.Assessment.{row_of}
 use Rattle.esc_events.specs.Receipts.{distinct, receipts_after}
-use Rattle.esc_events.specs.Stands.{rows_of, kept_arrivals, held_body, StandsFor}
+use Rattle.esc_events.specs.StateAfter.{rows_of, kept_arrivals, held_body, IsStateAfter}
 use Rattle.esc_desk.proofs.EventLemmas.{union_then, comings_then}
 use Rattle.esc_desk.proofs.Moving.{chain_of}
 use Rattle.esc_desk.proofs.MovingLemmas.{same_deposits}
@@ -34,7 +34,7 @@ none_either_way : {X : Type 0} {none : Option X} (b : Bool) → cond b none none
 none_either_way true = refl
 none_either_way false = refl
 
-pub stands_at_first : (m : List MRow) → StandsFor sha256 reading (listed m ∷ []) (fresh m)
+pub stands_at_first : (m : List MRow) → IsStateAfter sha256 reading (listed m ∷ []) (fresh m)
 stands_at_first m = record {
   books = record {
     listed = sym (union_then m []);
@@ -60,7 +60,7 @@ arrivals_set_none : (l : List ArrivalValue) → moment_after None (map arrived l
 arrivals_set_none [] = refl
 arrivals_set_none (a ∷ l) = arrivals_set_none l
 
-no_moment : (m : List MRow) (l : List ArrivalValue) → moment_of (manifest_then m l) ≡ None
+no_moment : (m : List MRow) (l : List ArrivalValue) → last_moment (manifest_then m l) ≡ None
 no_moment m l = arrivals_set_none l
 
 pub left_by_arrivals : AreLeftByArrivals
@@ -73,8 +73,8 @@ left_by_arrivals m l k stood apart =
       receipts = stood.books.receipts ∙ ap (λ (cs : List Coming). receipts_after sha256 reading [] (distinct sha256 reading cs)) (comings_then m l);
       chain =
           subst (λ (t : Option ℤ). IsLatestChainAt m (rows m (came_with m l)) t k.steps) (no_moment m l)
-          (subst (λ (cs : List Coming). IsLatestChainAt m (rows m cs) (moment_of e) k.steps) (counted_then m l)
-          (subst (λ (n : List MRow). IsLatestChainAt n (rows n (kept_arrivals sha256 reading e)) (moment_of e) k.steps) (union_then m l)
+          (subst (λ (cs : List Coming). IsLatestChainAt m (rows m cs) (last_moment e) k.steps) (counted_then m l)
+          (subst (λ (n : List MRow). IsLatestChainAt n (rows n (kept_arrivals sha256 reading e)) (last_moment e) k.steps) (union_then m l)
           (chain_of e k stood apart)));
       registry = stood.registry ∙ ap (λ (ds : List DepositValue). chain_state ds) deposits;
     }

@@ -5,12 +5,12 @@ use Rattle.esc_tables.specs.Reading.{reading}
 use Rattle.esc_manifest.specs.declared.row.MRow.{MRow}
 use Rattle.esc_store.specs.declared.fault.SFault.{SFault}
 use Rattle.esc_store.specs.Faults.{IsS1OrS2}
-use Rattle.esc_store.specs.Kept.{Kept, IsFull}
+use Rattle.esc_store.specs.StoreState.{StoreState, IsFull}
 use Rattle.esc_events.specs.Apart.{WhereApart}
 use Rattle.esc_events.specs.ArrivalValue.{ArrivalValue}
 use Rattle.esc_events.specs.Events.{EventValue}
 use Rattle.esc_events.specs.Assessment.{row_of}
-use Rattle.esc_events.specs.Stands.{AreBooks, IsApart}
+use Rattle.esc_events.specs.StateAfter.{AreBooks, IsApart}
 use Rattle.esc_desk.specs.Again.{IsUnkept}
 use Rattle.esc_desk.specs.Calls.{HasNoPlace, IsCause}
 use Rattle.esc_desk.specs.Causes.{IsCrowded}
@@ -34,7 +34,7 @@ still_full same full = record {
   many = full.many;
 }
 
-module _ (e : List EventValue) (a : ArrivalValue) (k : Kept) (books : AreBooks sha256 reading e k) where
+module _ (e : List EventValue) (a : ArrivalValue) (k : StoreState) (books : AreBooks sha256 reading e k) where
   pub crowded_of : IsApart sha256 reading e → HasNoPlace e a → IsCrowded k.listed k.parked (sha256 a.body)
   crowded_of apart full =
       let (unlisted, there) = full.crowded in (

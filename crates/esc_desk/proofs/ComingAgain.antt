@@ -9,7 +9,7 @@ use Rattle.sha2.specs.Sha256.{sha256}
 use Rattle.esc_tables.specs.Reading.{reading}
 use Rattle.esc_store.specs.declared.reply.Verdict.{Verdict}
 use Rattle.esc_store.specs.declared.reply.Verdict.TheVariants.{A1, A2, A3, A4, A5}
-use Rattle.esc_store.specs.Kept.{Kept}
+use Rattle.esc_store.specs.StoreState.{StoreState}
 use Rattle.esc_store.specs.ReplyValue.{ReplyValue, reply_alike}
 use Rattle.esc_events.specs.declared.assessment.Assessment.{Assessment}
 use Rattle.esc_events.specs.declared.assessment.Assessment.TheVariants.{Unlisted, Unreadable, Differing, Holding}
@@ -17,7 +17,7 @@ use Rattle.esc_events.specs.ArrivalValue.{ArrivalValue, an_arrival}
 use Rattle.esc_events.specs.Events.{EventValue, union, coming, comings}
 use Rattle.esc_events.specs.Assessment.{assessment, row_of, held_row}
 use Rattle.esc_events.specs.Receipts.{distinct, reply_to}
-use Rattle.esc_events.specs.Stands.{StandsFor, AreBooks, IsApart, kept_arrivals, holds_by, has_digest, held_body, parked_body}
+use Rattle.esc_events.specs.StateAfter.{IsStateAfter, AreBooks, IsApart, kept_arrivals, holds_by, has_digest, held_body, parked_body}
 use Rattle.esc_events.specs.Taking.{IsAgain}
 use Rattle.esc_desk.proofs.HeldRows.{is_row_of, listed_row}
 use Rattle.esc_desk.proofs.Lost.{alike_counts, came_counts}
@@ -28,7 +28,7 @@ use Rattle.esc_desk.proofs.Likeness.{AddsNothing, seen}
 
 -- ---- where it adds nothing
 
-module _ (e : List EventValue) (a : ArrivalValue) (k : Kept) (found : Assessment) (reply : ReplyValue) (is : IsAgain e a k found reply) where
+module _ (e : List EventValue) (a : ArrivalValue) (k : StoreState) (found : Assessment) (reply : ReplyValue) (is : IsAgain e a k found reply) where
   pub told_again : reply_to sha256 reading e a ≡ Some reply
   told_again = ap (reply_alike (union e) 1 a.number (sha256 a.body)) (sym is.stood.books.receipts) ∙ is.kept
 
@@ -82,7 +82,7 @@ module _ (e : List EventValue) (a : ArrivalValue) (k : Kept) (found : Assessment
   nothing_refused refused = nothing_listed (refused_listed found refused) (λ q here. absurd (none-some _ (sym (refused_row found refused) ∙ here)))
 
 -- it is like an earlier one that wasn't answered A2
-pub nothing_repeated : (e : List EventValue) (a : ArrivalValue) (k : Kept) → AreBooks sha256 reading e k
+pub nothing_repeated : (e : List EventValue) (a : ArrivalValue) (k : StoreState) → AreBooks sha256 reading e k
     → (y : ReplyValue) → reply_alike (union e) 1 a.number (sha256 a.body) k.receipts ≡ Some y → (y.verdict ≡ A2 → ⊥) → AddsNothing e a
 nothing_repeated e a k books y there other =
     let digest = sha256 a.body in
@@ -99,7 +99,7 @@ nothing_repeated e a k books y there other =
     }
 
 -- what is missing in a store is what is missing after the events for which it stands
-pub missing_of : (e : List EventValue) (a : ArrivalValue) (k : Kept) → AreBooks sha256 reading e k → IsApart sha256 reading e
+pub missing_of : (e : List EventValue) (a : ArrivalValue) (k : StoreState) → AreBooks sha256 reading e k → IsApart sha256 reading e
     → is_missing k.bodies k.parked (sha256 a.body) (assessment sha256 reading (union e) a.body) ≡ is_missing_after e a
 missing_of e a k books apart = by_found (assessment sha256 reading (union e) a.body)
   where
@@ -112,8 +112,8 @@ missing_of e a k books apart = by_found (assessment sha256 reading (union e) a.b
 -- ---- what a desk answers
 
 -- an arrival whose kept reply is A2
-pub is_again : (e : List EventValue) (n body : List ℕ) (k : Kept) (reply : ReplyValue) (digest : List ℕ)
-    → digest ≡ sha256 body → StandsFor sha256 reading e k → reply.verdict ≡ A2
+pub is_again : (e : List EventValue) (n body : List ℕ) (k : StoreState) (reply : ReplyValue) (digest : List ℕ)
+    → digest ≡ sha256 body → IsStateAfter sha256 reading e k → reply.verdict ≡ A2
     → reply_alike (union e) 1 n digest k.receipts ≡ Some reply → IsAgain e (an_arrival n body) k (assessment sha256 reading (union e) body) reply
 is_again e n body k reply digest same stands is there = record {
   stood = stands;

@@ -9,14 +9,14 @@ use Rattle.esc_tables.specs.Reading.{reading}
 use Rattle.esc_store.specs.declared.fault.SFault.{SFault}
 use Rattle.esc_store.specs.declared.fault.SFault.TheVariants.{S1, S2, S3, S4, S5}
 use Rattle.esc_store.specs.declared.store.Store.{Store}
-use Rattle.esc_store.specs.Kept.{Kept}
+use Rattle.esc_store.specs.StoreState.{StoreState}
 use Rattle.esc_store.specs.Faults.{IsS1OrS2}
 use Rattle.esc_store.specs.ReplyValue.{ReceiptValue}
-use Rattle.esc_store.specs.Standing.{LeavesOnly, LeavesOr}
+use Rattle.esc_store.specs.Representation.{LeavesOnly, LeavesOr}
 use Rattle.esc_events.specs.ArrivalValue.{ArrivalValue}
 use Rattle.esc_events.specs.Events.{EventValue}
 use Rattle.esc_events.specs.Events.EventValue.{arrived}
-use Rattle.esc_events.specs.Stands.{StandsFor}
+use Rattle.esc_events.specs.StateAfter.{IsStateAfter}
 use Rattle.esc_desk.specs.Causes.{IsEditFault}
 use Rattle.esc_desk.specs.Crashes.{IsStoreFor, IsStoreForOneOf, CrashLeaves, LeavesOnlyFor, LeavesMade, LeavesRefused, LeavesTaken, doubtful_with}
 use Rattle.esc_desk.proofs.Likeness.{AddsNothing, still_stands, still_stands_with}
@@ -64,7 +64,7 @@ module _ {S : Type 0} (g : Ghosts S) where
     leaves_early x f s clean trees may = one_with trees e doubtful x f (leaves_as s clean trees may)
 
     -- one that was refused by S1 or S2, where a crash may leave a store that keeps k
-    leaves_refused : (x : EventValue) (f : SFault) {k : Kept} → IsS1OrS2 f → StandsFor sha256 reading (e ++ x ∷ []) k → LeavesOr g old new k → LeavesRefused g new e doubtful x f
+    leaves_refused : (x : EventValue) (f : SFault) {k : StoreState} → IsS1OrS2 f → IsStateAfter sha256 reading (e ++ x ∷ []) k → LeavesOr g old new k → LeavesRefused g new e doubtful x f
     unfolding CrashLeaves LeavesOr
     leaves_refused x f {k = k} cause stands s clean trees may = elim (s.crash clean trees may) [
       | inl was ↦ one_with trees e doubtful x f (left (omega (arith, s.clean, clean)) trees was)
@@ -97,17 +97,17 @@ module _ {S : Type 0} (g : Ghosts S) where
   refused_taken new e doubtful a f is left = rw is left
 
   -- an event whose edit was refused: where there was no room nothing was done
-  pub leaves_unmade : (old new : Store S) (e doubtful : List EventValue) (x : EventValue) (r : Option ReceiptValue) (f : SFault) {k : Kept} → CrashLeaves g old.conn e doubtful → IsEditFault g r old new f
-      → (HasCleanDisk (state g new.conn) → StandsFor sha256 reading (e ++ x ∷ []) k × LeavesOr g old.conn new.conn k) → LeavesRefused g new.conn e doubtful x f
+  pub leaves_unmade : (old new : Store S) (e doubtful : List EventValue) (x : EventValue) (r : Option ReceiptValue) (f : SFault) {k : StoreState} → CrashLeaves g old.conn e doubtful → IsEditFault g r old new f
+      → (HasCleanDisk (state g new.conn) → IsStateAfter sha256 reading (e ++ x ∷ []) k × LeavesOr g old.conn new.conn k) → LeavesRefused g new.conn e doubtful x f
   leaves_unmade old new e doubtful x None f left cause made = if_clean new.conn e (doubtful_with f x doubtful) (λ clean. leaves_refused old.conn new.conn e doubtful left x f cause (made clean).0 (made clean).1)
   leaves_unmade old new e doubtful x (Some r) f left (inl cause) made = if_clean new.conn e (doubtful_with f x doubtful) (λ clean. leaves_refused old.conn new.conn e doubtful left x f cause (made clean).0 (made clean).1)
   leaves_unmade old new e doubtful x (Some r) f left (inr none) made = subst (λ (q : SFault). LeavesRefused g new.conn e doubtful x q) (sym none.0) (leaves_as old.conn new.conn e doubtful left none.1.leaves)
 
   -- ---- a store that was left alone
-  pub leaves_for : (store : Store S) {k : Kept} {e : List EventValue} → StandsFor sha256 reading e k → LeavesOnly g store k → LeavesOnlyFor g store.conn e
+  pub leaves_for : (store : Store S) {k : StoreState} {e : List EventValue} → IsStateAfter sha256 reading e k → LeavesOnly g store k → LeavesOnlyFor g store.conn e
   unfolding LeavesOnly LeavesOnlyFor
   leaves_for store {k = k} stands left clean trees may = record { kept = k; store = left clean trees may; stands_for = stands }
 
-  pub leaves_at : (store : Store S) {k : Kept} {e : List EventValue} → StandsFor sha256 reading e k → LeavesOnly g store k → CrashLeaves g store.conn e []
+  pub leaves_at : (store : Store S) {k : StoreState} {e : List EventValue} → IsStateAfter sha256 reading e k → LeavesOnly g store k → CrashLeaves g store.conn e []
   unfolding CrashLeaves LeavesOnlyFor
   leaves_at store stands left = leaves_for store stands left

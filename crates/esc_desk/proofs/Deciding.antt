@@ -5,16 +5,16 @@ use Rattle.sqlite_trees.specs.declared.store.Store.{Ghosts}
 use Rattle.esc_tables.specs.Reading.{reading}
 use Rattle.esc_manifest.specs.declared.row.MRow.{MRow}
 use Rattle.esc_chain.specs.Laws.{LatestChainsAtAreHeldRows}
-use Rattle.esc_store.specs.Kept.{Kept, AreHeld, AreHeldBy}
+use Rattle.esc_store.specs.StoreState.{StoreState, AreHeld, AreHeldBy}
 use Rattle.esc_store.specs.ReplyValue.{ReceiptValue}
 use Rattle.esc_store.specs.declared.books.TheConstants.{MOST_RECEIPTS}
 use Rattle.esc_store.specs.declared.store.Store.{Store}
-use Rattle.esc_store.specs.Standing.{Stands, StoreLeavesNoMore}
-use Rattle.esc_events.specs.declared.known.Known.{Known}
+use Rattle.esc_store.specs.Representation.{Represents, StoreLeavesNoMore}
+use Rattle.esc_events.specs.declared.cache.Cache.{Cache}
 use Rattle.esc_events.specs.declared.plan.Plan.{Plan}
 use Rattle.esc_events.specs.Events.{EventValue, union}
-use Rattle.esc_events.specs.Known.{IsKnown}
-use Rattle.esc_events.specs.Stands.{StandsFor}
+use Rattle.esc_events.specs.Cache.{IsCacheOf}
+use Rattle.esc_events.specs.StateAfter.{IsStateAfter}
 use Rattle.esc_events.specs.Works.{IsWorkOf, MentionsFew, no_work}
 use Rattle.esc_desk.specs.declared.decision.Decision.{Decision}
 use Rattle.esc_desk.specs.declared.desk.Desk.{Desk}
@@ -22,23 +22,23 @@ use Rattle.esc_desk.specs.declared.edit.Edit.{Edit}
 use Rattle.esc_desk.specs.declared.edit.Listing.{Listing}
 use Rattle.esc_desk.specs.declared.edit.Storing.{Storing}
 use Rattle.esc_desk.specs.declared.edit.Storing.TheVariants.{Nothing, Hold, Park}
-use Rattle.esc_desk.specs.Decisions.{IsDecided, known_after, IsDone}
+use Rattle.esc_desk.specs.Decisions.{IsDecided, cache_after, IsDone}
 use Rattle.esc_desk.specs.Edits.{IsSoundPlan, IsCostIf, books_edited, chain_deposits, edited, is_empty}
 use Rattle.esc_desk.proofs.EditSteps.{stays_put}
 use Rattle.esc_desk.proofs.Moving.{IsMove, moved_from, move_stands, move_is_work, no_work_of}
 
 module _ (r : Option ReceiptValue) (l : Option Listing) (b : Storing) (t : Option (Option ℤ)) where
-  abbrev pub decision_by : Option Known → Option Plan → Decision
-  decision_by known plan = record { edit = record { receipt = r; listing = l; body = b; moment = t; plan = plan }; known = known }
+  abbrev pub decision_by : Option Cache → Option Plan → Decision
+  decision_by cache plan = record { edit = record { receipt = r; listing = l; body = b; moment = t; plan = plan }; cache = cache }
 
-  abbrev made_by : Option Plan → Kept → Kept
+  abbrev made_by : Option Plan → StoreState → StoreState
   made_by plan k = books_edited (decision_by None plan).edit k
 
   -- the chain moves by a plan, and these are the rows of which a body is held then
-  pub decided_moved : (known : Known) → LatestChainsAtAreHeldRows → MentionsFew → {e : List EventValue} {x : EventValue} {k : Kept} {plan : Plan} {more : List MRow} {rows : List ℕ} {bodies : ℕ → Option (List ℕ)}
-      → IsSoundPlan plan → IsMove e x k (made_by (Some plan) k) more rows bodies plan → known.held.items ≡ rows → AreHeldBy (made_by (Some plan) k).receipts known.told.items
-      → IsDecided e x k (decision_by (Some known) (Some plan))
-  decided_moved known law few {e = e} {x = x} {k = k} {plan = plan} {more = more} {rows = rows} {bodies = bodies} sound is held told =
+  pub decided_moved : (cache : Cache) → LatestChainsAtAreHeldRows → MentionsFew → {e : List EventValue} {x : EventValue} {k : StoreState} {plan : Plan} {more : List MRow} {rows : List ℕ} {bodies : ℕ → Option (List ℕ)}
+      → IsSoundPlan plan → IsMove e x k (made_by (Some plan) k) more rows bodies plan → cache.held_rows.items ≡ rows → AreHeldBy (made_by (Some plan) k).receipts cache.rows_with_receipt.items
+      → IsDecided e x k (decision_by (Some cache) (Some plan))
+  decided_moved cache law few {e = e} {x = x} {k = k} {plan = plan} {more = more} {rows = rows} {bodies = bodies} sound is held told =
       let made = made_by (Some plan) k in
       record {
         moves = moved_from e k bodies plan is.stood is.planned;
@@ -48,15 +48,15 @@ module _ (r : Option ReceiptValue) (l : Option Listing) (b : Storing) (t : Optio
       }
 
   -- the chain stays
-  pub decided_still : (known : Option Known) → {e : List EventValue} {x : EventValue} {k : Kept} → StandsFor sha256 reading e k → StandsFor sha256 reading (e ++ x ∷ []) (made_by None k)
-      → union (e ++ x ∷ []) ≡ union e → IfSome known (IsKnown (made_by None k)) → IsDecided e x k (decision_by known None)
-  decided_still known {e = e} {x = x} {k = k} stood stands same knows =
+  pub decided_still : (cache : Option Cache) → {e : List EventValue} {x : EventValue} {k : StoreState} → IsStateAfter sha256 reading e k → IsStateAfter sha256 reading (e ++ x ∷ []) (made_by None k)
+      → union (e ++ x ∷ []) ≡ union e → IfSome cache (IsCacheOf (made_by None k)) → IsDecided e x k (decision_by cache None)
+  decided_still cache {e = e} {x = x} {k = k} stood stands same knows =
       let made = made_by None k in
       record {
         moves = tt;
         stands = stands;
         knows = knows;
-        works = λ work none. subst (IsWorkOf e x) (sym none) (no_work_of e x k made stood stands same (stays_put (decision_by known None).edit k).steps);
+        works = λ work none. subst (IsWorkOf e x) (sym none) (no_work_of e x k made stood stands same (stays_put (decision_by cache None).edit k).steps);
       }
 
 -- ---- an edit that changes nothing
@@ -81,23 +81,23 @@ is_none_of edit = by_parts edit.receipt edit.listing edit.body edit.moment edit.
     by_parts None None Nothing (Some t) p is = absurd (true≢false (sym is))
     by_parts None None Nothing None (Some p) is = absurd (true≢false (sym is))
 
-pub nothing_edited : (edit : Edit) (k : Kept) → IsNone edit → edited edit k ≡ k
+pub nothing_edited : (edit : Edit) (k : StoreState) → IsNone edit → edited edit k ≡ k
 nothing_edited edit k is =
     ap (λ (x : Edit). edited x k)
     (λ i. record { receipt = is.receipt i; listing = is.listing i; body = is.body i; moment = is.moment i; plan = is.plan i })
 
 -- a decision that is empty: nothing is made
-pub nothing_done : {S : Type 0} (g : Ghosts S) (old : Store S) (new : Desk S) {e : List EventValue} {x : EventValue} {k : Kept} {d : Decision}
-    → IsDecided e x k d → is_empty d.edit ≡ true → Stands g new.store k → new.known ≡ d.known → StoreLeavesNoMore g old new.store → IsDone g old new e x k d (0, no_work)
-nothing_done g old new {e = e} {x = x} {k = k} {d = d} is empty stands known leaves =
+pub nothing_done : {S : Type 0} (g : Ghosts S) (old : Store S) (new : Desk S) {e : List EventValue} {x : EventValue} {k : StoreState} {d : Decision}
+    → IsDecided e x k d → is_empty d.edit ≡ true → Represents g new.store k → new.cache ≡ d.cache → StoreLeavesNoMore g old new.store → IsDone g old new e x k d (0, no_work)
+nothing_done g old new {e = e} {x = x} {k = k} {d = d} is empty stands cache leaves =
     let none = is_none_of d.edit empty in
     let same = nothing_edited d.edit k none in
-    let knows = subst (λ (m : Kept). IfSome d.known (IsKnown m)) same (subst (λ (p : Option Plan). IfSome (known_after p d.known) (IsKnown (edited d.edit k))) none.plan is.knows) in
+    let knows = subst (λ (m : StoreState). IfSome d.cache (IsCacheOf m)) same (subst (λ (p : Option Plan). IfSome (cache_after p d.cache) (IsCacheOf (edited d.edit k))) none.plan is.knows) in
     let cost = subst (λ (p : Option Plan). IsCostIf p (chain_deposits k) no_work) (sym none.plan) refl in
     record {
       serves = record {
-        serves = record { kept = k; stands = stands; stands_for = subst (StandsFor sha256 reading (e ++ x ∷ [])) same is.stands };
-        remembers = subst (λ (o : Option Known). IfSome o (IsKnown k)) (sym known) knows;
+        serves = record { kept = k; stands = stands; stands_for = subst (IsStateAfter sha256 reading (e ++ x ∷ [])) same is.stands };
+        remembers = subst (λ (o : Option Cache). IfSome o (IsCacheOf k)) (sym cache) knows;
       };
       works = is.works no_work cost;
       result = record {

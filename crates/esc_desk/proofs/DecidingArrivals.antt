@@ -5,11 +5,11 @@ use Rattle.sha2.specs.Sha256.{sha256}
 use Rattle.esc_tables.specs.Reading.{reading}
 use Rattle.esc_manifest.specs.declared.row.MRow.{MRow}
 use Rattle.esc_apply.specs.declared.moves.Work.{Work}
-use Rattle.esc_store.specs.Kept.{Kept, AreHeld, AreHeldBy, body_put, step_at, with_body, with_parked, with_receipt}
+use Rattle.esc_store.specs.StoreState.{StoreState, AreHeld, AreHeldBy, body_put, step_at, with_body, with_parked, with_receipt}
 use Rattle.esc_store.specs.ReplyValue.{ReceiptValue, ReplyValue}
 use Rattle.esc_events.specs.declared.assessment.Assessment.{Assessment}
 use Rattle.esc_events.specs.declared.assessment.Assessment.TheVariants.{Unlisted, Unreadable, Differing, Holding}
-use Rattle.esc_events.specs.declared.known.Known.{Known}
+use Rattle.esc_events.specs.declared.cache.Cache.{Cache}
 use Rattle.esc_events.specs.declared.parking.Parking.TheVariants.{Needless, Free, Crowded}
 use Rattle.esc_events.specs.declared.plan.Plan.{Plan}
 use Rattle.esc_events.specs.ArrivalValue.{ArrivalValue}
@@ -17,10 +17,10 @@ use Rattle.esc_events.specs.Events.{EventValue}
 use Rattle.esc_events.specs.Events.EventValue.{arrived}
 use Rattle.esc_events.specs.Assessment.{held_row}
 use Rattle.esc_events.specs.HeldLaws.{holding_listed}
-use Rattle.esc_events.specs.Known.{IsKnown}
+use Rattle.esc_events.specs.Cache.{IsCacheOf}
 use Rattle.esc_events.specs.Parks.{IsParking}
 use Rattle.esc_events.specs.Plans.{AreLatestSteps, IsPlanned}
-use Rattle.esc_events.specs.Stands.{AreBooks}
+use Rattle.esc_events.specs.StateAfter.{AreBooks}
 use Rattle.esc_events.specs.Taking.{IsNew, IsAgain}
 use Rattle.esc_events.specs.Works.{IsIdle}
 use Rattle.esc_desk.specs.declared.edit.Edit.{Edit}
@@ -31,7 +31,7 @@ use Rattle.esc_desk.specs.Again.{is_missing}
 use Rattle.esc_desk.specs.Decisions.{IsArriving, IsDecidedArrival, still_by}
 use Rattle.esc_desk.specs.Edits.{is_empty, is_nothing, noted, stored}
 use Rattle.esc_desk.specs.Receiving.{IsReceived}
-use Rattle.esc_desk.proofs.Arriving.{books_noted, books_parked, books_held, books_known_again, books_parked_again, books_held_again}
+use Rattle.esc_desk.proofs.Arriving.{books_noted, books_parked, books_held, books_cached_again, books_parked_again, books_held_again}
 use Rattle.esc_desk.proofs.ComingAgain.{nothing_listed, nothing_parked, nothing_refused}
 use Rattle.esc_desk.proofs.Deciding.{decided_still, is_none_of}
 use Rattle.esc_desk.proofs.EventLemmas.{union-arrived}
@@ -50,7 +50,7 @@ some_where (Some body) there = refl
 
 -- ---- what stays beside the receipts
 
-pub record IsBesides (r : Option ReceiptValue) (k later : Kept) : Type 0 where
+pub record IsBesides (r : Option ReceiptValue) (k later : StoreState) : Type 0 where
   pub listed : later.listed ≡ k.listed
   pub receipts : later.receipts ≡ (noted r k).receipts
   pub bodies : later.bodies ≡ k.bodies
@@ -58,11 +58,11 @@ pub record IsBesides (r : Option ReceiptValue) (k later : Kept) : Type 0 where
   pub steps : later.steps ≡ k.steps
   pub registry : later.registry ≡ k.registry
 
-noted_besides : (r : Option ReceiptValue) (k : Kept) → IsBesides r k (noted r k)
+noted_besides : (r : Option ReceiptValue) (k : StoreState) → IsBesides r k (noted r k)
 noted_besides None k = record { listed = refl; receipts = refl; bodies = refl; moment = refl; steps = refl; registry = refl }
 noted_besides (Some r) k = record { listed = refl; receipts = refl; bodies = refl; moment = refl; steps = refl; registry = refl }
 
-noted_is : (r : Option ReceiptValue) (k : Kept) → noted r k ≡ record k { receipts = (noted r k).receipts }
+noted_is : (r : Option ReceiptValue) (k : StoreState) → noted r k ≡ record k { receipts = (noted r k).receipts }
 noted_is None k = refl
 noted_is (Some r) k = refl
 
@@ -73,16 +73,16 @@ there_not_missing bodies parked key (Unreadable r n) waits held = refl
 there_not_missing bodies parked key (Differing r) waits held = refl
 there_not_missing bodies parked key (Holding r d) waits held = ap not (held r refl)
 
-module _ {e : List EventValue} {a : ArrivalValue} {k : Kept} {found : Assessment} {known : Known} {receipt : Option ReceiptValue} (is : IsArriving e a k found known receipt) where
+module _ {e : List EventValue} {a : ArrivalValue} {k : StoreState} {found : Assessment} {cache : Cache} {receipt : Option ReceiptValue} (is : IsArriving e a k found cache receipt) where
   still : (b : Storing) → IsBesides receipt k (stored b (noted receipt k)) → AreBooks sha256 reading (e ++ arrived a ∷ []) (stored b (noted receipt k))
-      → (is_empty (still_by receipt (Some known) b).edit ≡ true → is_missing k.bodies k.parked (sha256 a.body) found ≡ false) → IsDecidedArrival e a k found (still_by receipt (Some known) b)
+      → (is_empty (still_by receipt (Some cache) b).edit ≡ true → is_missing k.bodies k.parked (sha256 a.body) found ≡ false) → IsDecidedArrival e a k found (still_by receipt (Some cache) b)
   still b besides books there =
       let made = stored b (noted receipt k) in
       let stands = stands_still e (e ++ arrived a ∷ []) k made is.stood books besides.listed besides.bodies besides.moment besides.steps besides.registry in
       record {
-        decided = decided_still receipt None b None (Some known) is.stood stands (union-arrived e a) (record {
-          held = subst (λ (bodies : ℕ → Option (List ℕ)). AreHeld bodies known.held.items) (sym besides.bodies) is.held;
-          told = subst (λ (rs : List ReceiptValue). AreHeldBy rs known.told.items) (sym besides.receipts) is.told;
+        decided = decided_still receipt None b None (Some cache) is.stood stands (union-arrived e a) (record {
+          held = subst (λ (bodies : ℕ → Option (List ℕ)). AreHeld bodies cache.held_rows.items) (sym besides.bodies) is.held;
+          told = subst (λ (rs : List ReceiptValue). AreHeldBy rs cache.rows_with_receipt.items) (sym besides.receipts) is.told;
           chain = is.chain ∙ ap₂ (λ (m : List MRow) (steps : List ℕ). map (step_at m) steps) (sym besides.listed) (sym besides.steps);
         });
         idle = λ work none. λ apart same. none;
@@ -91,13 +91,13 @@ module _ {e : List EventValue} {a : ArrivalValue} {k : Kept} {found : Assessment
 
   -- nothing is stored: the body is there, or it is no row's deposit
   pub decided_there : (found ≡ Unlisted → IsSome (k.parked (sha256 a.body))) → ((q : ℕ) → held_row found ≡ Some q → IsSome (k.bodies q))
-      → IsDecidedArrival e a k found (still_by receipt (Some known) Nothing)
+      → IsDecidedArrival e a k found (still_by receipt (Some cache) Nothing)
   decided_there waits held = still Nothing (noted_besides receipt k) (is.there waits held) (λ empty. there_not_missing k.bodies k.parked (sha256 a.body) found waits held)
 
   -- the body is parked
   pub decided_parked : (b : Storing) → is_nothing b ≡ false → IsBesides receipt k (stored b (noted receipt k))
-      → AreBooks sha256 reading (e ++ arrived a ∷ []) (stored b (noted receipt k)) → IsDecidedArrival e a k found (still_by receipt (Some known) b)
-  decided_parked b some besides books = still b besides books (λ empty. absurd (stores_something (still_by receipt (Some known) b).edit some empty))
+      → AreBooks sha256 reading (e ++ arrived a ∷ []) (stored b (noted receipt k)) → IsDecidedArrival e a k found (still_by receipt (Some cache) b)
+  decided_parked b some besides books = still b besides books (λ empty. absurd (stores_something (still_by receipt (Some cache) b).edit some empty))
 
   pub parked_besides : (d body : List ℕ) → IsBesides receipt k (with_parked (noted receipt k) d (Some body))
   parked_besides d body =
@@ -107,13 +107,13 @@ module _ {e : List EventValue} {a : ArrivalValue} {k : Kept} {found : Assessment
   -- ---- the body is held for a row that has none
   module _ (row : ℕ) (none : k.bodies row ≡ None) (books : AreBooks sha256 reading (e ++ arrived a ∷ []) (with_body (noted receipt k) row a.body)) where
     books_late : AreBooks sha256 reading (e ++ arrived a ∷ []) (with_body (record k { receipts = (noted receipt k).receipts }) row a.body)
-    books_late = subst (λ (m : Kept). AreBooks sha256 reading (e ++ arrived a ∷ []) (with_body m row a.body)) (noted_is receipt k) books
+    books_late = subst (λ (m : StoreState). AreBooks sha256 reading (e ++ arrived a ∷ []) (with_body m row a.body)) (noted_is receipt k) books
 
     pub late_move : {rows : List ℕ} {plan : Plan} {moment : Option ℤ} → AreHeld (body_put k.bodies row a.body) rows → moment ≡ k.moment
         → AreLatestSteps k.listed rows moment plan.new.items → IsPlanned k (body_put k.bodies row a.body) plan
         → IsMove e (arrived a) k (with_body (noted receipt k) row a.body) [] rows (body_put k.bodies row a.body) plan
     late_move {rows = rows} {plan = plan} held moment latest planned =
-        subst (λ (m : Kept). IsMove e (arrived a) k (with_body m row a.body) [] rows (body_put k.bodies row a.body) plan) (sym (noted_is receipt k))
+        subst (λ (m : StoreState). IsMove e (arrived a) k (with_body m row a.body) [] rows (body_put k.bodies row a.body) plan) (sym (noted_is receipt k))
         (move_to e a k row (noted receipt k).receipts none is.stood books_late held refl moment latest planned)
 
     pub late_idle : (work : Work) → IsIdle e (arrived a) work
@@ -127,15 +127,15 @@ free_place full = let no : ⊥ = cc in no
 needless_place : Needless ≡ Crowded → ⊥
 needless_place full = let no : ⊥ = cc in no
 
-pub arriving_new : {e : List EventValue} {a : ArrivalValue} {k : Kept} {before : Known} {r : Received} → IsReceived e a k before r → IsArriving e a k r.found r.known (Some r.receipt)
+pub arriving_new : {e : List EventValue} {a : ArrivalValue} {k : StoreState} {before : Cache} {r : Received} → IsReceived e a k before r → IsArriving e a k r.found r.cache (Some r.receipt)
 arriving_new {e = e} {a = a} {k = k} {before = before} {r = r} got =
     let is = got.is_new in
     record {
       stood = is.stood;
       found_is = is.found_is;
-      held = subst (AreHeld k.bodies) (sym (ap (λ v. v.items) got.held)) is.known_is.held;
+      held = subst (AreHeld k.bodies) (sym (ap (λ v. v.items) got.held)) is.cache_is.held;
       told = got.told;
-      chain = ap (λ v. v.items) got.chain ∙ is.known_is.chain;
+      chain = ap (λ v. v.items) got.chain ∙ is.cache_is.chain;
       there = λ waits held. by_found r.found refl is waits held;
       parked = λ unlisted free. by_digest (subst (λ (f : Assessment). IsNew e a k f before r.receipt) unlisted is) free;
       late = λ row d holding none. books_held e a k row d before r.receipt (subst (λ (f : Assessment). IsNew e a k f before r.receipt) holding is) none;
@@ -154,21 +154,21 @@ arriving_new {e = e} {a = a} {k = k} {before = before} {r = r} got =
     by_found (Differing q) same is waits held = books_noted e a k (Differing q) before r.receipt is (λ no. let never : ⊥ = cc in never) held
     by_found (Holding q d) same is waits held = books_noted e a k (Holding q d) before r.receipt is (holding_listed q d) held
 
-pub arriving_again : {e : List EventValue} {a : ArrivalValue} {k : Kept} {found : Assessment} {known : Known} {reply : ReplyValue} → IsAgain e a k found reply → IsKnown k known
-    → IsArriving e a k found known None
+pub arriving_again : {e : List EventValue} {a : ArrivalValue} {k : StoreState} {found : Assessment} {cache : Cache} {reply : ReplyValue} → IsAgain e a k found reply → IsCacheOf k cache
+    → IsArriving e a k found cache None
 arriving_again {e = e} {a = a} {k = k} {found = found} {reply = reply} is knows = record {
   stood = is.stood;
   found_is = is.found_is;
   held = knows.held;
   told = knows.told;
   chain = knows.chain;
-  there = λ waits held. books_known_again e a k found reply is held waits;
+  there = λ waits held. books_cached_again e a k found reply is held waits;
   parked = λ unlisted free. books_parked_again e a k reply (subst (λ (f : Assessment). IsAgain e a k f reply) unlisted is) Free free free_place;
   late = λ row d holding none. books_held_again e a k row d reply (subst (λ (f : Assessment). IsAgain e a k f reply) holding is) none;
 }
 
 -- one whose body isn't missing adds nothing
-pub nothing_again : {e : List EventValue} {a : ArrivalValue} {k : Kept} (found : Assessment) {reply : ReplyValue} → IsAgain e a k found reply
+pub nothing_again : {e : List EventValue} {a : ArrivalValue} {k : StoreState} (found : Assessment) {reply : ReplyValue} → IsAgain e a k found reply
     → is_missing k.bodies k.parked (sha256 a.body) found ≡ false → AddsNothing e a
 nothing_again {e = e} {a = a} {k = k} Unlisted {reply = reply} is there = nothing_parked e a k Unlisted reply is (some_where (k.parked (sha256 a.body)) there)
 nothing_again {e = e} {a = a} {k = k} (Unreadable r n) {reply = reply} is there = nothing_refused e a k (Unreadable r n) reply is (inl (r, n, refl))

@@ -6,9 +6,9 @@ use Rattle.esc_tables.specs.Reading.{reading}
 use Rattle.esc_manifest.specs.declared.row.MRow.{MRow}
 use Rattle.esc_manifest.specs.Extension.{extended}
 use Rattle.esc_events.specs.ArrivalValue.{ArrivalValue}
-use Rattle.esc_events.specs.Events.{EventValue, Coming, union_after, union, coming, early_coming, comings_after, comings, moment_after, moment_of, manifest_then}
+use Rattle.esc_events.specs.Events.{EventValue, Coming, union_after, union, coming, early_coming, comings_after, comings, moment_after, last_moment, manifest_then}
 use Rattle.esc_events.specs.Events.EventValue.{listed, arrived, moved, arrived_early}
-use Rattle.esc_events.specs.Stands.{is_lost, kept_arrivals}
+use Rattle.esc_events.specs.StateAfter.{is_lost, kept_arrivals}
 use Rattle.esc_desk.proofs.EventLemmas.{comings_then}
 
 early_lists_none : (m : List MRow) (e : List EventValue) (a : ArrivalValue) → union_after m (e ++ arrived_early a ∷ []) ≡ union_after m e
@@ -39,7 +39,7 @@ union-early e a = early_lists_none [] e a
 pub comings-early : (e : List EventValue) (a : ArrivalValue) → comings (e ++ arrived_early a ∷ []) ≡ comings e ++ early_coming (union e) a ∷ []
 comings-early e a = early_last [] e a
 
-pub moment-early : (e : List EventValue) (a : ArrivalValue) → moment_of (e ++ arrived_early a ∷ []) ≡ moment_of e
+pub moment-early : (e : List EventValue) (a : ArrivalValue) → last_moment (e ++ arrived_early a ∷ []) ≡ last_moment e
 moment-early e a = early_sets_none None e a
 
 -- ---- those that count

@@ -10,15 +10,15 @@ use Rattle.esc_tables.specs.Reading.{reading}
 use Rattle.esc_manifest.specs.declared.row.MRow.{MRow}
 use Rattle.esc_manifest.specs.Extension.{extended}
 use Rattle.esc_chain.specs.Chain.{IsLatestChainAt}
-use Rattle.esc_store.specs.Kept.{Kept, SaysHeld}
+use Rattle.esc_store.specs.StoreState.{StoreState, SaysHeld}
 use Rattle.esc_store.specs.ListLaws.{any_weaker}
 use Rattle.esc_events.specs.ArrivalValue.{ArrivalValue}
-use Rattle.esc_events.specs.Events.{EventValue, Coming, early_coming, union_after, union, comings_after, comings, moment_after, moment_of}
+use Rattle.esc_events.specs.Events.{EventValue, Coming, early_coming, union_after, union, comings_after, comings, moment_after, last_moment}
 use Rattle.esc_events.specs.Events.EventValue.{arrived_early}
 use Rattle.esc_events.specs.Assessment.{found_at, row_of}
 use Rattle.esc_events.specs.FirstVersion.{StoodFor, events_before, first_arrivals}
 use Rattle.esc_events.specs.Receipts.{holds_row, holds, alike, distinct, receipts_after}
-use Rattle.esc_events.specs.Stands.{Among, IsApart, CameFor, StandsFor, TellsOf, body_of, holds_by, has_digest, is_lost, kept_arrivals, held_body, parked_body}
+use Rattle.esc_events.specs.StateAfter.{Among, IsApart, CameFor, IsStateAfter, TellsOf, arrived_body, holds_by, has_digest, is_lost, kept_arrivals, held_body, parked_body}
 use Rattle.esc_desk.proofs.AmendingLemmas.{row_has, row_found, find_never}
 use Rattle.esc_desk.proofs.Distinct.{alike_laws, any_alike}
 use Rattle.esc_desk.proofs.EventLemmas.{none_is_listed}
@@ -59,7 +59,7 @@ module _ (m : List MRow) (l : List ArrivalValue) where
   comings_are : comings before ≡ map (early_coming m) l
   comings_are = comings_of_early (extended [] m) l ∙ ap (λ (n : List MRow). map (early_coming n) l) (none_is_listed m)
 
-  moment_is : moment_of before ≡ None
+  moment_is : last_moment before ≡ None
   moment_is = moment_of_early None l
 
   -- the arrivals that count; and whether one holds a row
@@ -127,41 +127,41 @@ module _ (m : List MRow) (l : List ArrivalValue) where
         any_of (holds sha256 reading r) first x.0 x.1
         (holds_is r x.0 (first_came x.0 x.1) ∙ ap (λ (b : List ℕ). holds_row r (found_at (union before) (row_of (union before) (sha256 b)) (reading b))) (sym body) ∙ is)
 
-    held_is : body_of (find (holds sha256 reading r) first) ≡ held_body sha256 reading before r
+    held_is : arrived_body (find (holds sha256 reading r) first) ≡ held_body sha256 reading before r
     held_is = by_both (find (holds sha256 reading r) first) refl (find (holding r) counts) refl
       where
         by_both : (o : Option Coming) → find (holds sha256 reading r) first ≡ o → (p : Option Coming) → find (holding r) counts ≡ p
-            → body_of (find (holds sha256 reading r) first) ≡ body_of (find (holding r) counts)
-        by_both None none None miss = ap body_of (none ∙ sym miss)
+            → arrived_body (find (holds sha256 reading r) first) ≡ arrived_body (find (holding r) counts)
+        by_both None none None miss = ap arrived_body (none ∙ sym miss)
         by_both (Some c) is (Some b) at =
             let x = first_of (holds sha256 reading r) first c is in
             let y = first_of (holding r) counts b at in
             let z = holder_counts r c x.0 x.1 in
-            ap body_of is ∙ ap (λ (body : List ℕ). Some body) (one_body c b z.0 y.0 z.1 y.1) ∙ sym (ap body_of at)
+            ap arrived_body is ∙ ap (λ (body : List ℕ). Some body) (one_body c b z.0 y.0 z.1 y.1) ∙ sym (ap arrived_body at)
         by_both (Some c) is None miss =
             let x = first_of (holds sha256 reading r) first c is in
             let z = holder_counts r c x.0 x.1 in
             let some = any_some (holding r) counts (any_of (holding r) counts c z.0 z.1) in
-            absurd (true≢false (sym some ∙ ap (λ (o : Option Coming). is_some (body_of o)) miss))
+            absurd (true≢false (sym some ∙ ap (λ (o : Option Coming). is_some (arrived_body o)) miss))
         by_both None none (Some b) at =
             let y = first_of (holding r) counts b at in
             let some = any_some (holds sha256 reading r) first (first_holds b y.0 y.1) in
-            absurd (true≢false (sym some ∙ ap (λ (o : Option Coming). is_some (body_of o)) none))
+            absurd (true≢false (sym some ∙ ap (λ (o : Option Coming). is_some (arrived_body o)) none))
 
   -- no body that counts is one that no row lists
   none_parked : (d : List ℕ) → None ≡ parked_body sha256 reading before d
-  none_parked d = by_row (row_of m d) refl ∙ ap (λ (x : List MRow). cond (is_some (row_of x d)) None (body_of (find (has_digest sha256 reading d) counts))) (sym union_is)
+  none_parked d = by_row (row_of m d) refl ∙ ap (λ (x : List MRow). cond (is_some (row_of x d)) None (arrived_body (find (has_digest sha256 reading d) counts))) (sym union_is)
     where
-      by_row : (o : Option ℕ) → row_of m d ≡ o → None ≡ cond (is_some (row_of m d)) None (body_of (find (has_digest sha256 reading d) counts))
-      by_row (Some q) is = sym (ap (λ (o : Option ℕ). cond (is_some o) None (body_of (find (has_digest sha256 reading d) counts))) is)
+      by_row : (o : Option ℕ) → row_of m d ≡ o → None ≡ cond (is_some (row_of m d)) None (arrived_body (find (has_digest sha256 reading d) counts))
+      by_row (Some q) is = sym (ap (λ (o : Option ℕ). cond (is_some o) None (arrived_body (find (has_digest sha256 reading d) counts))) is)
       by_row None is =
-          sym (ap (λ (o : Option ℕ). cond (is_some o) None (body_of (find (has_digest sha256 reading d) counts))) is
-          ∙ ap body_of (find_never (has_digest sha256 reading d) counts
+          sym (ap (λ (o : Option ℕ). cond (is_some o) None (arrived_body (find (has_digest sha256 reading d) counts))) is
+          ∙ ap arrived_body (find_never (has_digest sha256 reading d) counts
           (λ c there has. listed_by c there (ap (λ (x : List ℕ). row_of m x) ((bytes_decides (sha256 c.body) d).0 has) ∙ is))))
 
 -- ---- what is kept
 
-pub stands_early : (m : List MRow) (l : List ArrivalValue) (k : Kept) → StoodFor sha256 reading m l k → StandsFor sha256 reading (events_before m l) k
+pub stands_early : (m : List MRow) (l : List ArrivalValue) (k : StoreState) → StoodFor sha256 reading m l k → IsStateAfter sha256 reading (events_before m l) k
 stands_early m l k stood = record {
   books = record {
     listed = stood.listed ∙ sym (union_is m l);
@@ -185,10 +185,10 @@ stands_early m l k stood = record {
   registry = stood.registry;
 }
   where
-    came_for : (r : ℕ) (body : List ℕ) (o : Option Coming) → find (holds sha256 reading r) (first m l) ≡ o → body_of (find (holds sha256 reading r) (first m l)) ≡ Some body
+    came_for : (r : ℕ) (body : List ℕ) (o : Option Coming) → find (holds sha256 reading r) (first m l) ≡ o → arrived_body (find (holds sha256 reading r) (first m l)) ≡ Some body
         → CameFor sha256 reading (events_before m l) r body
-    came_for r body None none at = absurd (none-some _ (sym (ap body_of none) ∙ at))
+    came_for r body None none at = absurd (none-some _ (sym (ap arrived_body none) ∙ at))
     came_for r body (Some c) is at =
         let x = first_of (holds sha256 reading r) (first m l) c is in
         let z = holder_counts m l r c x.0 x.1 in
-        record { arrival = c; among = z.0; holds = z.1; is_body = same_Some _ _ (sym (ap body_of is) ∙ at) }
+        record { arrival = c; among = z.0; holds = z.1; is_body = same_Some _ _ (sym (ap arrived_body is) ∙ at) }

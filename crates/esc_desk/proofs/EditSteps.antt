@@ -3,9 +3,9 @@ use Rattle.std.proofs.Common.{inl, inr, ℤ, Option, Some, None, refl, ◌∙◌
 use Rattle.sqlite_trees.specs.declared.store.Store.{Ghosts}
 use Rattle.esc_store.specs.declared.fault.SFault.{SFault}
 use Rattle.esc_store.specs.declared.store.Store.{Store}
-use Rattle.esc_store.specs.Kept.{Kept, with_listed}
+use Rattle.esc_store.specs.StoreState.{StoreState, with_listed}
 use Rattle.esc_store.specs.ReplyValue.{ReceiptValue}
-use Rattle.esc_store.specs.Standing.{ChangeOf, IsAsBefore, IsHonest, Rest, Stands, StoreLeavesNoMore}
+use Rattle.esc_store.specs.Representation.{ChangeOf, IsAsBefore, IsHonest, HasMadeBooks, Represents, StoreLeavesNoMore}
 use Rattle.esc_events.specs.Amended.{with_all_adopted}
 use Rattle.esc_desk.specs.declared.edit.Edit.{Edit}
 use Rattle.esc_desk.specs.declared.edit.Listing.{Listing}
@@ -18,7 +18,7 @@ use Rattle.esc_desk.proofs.CrashSteps.{adds_then}
 
 module _ {S : Type 0} (g : Ghosts S) where
   -- why a change was refused, of which nothing is committed, is why the edit is
-  pub edit_fault : (old new : Store S) (a b : ChangeOf S) (r : Option ReceiptValue) (f : SFault) → (IsHonest g new → IsHonest g b.store.now) → ((k : Kept) → Stands g old k → Rest g a k k)
+  pub edit_fault : (old new : Store S) (a b : ChangeOf S) (r : Option ReceiptValue) (f : SFault) → (IsHonest g new → IsHonest g b.store.now) → ((k : StoreState) → Represents g old k → HasMadeBooks g a k k)
       → StoreLeavesNoMore g old new → IsFillFault g r a b f → IsEditFault g r old new f
   edit_fault old new a b None f was rest leaves fault = fault
   edit_fault old new a b (Some r) f was rest leaves (inl is) = inl is
@@ -33,20 +33,20 @@ module _ {S : Type 0} (g : Ghosts S) where
 
 -- ---- the chain and its tables stay where the books are edited
 
-stays_noted : (r : Option ReceiptValue) (k : Kept) → StaysPut k (noted r k)
+stays_noted : (r : Option ReceiptValue) (k : StoreState) → StaysPut k (noted r k)
 stays_noted None k = record { steps = refl; registry = refl }
 stays_noted (Some r) k = record { steps = refl; registry = refl }
 
-stays_stored : (b : Storing) (k : Kept) → StaysPut k (stored b k)
+stays_stored : (b : Storing) (k : StoreState) → StaysPut k (stored b k)
 stays_stored Nothing k = record { steps = refl; registry = refl }
 stays_stored (Hold row body) k = record { steps = refl; registry = refl }
 stays_stored (Park digest body) k = record { steps = refl; registry = refl }
 
-stays_timed : (t : Option (Option ℤ)) (k : Kept) → StaysPut k (timed t k)
+stays_timed : (t : Option (Option ℤ)) (k : StoreState) → StaysPut k (timed t k)
 stays_timed None k = record { steps = refl; registry = refl }
 stays_timed (Some t) k = record { steps = refl; registry = refl }
 
-stays_listed : (l : Option Listing) (k : Kept) → StaysPut k (listed_more l k)
+stays_listed : (l : Option Listing) (k : StoreState) → StaysPut k (listed_more l k)
 stays_listed None k = record { steps = refl; registry = refl }
 stays_listed (Some l) k =
     let n = l.union in
@@ -56,10 +56,10 @@ stays_listed (Some l) k =
       registry = (dropped_stay n first l.judged.dropped.items).4 ∙ (adopted_stay n (with_listed k n) l.judged.adopted.items).4;
     }
 
-pub stays_then : {a b c : Kept} → StaysPut a b → StaysPut b c → StaysPut a c
+pub stays_then : {a b c : StoreState} → StaysPut a b → StaysPut b c → StaysPut a c
 stays_then p q = record { steps = q.steps ∙ p.steps; registry = q.registry ∙ p.registry }
 
-pub stays_put : (edit : Edit) (k : Kept) → StaysPut k (books_edited edit k)
+pub stays_put : (edit : Edit) (k : StoreState) → StaysPut k (books_edited edit k)
 stays_put edit k =
     let a = noted edit.receipt k in
     let b = listed_more edit.listing a in

@@ -4,7 +4,7 @@ use Rattle.std.specs.Prelude.{filter}
 use Rattle.esc_manifest.specs.declared.row.MRow.{MRow}
 use Rattle.esc_manifest.specs.Extension.{is_listed, extended}
 use Rattle.esc_events.specs.ArrivalValue.{ArrivalValue}
-use Rattle.esc_events.specs.Events.{EventValue, Coming, union_after, union, coming, early_coming, comings_after, comings, arrival_of, arrivals, moment_after, moment_of, manifest_then}
+use Rattle.esc_events.specs.Events.{EventValue, Coming, union_after, union, coming, early_coming, comings_after, comings, arrival_of, arrivals, moment_after, last_moment, manifest_then}
 use Rattle.esc_events.specs.Events.EventValue.{listed, arrived, moved, arrived_early}
 
 -- ---- one more arrival
@@ -36,7 +36,7 @@ arrived_sets_none t (arrived b ∷ e) a = arrived_sets_none t e a
 arrived_sets_none t (moved u ∷ e) a = arrived_sets_none u e a
 arrived_sets_none t (arrived_early b ∷ e) a = arrived_sets_none t e a
 
-pub moment-arrived : (e : List EventValue) (a : ArrivalValue) → moment_of (e ++ arrived a ∷ []) ≡ moment_of e
+pub moment-arrived : (e : List EventValue) (a : ArrivalValue) → last_moment (e ++ arrived a ∷ []) ≡ last_moment e
 moment-arrived e a = arrived_sets_none None e a
 
 -- ---- more rows
@@ -68,7 +68,7 @@ listed_sets_none t (arrived b ∷ e) more = listed_sets_none t e more
 listed_sets_none t (moved u ∷ e) more = listed_sets_none u e more
 listed_sets_none t (arrived_early b ∷ e) more = listed_sets_none t e more
 
-pub moment-listed : (e : List EventValue) (more : List MRow) → moment_of (e ++ listed more ∷ []) ≡ moment_of e
+pub moment-listed : (e : List EventValue) (more : List MRow) → last_moment (e ++ listed more ∷ []) ≡ last_moment e
 moment-listed e more = listed_sets_none None e more
 
 -- ---- another moment
@@ -100,7 +100,7 @@ union-moved e t = moved_lists_none [] e t
 pub comings-moved : (e : List EventValue) (t : Option ℤ) → comings (e ++ moved t ∷ []) ≡ comings e
 comings-moved e t = moved_brings_none [] e t
 
-pub moment-moved : (e : List EventValue) (t : Option ℤ) → moment_of (e ++ moved t ∷ []) ≡ t
+pub moment-moved : (e : List EventValue) (t : Option ℤ) → last_moment (e ++ moved t ∷ []) ≡ t
 moment-moved e t = moved_last None e t
 
 -- ---- a manifest, and then arrivals

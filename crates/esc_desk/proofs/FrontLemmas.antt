@@ -12,7 +12,7 @@ use Rattle.esc_manifest.specs.ManifestRows.{place_at, resend_at}
 use Rattle.esc_manifest.specs.Accepted.{IsAccepted}
 use Rattle.esc_apply.specs.declared.front.Step.{Step}
 use Rattle.esc_apply.specs.Front.{same_step, common_front}
-use Rattle.esc_store.specs.Kept.{step_at}
+use Rattle.esc_store.specs.StoreState.{step_at}
 
 same_kind : (a b : DepositType) → (rank a == rank b) ≡ true → a ≡ b
 same_kind Diff Diff e = refl

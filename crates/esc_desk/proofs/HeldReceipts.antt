@@ -4,7 +4,7 @@ use Rattle.std.specs.List.{Any, list_any}
 use Rattle.std.proofs.lemmas.Bool.{or_right, eqb-true}
 use Rattle.std.proofs.lemmas.Option.{same_Some}
 use Rattle.esc_tables.specs.DepositValue.{DepositValue}
-use Rattle.esc_store.specs.Kept.{SaysHeld}
+use Rattle.esc_store.specs.StoreState.{SaysHeld}
 use Rattle.esc_store.specs.ListLaws.{any_split, any_later}
 use Rattle.esc_events.specs.declared.assessment.Assessment.{Assessment}
 use Rattle.esc_events.specs.declared.assessment.Assessment.TheVariants.{Unlisted, Unreadable, Differing, Holding}

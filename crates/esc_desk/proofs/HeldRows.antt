@@ -11,7 +11,7 @@ use Rattle.esc_events.specs.declared.assessment.Assessment.TheVariants.{Unlisted
 use Rattle.esc_events.specs.Events.{Coming}
 use Rattle.esc_events.specs.Assessment.{assessment, found_at, held_row}
 use Rattle.esc_events.specs.Receipts.{is_row}
-use Rattle.esc_events.specs.Stands.{with_some, holds_by, rows_of}
+use Rattle.esc_events.specs.StateAfter.{with_some, holds_by, rows_of}
 use Rattle.esc_events.specs.HeldLaws.{same_test}
 
 pub is_row_of : (r : ℕ) (row : Option ℕ) → is_row r row ≡ true → row ≡ Some r

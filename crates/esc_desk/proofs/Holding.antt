@@ -6,11 +6,11 @@ use Rattle.sha2.specs.Sha256.{sha256}
 use Rattle.esc_tables.specs.DepositValue.{DepositValue}
 use Rattle.esc_tables.specs.Reading.{reading}
 use Rattle.esc_manifest.specs.declared.row.MRow.{MRow}
-use Rattle.esc_store.specs.Kept.{Kept, AreHeld, AreHeldBy, body_put, with_body}
+use Rattle.esc_store.specs.StoreState.{StoreState, AreHeld, AreHeldBy, body_put, with_body}
 use Rattle.esc_store.specs.ReplyValue.{ReceiptValue}
 use Rattle.esc_events.specs.declared.assessment.Assessment.{Assessment}
 use Rattle.esc_events.specs.declared.assessment.Assessment.TheVariants.{Unlisted, Unreadable, Differing, Holding}
-use Rattle.esc_events.specs.declared.known.Known.{Known}
+use Rattle.esc_events.specs.declared.cache.Cache.{Cache}
 use Rattle.esc_events.specs.declared.plan.Plan.{Plan}
 use Rattle.esc_events.specs.ArrivalValue.{ArrivalValue}
 use Rattle.esc_events.specs.Events.{EventValue, union}
@@ -18,11 +18,11 @@ use Rattle.esc_events.specs.Events.EventValue.{arrived}
 use Rattle.esc_events.specs.Assessment.{assessment, found_at, row_of, held_row}
 use Rattle.esc_events.specs.Receipts.{is_among}
 use Rattle.esc_events.specs.Plans.{AreLatestSteps, IsPlanned}
-use Rattle.esc_events.specs.Stands.{AreBooks, StandsFor}
+use Rattle.esc_events.specs.StateAfter.{AreBooks, IsStateAfter}
 use Rattle.esc_events.specs.Taking.{IsNew}
 use Rattle.esc_desk.specs.declared.plan.Source.TheVariants.{Arrived}
 use Rattle.esc_desk.specs.DepositSources.{IsSource}
-use Rattle.esc_desk.specs.Knowing.{IsInserted}
+use Rattle.esc_store.specs.Holding.{IsInserted}
 use Rattle.esc_desk.proofs.KnownRows.{told_more, told_same, says_row, says_only, says_none, put_at}
 use Rattle.esc_desk.proofs.Moving.{IsMove}
 
@@ -41,21 +41,21 @@ refused_row found (inl (r, n, is)) = ap held_row is
 refused_row found (inr (r, is)) = ap held_row is
 
 -- where the receipt says of no row that it is held, what is known stays
-pub told_still : (e : List EventValue) (a : ArrivalValue) (k : Kept) (found : Assessment) (known : Known) (receipt : ReceiptValue)
-    → IsNew e a k found known receipt → held_row found ≡ None → AreHeldBy (k.receipts ++ receipt ∷ []) known.told.items
-told_still e a k found known receipt is none =
-    subst (λ (r : ReceiptValue). AreHeldBy (k.receipts ++ r ∷ []) known.told.items) (sym is.receipt_is)
-    (told_same _ is.known_is.told (says_none a.number (sha256 a.body) found _ none))
+pub told_still : (e : List EventValue) (a : ArrivalValue) (k : StoreState) (found : Assessment) (cache : Cache) (receipt : ReceiptValue)
+    → IsNew e a k found cache receipt → held_row found ≡ None → AreHeldBy (k.receipts ++ receipt ∷ []) cache.rows_with_receipt.items
+told_still e a k found cache receipt is none =
+    subst (λ (r : ReceiptValue). AreHeldBy (k.receipts ++ r ∷ []) cache.rows_with_receipt.items) (sym is.receipt_is)
+    (told_same _ is.cache_is.told (says_none a.number (sha256 a.body) found _ none))
 
 -- where it says so of a row, that row is one of them
-pub told_held : (e : List EventValue) (a : ArrivalValue) (k : Kept) (row : ℕ) (d : DepositValue) (known : Known) (receipt : ReceiptValue)
-    → IsNew e a k (Holding row d) known receipt → (more : List ℕ) → IsInserted known.told.items row more
+pub told_held : (e : List EventValue) (a : ArrivalValue) (k : StoreState) (row : ℕ) (d : DepositValue) (cache : Cache) (receipt : ReceiptValue)
+    → IsNew e a k (Holding row d) cache receipt → (more : List ℕ) → IsInserted cache.rows_with_receipt.items row more
     → AreHeldBy (k.receipts ++ receipt ∷ []) more
-told_held e a k row d known receipt is more inserted =
-    let again = is_among known.told.items (Some row) in
+told_held e a k row d cache receipt is more inserted =
+    let again = is_among cache.rows_with_receipt.items (Some row) in
     let digest = sha256 a.body in
     subst (λ (r : ReceiptValue). AreHeldBy (k.receipts ++ r ∷ []) more) (sym is.receipt_is)
-    (told_more _ is.known_is.told inserted (says_row a.number digest row d again) (says_only a.number digest row d again))
+    (told_more _ is.cache_is.told inserted (says_row a.number digest row d again) (says_only a.number digest row d again))
 
 -- ---- a deposit is held
 
@@ -79,7 +79,7 @@ reads_of m body r d is = by_row (row_of m (sha256 body)) (reading body) is
     by_row (Some q) (Ok e) is = ap Ok (by_test q e _ is)
 
 -- a body is held of a row whose deposit it is
-module _ (e : List EventValue) (a : ArrivalValue) (k : Kept) (row : ℕ) where
+module _ (e : List EventValue) (a : ArrivalValue) (k : StoreState) (row : ℕ) where
   -- the bodies with this one are where the deposits are read from
   pub source_of : (d : DepositValue) → assessment sha256 reading (union e) a.body ≡ Holding row d
       → IsSource (Arrived row (Some d)) k (body_put k.bodies row a.body)
@@ -95,7 +95,7 @@ module _ (e : List EventValue) (a : ArrivalValue) (k : Kept) (row : ℕ) where
 
   -- where nothing else of what a move is made by has changed, there is a move
   pub move_to : {rows : List ℕ} {plan : Plan} {moment : Option ℤ} {listed : List MRow} (receipts : List ReceiptValue) → k.bodies row ≡ None
-      → StandsFor sha256 reading e k → AreBooks sha256 reading (e ++ arrived a ∷ []) (with_body (record k { receipts = receipts }) row a.body)
+      → IsStateAfter sha256 reading e k → AreBooks sha256 reading (e ++ arrived a ∷ []) (with_body (record k { receipts = receipts }) row a.body)
       → AreHeld (body_put k.bodies row a.body) rows → listed ≡ k.listed → moment ≡ k.moment
       → AreLatestSteps listed rows moment plan.new.items → IsPlanned k (body_put k.bodies row a.body) plan
       → IsMove e (arrived a) k (with_body (record k { receipts = receipts }) row a.body) [] rows (body_put k.bodies row a.body) plan

@@ -129,13 +129,13 @@ module _ (rows : List MRow) (parked : List ℕ → Option (List ℕ)) where
   one_more : (p : ℕ → Bool) (row : ℕ) (here : List ℕ) → row < length rows → ((l : List ℕ) → filter p (row ∷ l) ≡ here ++ filter p l)
       → {whole after : List ℕ} (before : List ℕ) → after ≡ before ++ here → before ++ filter p (numbers_from row (length rows - row)) ≡ whole
       → after ++ filter p (numbers_from (row + 1) (length rows - (row + 1))) ≡ whole
-  one_more p row here within split before added known =
+  one_more p row here within split before added cache =
       let rest = numbers_from (row + 1) (length rows - (row + 1)) in
       ap (λ (l : List ℕ). l ++ filter p rest) added
       ∙ append_assoc before here (filter p rest)
       ∙ ap (λ (l : List ℕ). before ++ l) (sym (split rest))
       ∙ ap (λ (l : List ℕ). before ++ filter p l) (sym (more_numbers row within))
-      ∙ known
+      ∙ cache
 
   module _ (row : ℕ) (within : row < length rows) (told : Judgement) (is : IsJudgement rows parked row told) where
     pub adopted_more : {whole after : List ℕ} (before : List ℕ) → after ≡ before ++ adopted_by told row
@@ -149,9 +149,9 @@ module _ (rows : List MRow) (parked : List ℕ → Option (List ℕ)) where
   -- from the last row on there are none
   no_more : (p : ℕ → Bool) (row : ℕ) (found : List ℕ) {whole : List ℕ} → row ≡ length rows
       → found ++ filter p (numbers_from row (length rows - row)) ≡ whole → found ≡ whole
-  no_more p row found all known =
+  no_more p row found all cache =
       let count : length rows - row ≡ 0 = omega (arith, all) in
-      sym (append-nil found) ∙ sym (ap (λ (n : ℕ). found ++ filter p (numbers_from row n)) count) ∙ known
+      sym (append-nil found) ∙ sym (ap (λ (n : ℕ). found ++ filter p (numbers_from row n)) count) ∙ cache
 
   pub adopted_all : (row : ℕ) (found : List ℕ) {whole : List ℕ} → row ≡ length rows → found ++ adopted_rows rows parked row ≡ whole → found ≡ whole
   adopted_all = no_more (is_adopted rows parked)

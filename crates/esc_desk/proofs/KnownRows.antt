@@ -34,7 +34,7 @@ use Rattle.std.proofs.lemmas.Map.Views.{list_any-from_Contains, Contains-from_an
 use Rattle.std.proofs.lemmas.Option.{same_Some, none-some}
 use Rattle.std.proofs.lemmas.Bool.{eqb-true}
 use Rattle.esc_tables.specs.DepositValue.{DepositValue}
-use Rattle.esc_store.specs.Kept.{SaysHeld, AreHeld, AreHeldBy, body_put}
+use Rattle.esc_store.specs.StoreState.{SaysHeld, AreHeld, AreHeldBy, body_put}
 use Rattle.esc_store.specs.ReplyValue.{ReceiptValue}
 use Rattle.esc_store.specs.ListLaws.{any_front_or_last, any_front, any_last}
 use Rattle.esc_events.specs.declared.assessment.Assessment.{Assessment}
@@ -44,7 +44,7 @@ use Rattle.esc_events.specs.Receipts.{receipt_by}
 use Rattle.esc_events.specs.HeldLaws.{same_self, exact}
 use Rattle.esc_desk.proofs.HeldReceipts.{holds_from_says, says_from_holds}
 use Rattle.esc_desk.proofs.HeldRows.{is_row_of}
-use Rattle.esc_desk.specs.Knowing.{IsInserted}
+use Rattle.esc_store.specs.Holding.{IsInserted}
 
 -- ---- the rows that receipts say are held
 

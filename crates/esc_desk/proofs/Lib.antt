@@ -19,13 +19,13 @@ pub mod EarlyStores
 pub mod EditSteps
 pub mod EntryLists
 pub mod EventLemmas
-pub mod FoundRows
 pub mod FrontLemmas
 pub mod HeldReceipts
 pub mod HeldRows
 pub mod Holding
 pub mod JudgedRows
 pub mod KnownRows
+pub mod Lengthening
 pub mod Likeness
 pub mod Lost
 pub mod Members
@@ -36,7 +36,6 @@ pub mod OneArrival
 pub mod ParkedDigests
 pub mod PlanLemmas
 pub mod ReadLemmas
-pub mod Remembering
 pub mod RunLemmas
 pub mod SameHeld
 pub mod SameRows

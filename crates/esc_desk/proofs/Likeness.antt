@@ -50,15 +50,15 @@ use Rattle.esc_tables.specs.Reading.{reading}
 use Rattle.esc_manifest.specs.declared.row.MRow.{MRow}
 use Rattle.esc_manifest.specs.Extension.{new_rows, extended}
 use Rattle.esc_manifest.specs.ManifestRows.{no_row}
-use Rattle.esc_store.specs.Kept.{Kept}
+use Rattle.esc_store.specs.StoreState.{StoreState}
 use Rattle.esc_store.specs.ReplyValue.{ReplyValue}
 use Rattle.esc_events.specs.declared.assessment.Assessment.TheVariants.{Differing, Holding}
 use Rattle.esc_events.specs.ArrivalValue.{ArrivalValue}
-use Rattle.esc_events.specs.Events.{EventValue, Coming, union, coming, early_coming, comings, moment_of}
+use Rattle.esc_events.specs.Events.{EventValue, Coming, union, coming, early_coming, comings, last_moment}
 use Rattle.esc_events.specs.Events.EventValue.{listed, arrived, moved, arrived_early}
 use Rattle.esc_events.specs.Assessment.{assessment, found, found_at, as_listed, row_of}
 use Rattle.esc_events.specs.Receipts.{alike, distinct, holds_row, receipts_of, receipts_after, reply_to}
-use Rattle.esc_events.specs.Stands.{Among, IsApart, AreBooks, StandsFor, CameFor, CameWith, TellsOf, body_of, holds_by, has_digest, kept_arrivals, held_body, parked_body}
+use Rattle.esc_events.specs.StateAfter.{Among, IsApart, AreBooks, IsStateAfter, CameFor, CameWith, TellsOf, arrived_body, holds_by, has_digest, kept_arrivals, held_body, parked_body}
 use Rattle.esc_desk.proofs.AmendingLemmas.{row_found}
 use Rattle.esc_desk.proofs.EventLemmas.{union-arrived, comings-arrived, moment-arrived, union-listed, comings-listed, moment-listed, union-moved, comings-moved, moment-moved}
 use Rattle.esc_desk.proofs.Distinct.{alike_laws, distinct-push}
@@ -170,7 +170,7 @@ record IsOneMore (m more : List MRow) (l tail : List Coming) (c : Coming) (e f :
   counted_without : kept_arrivals sha256 reading e ≡ l ++ tail
   listed_are : union e ≡ m ++ more
   rows : union f ≡ union e
-  moment : moment_of f ≡ moment_of e
+  moment : last_moment f ≡ last_moment e
   firsts : first_ones (comings f) ≡ first_ones (comings e)
 
 module _ {m more : List MRow} {l tail : List Coming} {c : Coming} {e f : List EventValue} (there : IsThere m l c) (one : IsOneMore m more l tail c e f) where
@@ -219,23 +219,23 @@ module _ {m more : List MRow} {l tail : List Coming} {c : Coming} {e f : List Ev
 
   held_as : IsApart sha256 reading f → (r : ℕ) → held_body sha256 reading f r ≡ held_body sha256 reading e r
   held_as apart r =
-      ap (λ (n : List MRow). body_of (find (holding n r) (kept_arrivals sha256 reading f))) (one.rows ∙ one.listed_are)
-      ∙ ap body_of (found_as (holding (m ++ more) r) (held_before apart r))
-      ∙ ap (λ (n : List MRow). body_of (find (holding n r) (kept_arrivals sha256 reading e))) (sym one.listed_are)
+      ap (λ (n : List MRow). arrived_body (find (holding n r) (kept_arrivals sha256 reading f))) (one.rows ∙ one.listed_are)
+      ∙ ap arrived_body (found_as (holding (m ++ more) r) (held_before apart r))
+      ∙ ap (λ (n : List MRow). arrived_body (find (holding n r) (kept_arrivals sha256 reading e))) (sym one.listed_are)
 
   parked_as : (d : List ℕ) → parked_body sha256 reading f d ≡ parked_body sha256 reading e d
   parked_as d =
-      ap (λ (n : List MRow). cond (is_some (row_of n d)) None (body_of (find (under d) (kept_arrivals sha256 reading f)))) (one.rows ∙ one.listed_are)
+      ap (λ (n : List MRow). cond (is_some (row_of n d)) None (arrived_body (find (under d) (kept_arrivals sha256 reading f)))) (one.rows ∙ one.listed_are)
       ∙ by_row (row_of (m ++ more) d) refl
-      ∙ ap (λ (n : List MRow). cond (is_some (row_of n d)) None (body_of (find (under d) (kept_arrivals sha256 reading e)))) (sym one.listed_are)
+      ∙ ap (λ (n : List MRow). cond (is_some (row_of n d)) None (arrived_body (find (under d) (kept_arrivals sha256 reading e)))) (sym one.listed_are)
     where
       by_row : (o : Option ℕ) → row_of (m ++ more) d ≡ o
-          → cond (is_some o) None (body_of (find (under d) (kept_arrivals sha256 reading f)))
-          ≡ cond (is_some o) None (body_of (find (under d) (kept_arrivals sha256 reading e)))
-      by_row None none = ap body_of (found_as (under d) (parked_before d none))
+          → cond (is_some o) None (arrived_body (find (under d) (kept_arrivals sha256 reading f)))
+          ≡ cond (is_some o) None (arrived_body (find (under d) (kept_arrivals sha256 reading e)))
+      by_row None none = ap arrived_body (found_as (under d) (parked_before d none))
       by_row (Some q) at = refl
 
-  books_as : (k : Kept) → AreBooks sha256 reading e k → AreBooks sha256 reading f k
+  books_as : (k : StoreState) → AreBooks sha256 reading e k → AreBooks sha256 reading f k
   books_as k books = record {
     listed = books.listed ∙ sym one.rows;
     receipts = books.receipts ∙ ap (receipts_after sha256 reading []) (sym one.firsts);
@@ -265,7 +265,7 @@ module _ {m more : List MRow} {l tail : List Coming} {c : Coming} {e f : List Ev
         is_body = came.is_body;
       }
 
-  stands_as : (k : Kept) → StandsFor sha256 reading e k → StandsFor sha256 reading f k
+  stands_as : (k : StoreState) → IsStateAfter sha256 reading e k → IsStateAfter sha256 reading f k
   stands_as k stood = stands_still e f k k stood (books_as k stood.books) refl refl refl refl refl
 
 -- an arrival with a reply is like an earlier one
@@ -275,7 +275,7 @@ seen e a r told =
     any_kept sha256 reading (comings e) (coming (union e) a)
     ∙ some_alike (union e) a.number (sha256 a.body) 1 (receipts_of sha256 reading e) r told
 
-module _ (e : List EventValue) (a : ArrivalValue) (k : Kept) (none : AddsNothing e a) where
+module _ (e : List EventValue) (a : ArrivalValue) (k : StoreState) (none : AddsNothing e a) where
   abbrev came : Coming
   came = coming (union e) a
 
@@ -298,7 +298,7 @@ module _ (e : List EventValue) (a : ArrivalValue) (k : Kept) (none : AddsNothing
   same_rows m = sym (append-nil m)
 
   -- what stands for the events without it does so with it
-  pub still_stands : StandsFor sha256 reading e k → StandsFor sha256 reading then k
+  pub still_stands : IsStateAfter sha256 reading e k → IsStateAfter sha256 reading then k
   still_stands stood =
       let one : IsOneMore (union e) [] before [] came e then = record {
         counted_with = count_then ∙ sym (append-nil _);
@@ -311,7 +311,7 @@ module _ (e : List EventValue) (a : ArrivalValue) (k : Kept) (none : AddsNothing
       stands_as none.there one k stood
 
   -- also where another event comes after it
-  pub still_stands_with : (x : EventValue) → StandsFor sha256 reading (e ++ x ∷ []) k → StandsFor sha256 reading (then ++ x ∷ []) k
+  pub still_stands_with : (x : EventValue) → IsStateAfter sha256 reading (e ++ x ∷ []) k → IsStateAfter sha256 reading (then ++ x ∷ []) k
   still_stands_with (listed more) stood =
       let with = comings-listed then more ∙ comings-arrived e a in
       let without = comings-listed e more in

@@ -13,7 +13,7 @@ use Rattle.esc_events.specs.Events.{EventValue, Coming, union, coming, comings}
 use Rattle.esc_events.specs.Events.EventValue.{arrived}
 use Rattle.esc_events.specs.Assessment.{found_at, row_of, held_row}
 use Rattle.esc_events.specs.Receipts.{receipt_by, holds_any, alike, receipt_for, receipts_after, unlisted_verdict}
-use Rattle.esc_events.specs.Stands.{Among, is_lost, kept_arrivals}
+use Rattle.esc_events.specs.StateAfter.{Among, is_lost, kept_arrivals}
 use Rattle.esc_desk.proofs.Distinct.{kept_one}
 use Rattle.esc_desk.proofs.EventLemmas.{comings-arrived}
 use Rattle.esc_desk.proofs.Members.{passed_among, passed_test, among_passed}

@@ -6,7 +6,7 @@ use Rattle.std.proofs.lemmas.Option.{same_Some}
 use Rattle.esc_tables.specs.DepositValue.{DepositValue}
 use Rattle.esc_events.specs.Events.{Coming}
 use Rattle.esc_events.specs.Receipts.{alike, distinct}
-use Rattle.esc_events.specs.Stands.{Among, body_of}
+use Rattle.esc_events.specs.StateAfter.{Among, arrived_body}
 use Rattle.esc_desk.proofs.Searches.{find_some, find_none}
 
 pub any_of : (p : Coming → Bool) (l : List Coming) (a : Coming) → Among l a → p a ≡ true → list_any p l ≡ true
@@ -77,23 +77,23 @@ distinct_among digest reads (b ∷ l) a (inl is) = inl is
 distinct_among digest reads (b ∷ l) a (inr there) = inr (distinct_among digest reads l a (passed_among (λ x. not (alike digest reads b x)) (distinct digest reads l) a there))
 
 -- the body of the first that passes is there exactly if one passes
-pub some_any : (p : Coming → Bool) (l : List Coming) → is_some (body_of (find p l)) ≡ true → list_any p l ≡ true
+pub some_any : (p : Coming → Bool) (l : List Coming) → is_some (arrived_body (find p l)) ≡ true → list_any p l ≡ true
 some_any p l some = by_find (find p l) refl
   where
     by_find : (o : Option Coming) → find p l ≡ o → list_any p l ≡ true
-    by_find None none = absurd (true≢false (sym some ∙ ap (λ (o : Option Coming). is_some (body_of o)) none))
+    by_find None none = absurd (true≢false (sym some ∙ ap (λ (o : Option Coming). is_some (arrived_body o)) none))
     by_find (Some y) is = find_some p l y is
 
-pub any_some : (p : Coming → Bool) (l : List Coming) → list_any p l ≡ true → is_some (body_of (find p l)) ≡ true
+pub any_some : (p : Coming → Bool) (l : List Coming) → list_any p l ≡ true → is_some (arrived_body (find p l)) ≡ true
 any_some p l any = by_find (find p l) refl
   where
-    by_find : (o : Option Coming) → find p l ≡ o → is_some (body_of (find p l)) ≡ true
+    by_find : (o : Option Coming) → find p l ≡ o → is_some (arrived_body (find p l)) ≡ true
     by_find None none = absurd (true≢false (sym any ∙ find_none p l none))
-    by_find (Some y) is = ap (λ (o : Option Coming). is_some (body_of o)) is
+    by_find (Some y) is = ap (λ (o : Option Coming). is_some (arrived_body o)) is
 
-pub no_first : (p : Coming → Bool) (l : List Coming) → body_of (find p l) ≡ None → find p l ≡ None
+pub no_first : (p : Coming → Bool) (l : List Coming) → arrived_body (find p l) ≡ None → find p l ≡ None
 no_first p l none = by_find (find p l) refl
   where
     by_find : (o : Option Coming) → find p l ≡ o → find p l ≡ None
     by_find None is = is
-    by_find (Some y) is = absurd (true≢false (ap is_some (sym (ap body_of is) ∙ none)))
+    by_find (Some y) is = absurd (true≢false (ap is_some (sym (ap arrived_body is) ∙ none)))

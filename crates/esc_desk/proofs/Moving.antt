@@ -22,13 +22,13 @@ use Rattle.esc_apply.specs.Front.{common_front}
 use Rattle.esc_apply.specs.Images.{chain_state}
 use Rattle.esc_apply.specs.Moves.{cost}
 use Rattle.esc_apply.specs.Tables.{mention_count}
-use Rattle.esc_store.specs.Kept.{Kept, AreHeld, step_at}
+use Rattle.esc_store.specs.StoreState.{StoreState, AreHeld, step_at}
 use Rattle.esc_events.specs.declared.plan.Plan.{Plan}
-use Rattle.esc_events.specs.Events.{EventValue, union, moment_of}
+use Rattle.esc_events.specs.Events.{EventValue, union, last_moment}
 use Rattle.esc_events.specs.Plans.{AreLatestSteps, IsPlanned, IsMovedFrom, IsCostOfMove, rows_in, moved_by}
 use Rattle.esc_events.specs.LatestTables.{IsChainOf}
 use Rattle.esc_events.specs.Works.{no_work}
-use Rattle.esc_events.specs.Stands.{HaveBodies, AreBooks, StandsFor, IsApart, deposit_of, or_no_deposit, deposits_of, held_rows, held_body}
+use Rattle.esc_events.specs.StateAfter.{HaveBodies, AreBooks, IsStateAfter, IsApart, deposit_of, or_no_deposit, deposits_of, held_rows, held_body}
 use Rattle.esc_events.specs.Works.{chain_cost, IsWorkOf, MentionsFew}
 use Rattle.esc_desk.proofs.FrontLemmas.{same_front}
 use Rattle.esc_desk.proofs.Lost.{counted_before}
@@ -57,9 +57,9 @@ pub apart_before : (e : List EventValue) (x : EventValue) → IsApart sha256 rea
 apart_before e x apart a b first second same = apart a b (counted_before sha256 reading e x a first) (counted_before sha256 reading e x b second) same
 
 -- the steps of a store are the latest chain of what is held
-pub chain_of : (e : List EventValue) (k : Kept) → StandsFor sha256 reading e k → IsApart sha256 reading e → IsChainOf e k.steps
+pub chain_of : (e : List EventValue) (k : StoreState) → IsStateAfter sha256 reading e k → IsApart sha256 reading e → IsChainOf e k.steps
 chain_of e k stood apart =
-    subst (λ (h : Rows). IsLatestChainAt (union e) h (moment_of e) k.steps) same
+    subst (λ (h : Rows). IsLatestChainAt (union e) h (last_moment e) k.steps) same
     (subst (λ (t : Option ℤ). IsLatestChainAt (union e) stood.held t k.steps) stood.books.moment
     (subst (λ (m : List MRow). IsLatestChainAt m stood.held k.moment k.steps) stood.books.listed stood.chain))
   where
@@ -68,8 +68,8 @@ chain_of e k stood apart =
 
 -- a store with the books of f, and the rows, bodies, moment, chain and tables of one that stands
 -- for e, stands for f
-pub stands_still : (e f : List EventValue) (k l : Kept) → StandsFor sha256 reading e k → AreBooks sha256 reading f l
-    → l.listed ≡ k.listed → l.bodies ≡ k.bodies → l.moment ≡ k.moment → l.steps ≡ k.steps → l.registry ≡ k.registry → StandsFor sha256 reading f l
+pub stands_still : (e f : List EventValue) (k l : StoreState) → IsStateAfter sha256 reading e k → AreBooks sha256 reading f l
+    → l.listed ≡ k.listed → l.bodies ≡ k.bodies → l.moment ≡ k.moment → l.steps ≡ k.steps → l.registry ≡ k.registry → IsStateAfter sha256 reading f l
 stands_still e f k l stood books rows bodies moment steps registry = record {
   books = books;
   held = stood.held;
@@ -93,7 +93,7 @@ cost_of_same e f rows same =
     ∙ no_move steps deposits (length-map rows (λ r. deposit_of reading (held_body sha256 reading e r)) ∙ sym (length-map rows (step_at (union e))))
 
 -- a chain that stays is no work
-pub no_work_of : (e : List EventValue) (x : EventValue) (k l : Kept) → StandsFor sha256 reading e k → StandsFor sha256 reading (e ++ x ∷ []) l
+pub no_work_of : (e : List EventValue) (x : EventValue) (k l : StoreState) → IsStateAfter sha256 reading e k → IsStateAfter sha256 reading (e ++ x ∷ []) l
     → union (e ++ x ∷ []) ≡ union e → l.steps ≡ k.steps → IsWorkOf e x no_work
 no_work_of e x k l stood stands rows steps apart = record {
   before = k.steps;
@@ -109,7 +109,7 @@ rows_of_steps m [] = refl
 rows_of_steps m (r ∷ rows) = ap (λ (l : List ℕ). r ∷ l) (rows_of_steps m rows)
 
 -- the deposits of a store's chain are those of a plan's old one
-pub moved_from : (e : List EventValue) (k : Kept) (bodies : ℕ → Option (List ℕ)) (plan : Plan) → StandsFor sha256 reading e k → IsPlanned k bodies plan
+pub moved_from : (e : List EventValue) (k : StoreState) (bodies : ℕ → Option (List ℕ)) (plan : Plan) → IsStateAfter sha256 reading e k → IsPlanned k bodies plan
     → IsMovedFrom k (deposits_of reading k.bodies k.steps) plan
 moved_from e k bodies plan stood planned = record {
   steps = sym (ap rows_in planned.old ∙ rows_of_steps k.listed k.steps);
@@ -120,8 +120,8 @@ moved_from e k bodies plan stood planned = record {
 -- the chain moves by a plan: k stands for the events e, l has the books of e and one more event,
 -- but k's chain; the rows that l lists begin with those of k, and the bodies that k holds are held
 -- by l
-module _ (law : LatestChainsAtAreHeldRows) (e : List EventValue) (x : EventValue) (k l : Kept)
-    (stood : StandsFor sha256 reading e k) (books : AreBooks sha256 reading (e ++ x ∷ []) l)
+module _ (law : LatestChainsAtAreHeldRows) (e : List EventValue) (x : EventValue) (k l : StoreState)
+    (stood : IsStateAfter sha256 reading e k) (books : AreBooks sha256 reading (e ++ x ∷ []) l)
     (more : List MRow) (begins : l.listed ≡ k.listed ++ more) (keeps : (r : ℕ) (body : List ℕ) → k.bodies r ≡ Some body → l.bodies r ≡ Some body)
     (rows : List ℕ) (held : AreHeld l.bodies rows) (bodies : ℕ → Option (List ℕ)) (same : (r : ℕ) → bodies r ≡ l.bodies r)
     (plan : Plan) (latest : AreLatestSteps l.listed rows l.moment plan.new.items) (planned : IsPlanned k bodies plan) where
@@ -189,7 +189,7 @@ module _ (law : LatestChainsAtAreHeldRows) (e : List EventValue) (x : EventValue
       ap (λ (ds : List DepositValue). take front ds) (same_maps (λ r. deposit_of reading (k.bodies r)) g k.steps kept) ∙ take-map g front k.steps ∙ ap (map g) rows_same in
       ap₂ (λ (xs ys : List DepositValue). xs ++ ys) first new_deposits ∙ sym (map-append g (take front after) (drop front after)) ∙ ap (map g) (take-append-drop front after)
 
-  pub stands_moved : StandsFor sha256 reading (e ++ x ∷ []) (moved_by plan l (deposits_of reading k.bodies k.steps))
+  pub stands_moved : IsStateAfter sha256 reading (e ++ x ∷ []) (moved_by plan l (deposits_of reading k.bodies k.steps))
   stands_moved = record {
     books = record {
       listed = books.listed;
@@ -242,9 +242,9 @@ module _ (law : LatestChainsAtAreHeldRows) (e : List EventValue) (x : EventValue
 -- a move by a plan after the event x: k stands for the events before it; l has the books with it,
 -- and k's chain and tables; its listed rows begin with those of k, and it holds the bodies that k
 -- does; the plan goes to the latest steps of the rows of which l holds a body
-pub record IsMove (e : List EventValue) (x : EventValue) (k l : Kept) (more : List MRow)
+pub record IsMove (e : List EventValue) (x : EventValue) (k l : StoreState) (more : List MRow)
     (rows : List ℕ) (bodies : ℕ → Option (List ℕ)) (plan : Plan) : Type 0 where
-  pub stood : StandsFor sha256 reading e k
+  pub stood : IsStateAfter sha256 reading e k
   pub books : AreBooks sha256 reading (e ++ x ∷ []) l
   pub begins : l.listed ≡ k.listed ++ more
   pub keeps : (r : ℕ) (body : List ℕ) → k.bodies r ≡ Some body → l.bodies r ≡ Some body
@@ -254,13 +254,13 @@ pub record IsMove (e : List EventValue) (x : EventValue) (k l : Kept) (more : Li
   pub planned : IsPlanned k bodies plan
 
 -- after such a move the store stands for the events with x
-pub move_stands : LatestChainsAtAreHeldRows → (e : List EventValue) (x : EventValue) (k l : Kept) (more : List MRow) (rows : List ℕ) (bodies : ℕ → Option (List ℕ)) (plan : Plan)
-    → IsMove e x k l more rows bodies plan → StandsFor sha256 reading (e ++ x ∷ []) (moved_by plan l (deposits_of reading k.bodies k.steps))
+pub move_stands : LatestChainsAtAreHeldRows → (e : List EventValue) (x : EventValue) (k l : StoreState) (more : List MRow) (rows : List ℕ) (bodies : ℕ → Option (List ℕ)) (plan : Plan)
+    → IsMove e x k l more rows bodies plan → IsStateAfter sha256 reading (e ++ x ∷ []) (moved_by plan l (deposits_of reading k.bodies k.steps))
 move_stands law e x k l more rows bodies plan is =
     stands_moved law e x k l is.stood is.books more is.begins is.keeps rows is.held bodies is.same plan is.latest is.planned
 
 -- and the work is the cost of the move
-pub move_is_work : LatestChainsAtAreHeldRows → MentionsFew → (e : List EventValue) (x : EventValue) (k l : Kept) (more : List MRow) (rows : List ℕ) (bodies : ℕ → Option (List ℕ)) (plan : Plan)
+pub move_is_work : LatestChainsAtAreHeldRows → MentionsFew → (e : List EventValue) (x : EventValue) (k l : StoreState) (more : List MRow) (rows : List ℕ) (bodies : ℕ → Option (List ℕ)) (plan : Plan)
     → IsMove e x k l more rows bodies plan → length plan.old.items ≤ 4096 → length plan.new.items ≤ 4096
     → (work : Work) → IsCostOfMove plan (deposits_of reading k.bodies k.steps) work → IsWorkOf e x work
 move_is_work law few e x k l more rows bodies plan is =

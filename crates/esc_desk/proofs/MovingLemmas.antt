@@ -24,11 +24,11 @@ use Rattle.esc_apply.specs.declared.front.Step.{Step}
 use Rattle.esc_apply.specs.Tables.{mention_count}
 use Rattle.esc_apply.specs.Front.{same_step, common_front}
 use Rattle.esc_apply.specs.Moves.{is_cleared, undone_of, work_of, cost}
-use Rattle.esc_store.specs.Kept.{AreHeld, step_at}
+use Rattle.esc_store.specs.StoreState.{AreHeld, step_at}
 use Rattle.esc_events.specs.Events.{EventValue, Coming, union, comings_after}
 use Rattle.esc_events.specs.Events.EventValue.{listed, arrived, moved, arrived_early}
 use Rattle.esc_events.specs.Works.{no_work}
-use Rattle.esc_events.specs.Stands.{Among, HaveBodies, holds_by, body_of, kept_arrivals, held_rows, held_body, deposit_of, deposits_of}
+use Rattle.esc_events.specs.StateAfter.{Among, HaveBodies, holds_by, arrived_body, kept_arrivals, held_rows, held_body, deposit_of, deposits_of}
 use Rattle.esc_events.specs.HeldLaws.{same_self, exact}
 use Rattle.esc_desk.proofs.AmendingLemmas.{same_bool, row_held}
 use Rattle.esc_desk.proofs.FrontLemmas.{AreOf}
@@ -98,11 +98,11 @@ module _ (m more : List MRow) where
 -- ---- the rows that are held
 
 -- there is a first one that passes exactly if one passes
-any_found : (p : Coming → Bool) (l : List Coming) → list_any p l ≡ is_some (body_of (find p l))
+any_found : (p : Coming → Bool) (l : List Coming) → list_any p l ≡ is_some (arrived_body (find p l))
 any_found p [] = refl
 any_found p (c ∷ l) = by_test (p c) (any_found p l)
   where
-    by_test : (b : Bool) → list_any p l ≡ is_some (body_of (find p l)) → (b || list_any p l) ≡ is_some (body_of (cond b (Some c) (find p l)))
+    by_test : (b : Bool) → list_any p l ≡ is_some (arrived_body (find p l)) → (b || list_any p l) ≡ is_some (arrived_body (cond b (Some c) (find p l)))
     by_test true rest = refl
     by_test false rest = rest
 

@@ -34,11 +34,11 @@ use Rattle.esc_manifest.specs.Extension.{new_rows, extended}
 use Rattle.esc_manifest.specs.Manifest.{manifest_of}
 use Rattle.esc_store.specs.declared.fault.SFault.{SFault}
 use Rattle.esc_store.specs.declared.store.Store.{Store}
-use Rattle.esc_store.specs.Kept.{Kept}
-use Rattle.esc_store.specs.Standing.{Stands}
-use Rattle.esc_events.specs.Events.{EventValue, Coming, union, coming, early_coming, comings, moment_of}
+use Rattle.esc_store.specs.StoreState.{StoreState}
+use Rattle.esc_store.specs.Representation.{Represents}
+use Rattle.esc_events.specs.Events.{EventValue, Coming, union, coming, early_coming, comings, last_moment}
 use Rattle.esc_events.specs.Events.EventValue.{listed, arrived, moved, arrived_early}
-use Rattle.esc_events.specs.Stands.{AreBooks, StandsFor, TellsOf, holds_by}
+use Rattle.esc_events.specs.StateAfter.{AreBooks, IsStateAfter, TellsOf, holds_by}
 use Rattle.esc_events.specs.Works.{IsWorkOf, no_work}
 use Rattle.esc_desk.proofs.AmendingEvents.{receipts_as, apart_as, held_as, parked_as, came_as, waits_as}
 use Rattle.esc_desk.proofs.EventLemmas.{union-arrived, comings-arrived, moment-arrived, union-listed, comings-listed, moment-listed, union-moved, comings-moved, moment-moved}
@@ -53,9 +53,9 @@ use Rattle.esc_desk.proofs.CrashLemmas.{one_with}
 pub record AreAlike (e f : List EventValue) : Type 0 where
   pub rows : union f ≡ union e
   pub came : comings f ≡ comings e
-  pub moment : moment_of f ≡ moment_of e
+  pub moment : last_moment f ≡ last_moment e
 
-books_alike : {e f : List EventValue} {k : Kept} → AreAlike e f → AreBooks sha256 reading e k → AreBooks sha256 reading f k
+books_alike : {e f : List EventValue} {k : StoreState} → AreAlike e f → AreBooks sha256 reading e k → AreBooks sha256 reading f k
 books_alike {e} {f} {k} same books = record {
   listed = books.listed ∙ sym same.rows;
   receipts = books.receipts ∙ sym (receipts_as sha256 e f same.came);
@@ -70,7 +70,7 @@ books_alike {e} {f} {k} same books = record {
   parked_told = books.parked_told;
 }
 
-pub stands_alike : {e f : List EventValue} {k : Kept} → AreAlike e f → StandsFor sha256 reading e k → StandsFor sha256 reading f k
+pub stands_alike : {e f : List EventValue} {k : StoreState} → AreAlike e f → IsStateAfter sha256 reading e k → IsStateAfter sha256 reading f k
 stands_alike {e} {f} {k} same stood = stands_still e f k k stood (books_alike same stood.books) refl refl refl refl refl
 
 -- with one more event after both
@@ -119,10 +119,10 @@ module _ (e : List EventValue) (more : List MRow) (none : length (new_rows (unio
     moment = moment-listed e more;
   }
 
-  pub stands_none : (k : Kept) → StandsFor sha256 reading e k → StandsFor sha256 reading (e ++ listed more ∷ []) k
+  pub stands_none : (k : StoreState) → IsStateAfter sha256 reading e k → IsStateAfter sha256 reading (e ++ listed more ∷ []) k
   stands_none k stood = stands_alike alike_none stood
 
-  pub works_none : (k : Kept) → StandsFor sha256 reading e k → IsWorkOf e (listed more) no_work
+  pub works_none : (k : StoreState) → IsStateAfter sha256 reading e k → IsWorkOf e (listed more) no_work
   works_none k stood = no_work_of e (listed more) k k stood (stands_none k stood) alike_none.rows refl
 
 -- the event of a text that reads as these rows
@@ -133,8 +133,8 @@ amendment_is text rows read = ap (λ (r : Result (List MRow) (ℕ × ℕ)). list
 
 module _ {S : Type 0} (g : Ghosts S) where
   -- the rows of a store are those that it keeps
-  pub rows_of_store : (store : Store S) (k : Kept) → Stands g store k → store.manifest ≡ k.listed
-  unfolding Stands
+  pub rows_of_store : (store : Store S) (k : StoreState) → Represents g store k → store.manifest ≡ k.listed
+  unfolding Represents
   rows_of_store store k stood = stood.listed
 
   -- no row more is listed

@@ -5,7 +5,7 @@ use Rattle.std.specs.List.{list_any, find, Any}
 use Rattle.std.specs.Cmp.Lexicographic.{bytes_decides}
 use Rattle.esc_manifest.specs.declared.row.MRow.{MRow}
 use Rattle.esc_tables.specs.DepositValue.{DepositValue}
-use Rattle.esc_store.specs.Kept.{Kept, SaysHeld, TellsUnlisted, with_receipt}
+use Rattle.esc_store.specs.StoreState.{StoreState, SaysHeld, TellsUnlisted, with_receipt}
 use Rattle.esc_store.specs.ReplyValue.{ReplyValue, ReceiptValue, reply_kept, is_alike, reply_alike}
 use Rattle.esc_store.specs.ListLaws.{any_front_or_last, any_front, any_last}
 use Rattle.esc_events.specs.ArrivalValue.{ArrivalValue}
@@ -13,7 +13,7 @@ use Rattle.esc_events.specs.Events.{EventValue, Coming, union, coming, comings}
 use Rattle.esc_events.specs.Events.EventValue.{arrived}
 use Rattle.esc_events.specs.Assessment.{row_of, held_row}
 use Rattle.esc_events.specs.Receipts.{holds_any, found_then, alike, distinct, receipt_for, receipts_after, receipts_of, reply_to}
-use Rattle.esc_events.specs.Stands.{Among, TellsOf, body_of, holds_by, has_digest, kept_arrivals, held_body, parked_body, IsApart, CameFor, CameWith, AreBooks}
+use Rattle.esc_events.specs.StateAfter.{Among, TellsOf, arrived_body, holds_by, has_digest, kept_arrivals, held_body, parked_body, IsApart, CameFor, CameWith, AreBooks}
 use Rattle.esc_desk.proofs.EventLemmas.{union-arrived, comings-arrived, moment-arrived}
 use Rattle.esc_desk.proofs.Searches.{none_alike, some_alike, alike-last, find-push-old, find-push-new}
 use Rattle.esc_desk.proofs.Distinct.{alike_laws, any_alike, distinct-push, receipts-push, kept_any}
@@ -43,13 +43,13 @@ module _ (digest : List ℕ → List ℕ) (reads : List ℕ → Result DepositVa
 
   -- a body of a row was there before, or is that of this arrival, which holds the row; and the same
   -- of a body that is parked under a digest
-  abbrev pub OldOrHolds : List EventValue → Kept → ArrivalValue → ℕ → List ℕ → Type 0
+  abbrev pub OldOrHolds : List EventValue → StoreState → ArrivalValue → ℕ → List ℕ → Type 0
   OldOrHolds e k a r body = (k.bodies r ≡ Some body) ⊎ ((holds_by digest reads (union e) r (coming (union e) a) ≡ true) × (a.body ≡ body))
 
-  abbrev pub OldOrHas : Kept → ArrivalValue → List ℕ → List ℕ → Type 0
+  abbrev pub OldOrHas : StoreState → ArrivalValue → List ℕ → List ℕ → Type 0
   OldOrHas k a d body = (k.parked d ≡ Some body) ⊎ ((digest a.body ≡ d) × (a.body ≡ body))
 
-  module _ (e : List EventValue) (k : Kept) (a : ArrivalValue) (books : AreBooks digest reads e k) where
+  module _ (e : List EventValue) (k : StoreState) (a : ArrivalValue) (books : AreBooks digest reads e k) where
     abbrev came : Coming
     came = coming (union e) a
 
@@ -96,28 +96,28 @@ module _ (digest : List ℕ → List ℕ) (reads : List ℕ → Result DepositVa
     apart-arrived apart b c first second same = apart b c (earlier b first) (earlier c second) same
 
     module _ (apart : IsApart digest reads then) where
-      held_then : (r : ℕ) → held_body digest reads then r ≡ body_of (find (holding r) (counts ++ came ∷ []))
-      held_then r = ap₂ (λ (m : List MRow) (l : List Coming). body_of (find (holds_by digest reads m r) l)) (union-arrived e a) (kept_arrivals-arrived digest reads e a)
+      held_then : (r : ℕ) → held_body digest reads then r ≡ arrived_body (find (holding r) (counts ++ came ∷ []))
+      held_then r = ap₂ (λ (m : List MRow) (l : List Coming). arrived_body (find (holds_by digest reads m r) l)) (union-arrived e a) (kept_arrivals-arrived digest reads e a)
 
-      parked_then : (d : List ℕ) → parked_body digest reads then d ≡ cond (is_some (row_of (union e) d)) None (body_of (find (under d) (counts ++ came ∷ [])))
-      parked_then d = ap₂ (λ (m : List MRow) (l : List Coming). cond (is_some (row_of m d)) None (body_of (find (under d) l))) (union-arrived e a) (kept_arrivals-arrived digest reads e a)
+      parked_then : (d : List ℕ) → parked_body digest reads then d ≡ cond (is_some (row_of (union e) d)) None (arrived_body (find (under d) (counts ++ came ∷ [])))
+      parked_then d = ap₂ (λ (m : List MRow) (l : List Coming). cond (is_some (row_of m d)) None (arrived_body (find (under d) l))) (union-arrived e a) (kept_arrivals-arrived digest reads e a)
 
-      held_now : (r : ℕ) → k.bodies r ≡ body_of (find (holding r) counts)
+      held_now : (r : ℕ) → k.bodies r ≡ arrived_body (find (holding r) counts)
       held_now r = books.bodies (apart-arrived apart) r
 
-      parked_now : (d : List ℕ) → is_some (row_of (union e) d) ≡ false → k.parked d ≡ body_of (find (under d) counts)
-      parked_now d unlisted = books.parked (apart-arrived apart) d ∙ ap (λ b. cond b None (body_of (find (under d) counts))) unlisted
+      parked_now : (d : List ℕ) → is_some (row_of (union e) d) ≡ false → k.parked d ≡ arrived_body (find (under d) counts)
+      parked_now d unlisted = books.parked (apart-arrived apart) d ∙ ap (λ b. cond b None (arrived_body (find (under d) counts))) unlisted
 
       -- a row keeps its body, unless this arrival is the first that holds it
       pub old_body : (r : ℕ) → (holding r came ≡ true → IsSome (k.bodies r)) → k.bodies r ≡ held_body digest reads then r
       old_body r old =
           held_now r
-          ∙ ap body_of (sym (find-push-old (holding r) counts came (λ h. some_any (holding r) counts (sym (ap is_some (held_now r)) ∙ old h))))
+          ∙ ap arrived_body (sym (find-push-old (holding r) counts came (λ h. some_any (holding r) counts (sym (ap is_some (held_now r)) ∙ old h))))
           ∙ sym (held_then r)
 
       pub new_body : (r : ℕ) → k.bodies r ≡ None → holding r came ≡ true → Some a.body ≡ held_body digest reads then r
       new_body r none holds =
-          ap body_of (sym (find-push-new (holding r) counts came (no_first (holding r) counts (sym (held_now r) ∙ none)) holds))
+          ap arrived_body (sym (find-push-new (holding r) counts came (no_first (holding r) counts (sym (held_now r) ∙ none)) holds))
           ∙ sym (held_then r)
 
       -- so is the body that is parked under a digest
@@ -125,17 +125,17 @@ module _ (digest : List ℕ → List ℕ) (reads : List ℕ → Result DepositVa
       old_parked d old = books.parked (apart-arrived apart) d ∙ by_row (is_some (row_of (union e) d)) refl ∙ sym (parked_then d)
         where
           by_row : (b : Bool) → is_some (row_of (union e) d) ≡ b
-              → cond b None (body_of (find (under d) counts)) ≡ cond b None (body_of (find (under d) (counts ++ came ∷ [])))
+              → cond b None (arrived_body (find (under d) counts)) ≡ cond b None (arrived_body (find (under d) (counts ++ came ∷ [])))
           by_row true is = refl
           by_row false is =
-              ap body_of (sym (find-push-old (under d) counts came
+              ap arrived_body (sym (find-push-old (under d) counts came
               (λ h. some_any (under d) counts (sym (ap is_some (parked_now d is)) ∙ old ((bytes_decides (digest a.body) d).0 h) is))))
 
       pub new_parked : (d : List ℕ) → digest a.body ≡ d → row_of (union e) d ≡ None → k.parked d ≡ None → Some a.body ≡ parked_body digest reads then d
       new_parked d same unlisted none =
           let no_old = no_first (under d) counts (sym (parked_now d (ap is_some unlisted)) ∙ none) in
-          ap body_of (sym (find-push-new (under d) counts came no_old ((bytes_decides (digest a.body) d).1 same)))
-          ∙ sym (parked_then d ∙ ap (λ (o : Option ℕ). cond (is_some o) None (body_of (find (under d) (counts ++ came ∷ [])))) unlisted)
+          ap arrived_body (sym (find-push-new (under d) counts came no_old ((bytes_decides (digest a.body) d).1 same)))
+          ∙ sym (parked_then d ∙ ap (λ (o : Option ℕ). cond (is_some o) None (arrived_body (find (under d) (counts ++ came ∷ [])))) unlisted)
 
     -- ---- what came for a row or with a digest: it was there before, or is this arrival's
 

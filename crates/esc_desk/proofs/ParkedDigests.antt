@@ -6,7 +6,7 @@ use Rattle.std.specs.declared.cmp.Ordering.TheVariants.{Less, Greater}
 use Rattle.std.specs.Cmp.Lexicographic.{slice_cmp}
 use Rattle.std.proofs.lemmas.Cmp.{nat_list_cmp_total}
 use Rattle.std.proofs.lemmas.List.Elements.{All-contains}
-use Rattle.esc_store.specs.Kept.{AreRisingTexts, AreParked, IsFull}
+use Rattle.esc_store.specs.StoreState.{AreRisingTexts, AreParked, IsFull}
 use Rattle.esc_store.specs.ListLaws.{first_or_later, later}
 
 -- a text is below another

@@ -14,11 +14,11 @@ one_longer found more d n added count = ap length added ∙ length-append found 
 pub one_more_deposit : (f : ℕ → DepositValue) (steps : List Step) (i : ℕ) (x : Step) (found more whole : List DepositValue) (d : DepositValue)
     → i < length steps → d ≡ f (get_or steps i x).row → more ≡ found ++ d ∷ []
     → found ++ map f (rows_in (drop i steps)) ≡ whole → more ++ map f (rows_in (drop (i + 1) steps)) ≡ whole
-one_more_deposit f steps i x found more whole d within is added known =
+one_more_deposit f steps i x found more whole d within is added cache =
     ap (λ (l : List DepositValue). l ++ map f (rows_in (drop (i + 1) steps))) (added ∙ ap (λ (y : DepositValue). found ++ y ∷ []) is)
     ∙ append_assoc found (f (get_or steps i x).row ∷ []) (map f (rows_in (drop (i + 1) steps)))
     ∙ ap (λ (l : List Step). found ++ map f (rows_in l)) (sym (drop_more steps i x within))
-    ∙ known
+    ∙ cache
 
 -- one more step of the same row
 pub one_more_same_row : (old new : List Step) (i : ℕ) (x y : Step) → i < length old → i < length new → (get_or old i x).row ≡ (get_or new i y).row

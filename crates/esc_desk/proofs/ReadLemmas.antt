@@ -35,20 +35,20 @@ use Rattle.esc_manifest.specs.declared.row.MRow.{MRow}
 use Rattle.esc_apply.specs.declared.front.Step.{Step}
 use Rattle.esc_apply.specs.Registry.{State, Content, IsEntriesOf}
 use Rattle.esc_apply.specs.Tables.{tables}
-use Rattle.esc_store.specs.Kept.{Kept, kept_chain, step_at, AreHeld}
+use Rattle.esc_store.specs.StoreState.{StoreState, kept_chain, step_at, AreHeld}
 use Rattle.esc_store.specs.declared.store.Store.{Store}
-use Rattle.esc_store.specs.Standing.{IsAsBefore}
+use Rattle.esc_store.specs.Representation.{IsAsBefore}
 use Rattle.esc_store.specs.StandingLaws.{as_before_then}
 use Rattle.esc_events.specs.Events.{EventValue, union}
 use Rattle.esc_events.specs.Assessment.{found_at, row_of, held_row}
 use Rattle.esc_events.specs.Receipts.{is_row}
 use Rattle.esc_events.specs.LatestTables.{tables_of, AreTables}
-use Rattle.esc_events.specs.Stands.{or_no_deposit, deposit_of, held_body, IsApart, StandsFor}
+use Rattle.esc_events.specs.StateAfter.{or_no_deposit, deposit_of, held_body, IsApart, IsStateAfter}
 use Rattle.esc_desk.proofs.Moving.{chain_of}
 use Rattle.esc_desk.proofs.MovingLemmas.{same_deposits}
 use Rattle.esc_desk.specs.declared.desk.Desk.{Desk}
 use Rattle.esc_desk.specs.declared.status.End.{End}
-use Rattle.esc_desk.specs.Calls.{Stays}
+use Rattle.esc_desk.specs.Calls.{IsUnchangedDesk}
 use Rattle.esc_desk.proofs.StoreFacts.{still_stays}
 use Rattle.esc_events.specs.declared.parked.ParkedBody.{ParkedBody}
 use Rattle.esc_events.specs.Parks.{AreParkedBodies}
@@ -56,14 +56,14 @@ use Rattle.esc_desk.specs.Reads.{last, AreHeldRows, AreParkedOf, SaysEnd, IsEndA
 
 -- a desk whose store was read, and that remembers what it did
 pub read_stays : {S : Type 0} (g : Ghosts S) (old : Desk S) (store : Store S) → IsAsBefore g old.store store
-    → Stays g old (record { store = store; known = old.known; reread = old.reread })
-read_stays g old store same = still_stays g old (record { store = store; known = old.known; reread = old.reread }) same refl
+    → IsUnchangedDesk g old (record { store = store; cache = old.cache; reread = old.reread })
+read_stays g old store same = still_stays g old (record { store = store; cache = old.cache; reread = old.reread }) same refl
 
 -- the same after two reads
 pub ruleset read_then_stays = (read_stays, as_before_then)
 
 -- the last element of an image
-last_mapped : {X Y : Type 0} (f : X → Y) (xs : List X) → last (map f xs) ≡ option_map f (last xs)
+pub last_mapped : {X Y : Type 0} (f : X → Y) (xs : List X) → last (map f xs) ≡ option_map f (last xs)
 last_mapped f xs = ap (λ (n : ℕ). slice_get (map f xs) (n - 1)) (length-map xs f) ∙ slice_get-map f xs (length xs - 1)
 
 -- the row of the last step of rows is the last row
@@ -88,7 +88,7 @@ held_by same held = record {
   each = λ r. (λ there. subst IsSome (same r) ((held.each r).0 there), λ some. (held.each r).1 (subst IsSome (sym (same r)) some));
 }
 
-module _ (e : List EventValue) (k : Kept) (stood : StandsFor sha256 reading e k) where
+module _ (e : List EventValue) (k : StoreState) (stood : IsStateAfter sha256 reading e k) where
   pub same_held : (rows : List ℕ) → AreHeld k.bodies rows → AreHeldRows e rows
   same_held rows held apart = held_by (stood.books.bodies apart) held
 

@@ -59,7 +59,7 @@ use Rattle.esc_desk.specs.Crashes.{IsApartIf, doubtful_by, doubtful_after}
 use Rattle.esc_desk.specs.Laws.{KeepsReplies}
 use Rattle.esc_desk.specs.Outcomes.{IsOutcomeOf, AreOutcomesOf, AreWorksOf, writes_in, HasWorked}
 use Rattle.esc_desk.specs.Running.{IsRight, AreRight, Ran, Takes}
-use Rattle.esc_desk.specs.Serving.{DeskServes}
+use Rattle.esc_desk.specs.Reflection.{DeskReflects}
 use Rattle.esc_desk.proofs.AmendedBooks.{replies_stay}
 use Rattle.esc_desk.proofs.EventLemmas.{union-arrived, comings-arrived, union-moved, comings-moved}
 use Rattle.esc_desk.proofs.Moving.{apart_before}
@@ -201,18 +201,18 @@ worked_more e all xs os x o was mid now are so once =
       counted = omega (arith, so.counted, once.counted, sum);
     })
 
--- ---- what a desk serves
+-- ---- what a desk reflects
 
 -- what is known of a run is known of the events before its last one
 apart_front : (apart b : Bool) (e : List EventValue) (x : EventValue) → IsApartIf apart (e ++ cond b (x ∷ []) []) → IsApartIf apart e
-apart_front false b e x known = tt
-apart_front true true e x known = apart_before e x known
-apart_front true false e x known = subst (IsApartIf true) (append-nil e) known
+apart_front false b e x cache = tt
+apart_front true true e x cache = apart_before e x cache
+apart_front true false e x cache = subst (IsApartIf true) (append-nil e) cache
 
 module _ {S : Type 0} (g : Ghosts S) where
   -- an event that was not taken in
-  pub serves_without : (desk : Desk S) (e : List EventValue) → DeskServes g desk e → DeskServes g desk (e ++ [])
-  serves_without desk e serves = subst (λ (k : List EventValue). DeskServes g desk k) (sym (append-nil e)) serves
+  pub serves_without : (desk : Desk S) (e : List EventValue) → DeskReflects g desk e → DeskReflects g desk (e ++ [])
+  serves_without desk e serves = subst (λ (k : List EventValue). DeskReflects g desk k) (sym (append-nil e)) serves
 
   pub leaves_without : (desk : Desk S) (e doubtful : List EventValue) → DeskLeaves g desk e doubtful → DeskLeaves g desk (e ++ []) doubtful
   leaves_without desk e doubtful left = subst (λ (k : List EventValue). DeskLeaves g desk k doubtful) (sym (append-nil e)) left
@@ -226,11 +226,11 @@ module _ {S : Type 0} (g : Ghosts S) where
       subst (λ (x : ArrivalValue). Takes g old new e (Arrival x) (Arrived (Done r))) same takes
 
   -- before the first event
-  pub ran_none : (desk : Desk S) (before : List EventValue) → writes_of desk < 2 ^ 64 → DeskServes g desk before → Ran g desk desk before [] []
+  pub ran_none : (desk : Desk S) (before : List EventValue) → writes_of desk < 2 ^ 64 → DeskReflects g desk before → Ran g desk desk before [] []
   ran_none desk before fits serves = record { serves = serves_without desk before serves; answers = tt; worked = worked_none before (writes_of desk) fits }
 
   pub ran_more : (start old new : Desk S) (before : List EventValue) (xs : List Event) (os : List EventOutcome) (x : Event) (o : EventOutcome)
-      → Ran g start old before xs os → ((e : List EventValue) → DeskServes g old e → Takes g old new e x o) → Ran g start new before (xs ++ x ∷ []) (os ++ o ∷ [])
+      → Ran g start old before xs os → ((e : List EventValue) → DeskReflects g old e → Takes g old new e x o) → Ran g start new before (xs ++ x ∷ []) (os ++ o ∷ [])
   ran_more start old new before xs os x o ran step =
       let e = before ++ taken_in xs os in
       let more = e ++ taken_by x o in
@@ -238,7 +238,7 @@ module _ {S : Type 0} (g : Ghosts S) where
       let all : before ++ taken_in (xs ++ x ∷ []) (os ++ o ∷ []) ≡ more = along x o e before xs os ran.answers in
       let kept = answers_kept e more (replies_kept e (taken_by x o)) before xs os ran.answers in
       record {
-        serves = subst (λ (k : List EventValue). DeskServes g new k) (sym all) now.serves;
+        serves = subst (λ (k : List EventValue). DeskReflects g new k) (sym all) now.serves;
         answers = subst (λ (k : List EventValue). AreRight before k (xs ++ x ∷ []) (os ++ o ∷ [])) (sym all)
             (answers_more x o more before xs os kept now.answer);
         worked = worked_more before e xs os x o _ _ _ ran.answers ran.worked now.worked;
@@ -248,10 +248,10 @@ module _ {S : Type 0} (g : Ghosts S) where
       → AreRight before all xs os → DeskLeavesRun g old before doubtful xs os
       → ((d : List EventValue) → DeskLeaves g old (before ++ taken_in xs os) d → DeskLeavesEvent g new (before ++ taken_in xs os) d x o)
       → DeskLeavesRun g new before doubtful (xs ++ x ∷ []) (os ++ o ∷ [])
-  left_more old new before doubtful all xs os x o are left step apart known =
+  left_more old new before doubtful all xs os x o are left step apart cache =
       let events = along x o all before xs os are in
       let doubts = doubtful_more x o all apart before doubtful xs os are in
-      let first = apart_front apart (is_taken o) (before ++ taken_in xs os) (event_of x) (subst (IsApartIf apart) events known) in
+      let first = apart_front apart (is_taken o) (before ++ taken_in xs os) (event_of x) (subst (IsApartIf apart) events cache) in
       subst₂ (λ (k d : List EventValue). DeskLeaves g new k d) (sym events) (sym doubts)
       (step (doubtful_after apart before doubtful xs os) (left apart first) apart first)
 

@@ -10,8 +10,8 @@ use Rattle.esc_manifest.specs.ManifestRows.{row_at}
 use Rattle.esc_chain.specs.Chain.{Rows, IsLatestChainAt}
 use Rattle.esc_chain.specs.Laws.{OneLatestChainAt}
 use Rattle.esc_apply.specs.Images.{chain_state}
-use Rattle.esc_events.specs.Events.{EventValue, Coming, union, moment_of}
-use Rattle.esc_events.specs.Stands.{body_of, kept_arrivals, holds_by, deposits_of, held_rows, held_body}
+use Rattle.esc_events.specs.Events.{EventValue, Coming, union, last_moment}
+use Rattle.esc_events.specs.StateAfter.{arrived_body, kept_arrivals, holds_by, deposits_of, held_rows, held_body}
 use Rattle.esc_desk.proofs.AmendingLemmas.{digest_is}
 use Rattle.esc_desk.proofs.Members.{first_of}
 use Rattle.esc_desk.proofs.Moving.{chain_of}
@@ -24,8 +24,8 @@ pub tables_are_of : TablesAreOfEvents
 tables_are_of e k stood apart = record { latest = chain_of e k stood apart; content = same_content e k stood apart }
 
 -- two searches that both find an arrival, or neither does, find the same body where the arrivals have the same
-same_found : (o p : Option Coming) → is_some (body_of o) ≡ is_some (body_of p)
-    → ((c d : Coming) → o ≡ Some c → p ≡ Some d → c.body ≡ d.body) → body_of o ≡ body_of p
+same_found : (o p : Option Coming) → is_some (arrived_body o) ≡ is_some (arrived_body p)
+    → ((c d : Coming) → o ≡ Some c → p ≡ Some d → c.body ≡ d.body) → arrived_body o ≡ arrived_body p
 same_found None None some same = refl
 same_found None (Some d) some same = absurd (true≢false (sym some))
 same_found (Some c) None some same = absurd (true≢false some)
@@ -60,7 +60,7 @@ module _ {e f : List EventValue} (same : HoldTheSame e f) where
 pub same_kept : OneLatestChainAt → SameHeldSameKept
 same_kept law e f k l accepted same apart others stood other =
     let h = held_rows sha256 reading e in
-    let t = moment_of e in
+    let t = last_moment e in
     let bodies : (r : ℕ) → k.bodies r ≡ l.bodies r = λ r. stood.books.bodies apart r ∙ body_same same r ∙ sym (other.books.bodies others r) in
     let at_f = chain_of f l other others in
     let at_e : IsLatestChainAt (union e) h t l.steps =

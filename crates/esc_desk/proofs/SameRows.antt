@@ -10,8 +10,8 @@ use Rattle.esc_manifest.specs.ManifestRows.{row_at}
 use Rattle.esc_chain.specs.Chain.{Rows, IsHeld, LeadsBack, IsLatestBackAt, IsLatestChainAt}
 use Rattle.esc_chain.specs.Laws.{rows_along, ChainsAreOfRows}
 use Rattle.esc_apply.specs.Images.{chain_state}
-use Rattle.esc_events.specs.Events.{EventValue, union, moment_of}
-use Rattle.esc_events.specs.Stands.{deposit_of, deposits_of, held_rows, held_body}
+use Rattle.esc_events.specs.Events.{EventValue, union, last_moment}
+use Rattle.esc_events.specs.StateAfter.{deposit_of, deposits_of, held_rows, held_body}
 use Rattle.esc_desk.proofs.Moving.{chain_of}
 use Rattle.esc_desk.proofs.MovingLemmas.{contains_held, same_deposits}
 use Rattle.esc_desk.specs.Laws.{HoldTheSameRows, SameRowsSameTables}
@@ -75,7 +75,7 @@ pub same_tables : ChainsAreOfRows → SameRowsSameTables
 same_tables law e f k l accepted same apart others stood other =
     let h = held_rows sha256 reading e in
     let g = held_rows sha256 reading f in
-    let t = moment_of e in
+    let t = last_moment e in
     let at_e = chain_of e k stood apart in
     let at_f : IsLatestChainAt (union f) g t l.steps =
     subst (λ (u : Option ℤ). IsLatestChainAt (union f) g u l.steps) (sym same.moment) (chain_of f l other others) in

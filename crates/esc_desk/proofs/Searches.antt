@@ -9,32 +9,32 @@ find_some p [] y e = absurd (cc)
 find_some p (x ∷ xs) y e = by_test (p x) (find_some p xs y) e
   where
     by_test : (b : Bool) → (find p xs ≡ Some y → list_any p xs ≡ true) → cond b (Some x) (find p xs) ≡ Some y → (b || list_any p xs) ≡ true
-    by_test true known e = refl
-    by_test false known e = known e
+    by_test true cache e = refl
+    by_test false cache e = cache e
 
 pub find_none : {X : Type 0} (p : X → Bool) (xs : List X) → find p xs ≡ None → list_any p xs ≡ false
 find_none p [] e = refl
 find_none p (x ∷ xs) e = by_test (p x) (find_none p xs) e
   where
     by_test : (b : Bool) → (find p xs ≡ None → list_any p xs ≡ false) → cond b (Some x) (find p xs) ≡ None → (b || list_any p xs) ≡ false
-    by_test true known e = absurd (cc)
-    by_test false known e = known e
+    by_test true cache e = absurd (cc)
+    by_test false cache e = cache e
 
 pub find-front : {X : Type 0} (p : X → Bool) (xs ys : List X) (y : X) → find p xs ≡ Some y → find p (xs ++ ys) ≡ Some y
 find-front p [] ys y e = absurd (cc)
 find-front p (x ∷ xs) ys y e = by_test (p x) (find-front p xs ys y) e
   where
     by_test : (b : Bool) → (find p xs ≡ Some y → find p (xs ++ ys) ≡ Some y) → cond b (Some x) (find p xs) ≡ Some y → cond b (Some x) (find p (xs ++ ys)) ≡ Some y
-    by_test true known e = e
-    by_test false known e = known e
+    by_test true cache e = e
+    by_test false cache e = cache e
 
 pub find-back : {X : Type 0} (p : X → Bool) (xs ys : List X) → find p xs ≡ None → find p (xs ++ ys) ≡ find p ys
 find-back p [] ys e = refl
 find-back p (x ∷ xs) ys e = by_test (p x) (find-back p xs ys) e
   where
     by_test : (b : Bool) → (find p xs ≡ None → find p (xs ++ ys) ≡ find p ys) → cond b (Some x) (find p xs) ≡ None → cond b (Some x) (find p (xs ++ ys)) ≡ find p ys
-    by_test true known e = absurd (cc)
-    by_test false known e = known e
+    by_test true cache e = absurd (cc)
+    by_test false cache e = cache e
 
 -- one more element at the end of a list changes nothing of what is found, if one of the list passes
 -- whenever it does
@@ -68,8 +68,8 @@ module _ (m : List MRow) (number digest : List ℕ) where
     where
       by_test : (b : Bool) → (reply_of (suc n) rs ≡ None → list_any is_it rs ≡ false)
           → cond b (Some (reply_kept m n r)) (reply_of (suc n) rs) ≡ None → (b || list_any is_it rs) ≡ false
-      by_test true known e = absurd (cc)
-      by_test false known e = known e
+      by_test true cache e = absurd (cc)
+      by_test false cache e = cache e
 
   pub some_alike : (n : ℕ) (rs : List ReceiptValue) (y : ReplyValue) → reply_alike m n number digest rs ≡ Some y → list_any (is_alike number digest) rs ≡ true
   some_alike n [] y e = absurd (cc)
@@ -77,8 +77,8 @@ module _ (m : List MRow) (number digest : List ℕ) where
     where
       by_test : (b : Bool) → (reply_of (suc n) rs ≡ Some y → list_any is_it rs ≡ true)
           → cond b (Some (reply_kept m n r)) (reply_of (suc n) rs) ≡ Some y → (b || list_any is_it rs) ≡ true
-      by_test true known e = refl
-      by_test false known e = known e
+      by_test true cache e = refl
+      by_test false cache e = cache e
 
   pub alike-front : (n : ℕ) (rs more : List ReceiptValue) (y : ReplyValue) → reply_alike m n number digest rs ≡ Some y → reply_alike m n number digest (rs ++ more) ≡ Some y
   alike-front n [] more y e = absurd (cc)
@@ -87,8 +87,8 @@ module _ (m : List MRow) (number digest : List ℕ) where
       by_test : (b : Bool) → (reply_of (suc n) rs ≡ Some y → reply_of (suc n) (rs ++ more) ≡ Some y)
           → cond b (Some (reply_kept m n r)) (reply_of (suc n) rs) ≡ Some y
           → cond b (Some (reply_kept m n r)) (reply_of (suc n) (rs ++ more)) ≡ Some y
-      by_test true known e = e
-      by_test false known e = known e
+      by_test true cache e = e
+      by_test false cache e = cache e
 
   -- a last receipt with the number and the digest is found, if no receipt before it has them
   pub alike-last : (n : ℕ) (rs : List ReceiptValue) (r : ReceiptValue) → reply_alike m n number digest rs ≡ None → is_alike number digest r ≡ true
@@ -102,5 +102,5 @@ module _ (m : List MRow) (number digest : List ℕ) where
       by_test : (b : Bool) → (reply_of (suc n) rs ≡ None → reply_of (suc n) (rs ++ r ∷ []) ≡ Some (reply_kept m (suc n + length rs) r))
           → cond b (Some (reply_kept m n x)) (reply_of (suc n) rs) ≡ None
           → cond b (Some (reply_kept m n x)) (reply_of (suc n) (rs ++ r ∷ [])) ≡ Some (reply_kept m (n + suc (length rs)) r)
-      by_test true known e = absurd (cc)
-      by_test false known e = known e ∙ ap (λ (k : ℕ). Some (reply_kept m k r)) count
+      by_test true cache e = absurd (cc)
+      by_test false cache e = cache e ∙ ap (λ (k : ℕ). Some (reply_kept m k r)) count

@@ -1,17 +1,28 @@
 -- The receipts that tell of a body which no row listed.
-use Rattle.std.proofs.Common.{◌≡◌, inr, ℕ, suc, Bool, true, false, cond, List, [], ◌∷◌, Some, refl, ap, ◌∙◌, arith}
+use Rattle.std.proofs.Common.{◌≡◌, inr, ℕ, suc, Bool, true, false, cond, List, [], ◌∷◌, Some, refl, sym, ap, subst, ◌∙◌, arith}
 use Rattle.std.specs.List.{Any}
 use Rattle.std.specs.Str.{bytes_eq}
 use Rattle.std.specs.Cmp.Lexicographic.{bytes_decides}
 use Rattle.std.proofs.lemmas.Bool.{and_parts}
 use Rattle.std.proofs.lemmas.Option.{same_Some, none-some}
+use Rattle.sha2.specs.Sha256.{sha256}
+use Rattle.esc_tables.specs.Reading.{reading}
 use Rattle.esc_manifest.specs.declared.row.MRow.{MRow}
 use Rattle.esc_store.specs.declared.reply.Verdict.TheVariants.{A2}
-use Rattle.esc_store.specs.Kept.{is_unlisted, TellsUnlisted}
+use Rattle.esc_store.specs.StoreState.{is_unlisted, StoreState, TellsUnlisted}
+use Rattle.esc_store.specs.Holding.{HasReceipts}
 use Rattle.esc_store.specs.ReplyValue.{ReplyValue, ReceiptValue, reply_kept, is_alike, reply_alike}
 use Rattle.esc_store.specs.ListLaws.{any_later, any_weaker}
 use Rattle.esc_events.specs.Assessment.{row_of}
-use Rattle.esc_events.specs.Stands.{TellsOf}
+use Rattle.esc_events.specs.Events.{EventValue}
+use Rattle.esc_events.specs.StateAfter.{AreBooks, TellsOf}
+
+-- the receipts of what is kept account for what is held
+pub has_receipts : (e : List EventValue) (k : StoreState) → AreBooks sha256 reading e k → HasReceipts k
+has_receipts e k books = record {
+  told = books.told;
+  held_told = λ r some. subst (λ (m : List MRow). Any (TellsOf m r) k.receipts) (sym books.listed) (books.held_told r some);
+}
 
 -- such a receipt tells of the row that has its digest now
 pub tells_of_row : (m : List MRow) (digest : List ℕ) (row : ℕ) → row_of m digest ≡ Some row → (r : ReceiptValue) → TellsUnlisted digest r → TellsOf m row r

@@ -17,19 +17,19 @@ use Rattle.esc_chain.specs.Laws.{OneLatestChainAt}
 use Rattle.esc_apply.specs.ObjectStreams.{Entry, InOrder}
 use Rattle.esc_apply.specs.Registry.{Content}
 use Rattle.esc_store.specs.declared.store.Store.{Store}
-use Rattle.esc_store.specs.Kept.{Kept}
-use Rattle.esc_store.specs.Standing.{Stands, IsAsBefore}
+use Rattle.esc_store.specs.StoreState.{StoreState}
+use Rattle.esc_store.specs.Representation.{Represents, IsAsBefore}
 use Rattle.esc_store.specs.Pages.{IsPage, last_text}
 use Rattle.esc_desk.specs.declared.walk.Pages.{Pages}
 use Rattle.esc_desk.specs.declared.walk.Walk.{Walk}
-use Rattle.esc_events.specs.Events.{EventValue, union, moment_of}
+use Rattle.esc_events.specs.Events.{EventValue, union, last_moment}
 use Rattle.esc_events.specs.LatestTables.{AreEntries, tables_of}
-use Rattle.esc_events.specs.Stands.{kept_arrivals, IsApart, holds_by, held_rows}
+use Rattle.esc_events.specs.StateAfter.{kept_arrivals, IsApart, holds_by, held_rows}
 use Rattle.esc_desk.proofs.HeldRows.{contains_held}
 use Rattle.esc_desk.proofs.Members.{one_of}
 use Rattle.esc_desk.proofs.Moving.{chain_of}
 use Rattle.esc_desk.proofs.MovingLemmas.{held_within}
-use Rattle.esc_desk.specs.Serving.{Serves}
+use Rattle.esc_desk.specs.Reflection.{StoreReflects}
 use Rattle.esc_desk.specs.Places.{first_kind, IsPlaceBehind}
 use Rattle.esc_desk.specs.Walking.{of_kinds, AreBehind, AreToCome, Follows}
 use Rattle.esc_desk.proofs.ReadLemmas.{same_content}
@@ -60,12 +60,12 @@ AtOnePlace pages later = (later.kind ≡ pages.kind) × (later.from.items ≡ pa
 
 -- a walk over the same desk, of which the store was read
 pub follows : {S : Type 0} {g : Ghosts S} (old new : Walk S Pages) → new.desk.ghost_name ≡ old.desk.ghost_name
-    → IsAsBefore g old.desk.now.store new.desk.now.store → new.desk.now.known ≡ old.desk.now.known → Follows g old new
-follows {g = g} old new reference same known = record {
+    → IsAsBefore g old.desk.now.store new.desk.now.store → new.desk.now.cache ≡ old.desk.now.cache → Follows g old new
+follows {g = g} old new reference same cache = record {
   same_reference = reference;
   same = same;
-  known = known;
-  serves = still_serves g old.desk.now new.desk.now same known;
+  cache = cache;
+  serves = still_serves g old.desk.now new.desk.now same cache;
 }
 
 module _ {S : Type 0} {g : Ghosts S} {store : Store S} {pages : Pages} {es : List Entry} (come : AreToCome g store pages es) where
@@ -121,7 +121,7 @@ module _ {S : Type 0} (g : Ghosts S) where
   -- the page at hand was used up, and the one after it was read
   pub turned : (old new : Store S) (pages later : Pages) (es : List Entry) (kind : Kind) (page : List Entry)
       → IsAsBefore g old new → AreToCome g old pages es → into_iter_items pages.page ≡ [] → pages.kind ≡ Some kind
-      → ((k : Kept) → Stands g old k → IsPage k.registry.content kind pages.from.items page)
+      → ((k : StoreState) → Represents g old k → IsPage k.registry.content kind pages.from.items page)
       → IsPlaceBehind kind pages.alone page later.kind later.from.items → into_iter_items later.page ≡ page → later.alone ≡ pages.alone
       → AreToCome g new later es
   turned old new pages later es kind page same come items is told placed at_hand alone =
@@ -143,7 +143,7 @@ module _ {S : Type 0} (g : Ghosts S) where
 
   -- before the first page
   pub begins : (store : Store S) (pages : Pages) (kind : Option Kind) (e : List EventValue) (es : List Entry)
-      → OneLatestChainAt → IsAccepted (union e) → IsApart sha256 reading e → Serves g store e → AreEntries e es → InOrder es
+      → OneLatestChainAt → IsAccepted (union e) → IsApart sha256 reading e → StoreReflects g store e → AreEntries e es → InOrder es
       → into_iter_items pages.page ≡ [] → pages.kind ≡ Some (first_kind kind) → pages.from.items ≡ [] → pages.alone ≡ is_some kind
       → AreToCome g store pages (of_kinds kind es)
   begins store pages kind e es law accepted apart serves entries order items is from alone =
@@ -151,7 +151,7 @@ module _ {S : Type 0} (g : Ghosts S) where
       let rows = held_rows sha256 reading e in
       let latest = chain_of e k serves.stands_for apart in
       let one : entries.chain ≡ k.steps =
-      law (union e) rows rows (moment_of e) entries.chain k.steps accepted (held_in_range e)
+      law (union e) rows rows (last_moment e) entries.chain k.steps accepted (held_in_range e)
       (λ r. (λ held. held, λ held. held)) entries.latest latest in
       let same : tables_of e entries.chain ≡ k.registry.content = ap (tables_of e) one ∙ sym (same_content e k serves.stands_for apart) in
       let are = from_the_first k.registry.content kind es order (λ q. entries.objects.each q ∙ ap (λ (f : Content). f q) same) in

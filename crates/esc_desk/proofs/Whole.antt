@@ -3,17 +3,17 @@ use Rattle.std.proofs.Common.{◌≡◌, ◌+◌, ℕ, Option, None, Result, Ok,
 use Rattle.sqlite_trees.specs.declared.store.Store.{Ghosts}
 use Rattle.esc_apply.specs.Registry.{saturated}
 use Rattle.esc_apply.specs.declared.moves.Work.{Work}
-use Rattle.esc_store.specs.Kept.{Kept}
-use Rattle.esc_store.specs.Standing.{IsAsBefore, Stands}
+use Rattle.esc_store.specs.StoreState.{StoreState}
+use Rattle.esc_store.specs.Representation.{IsAsBefore, Represents}
 use Rattle.esc_store.specs.StandingLaws.{was_honest}
-use Rattle.esc_events.specs.Known.{IsKnown}
-use Rattle.esc_events.specs.declared.known.Known.{Known}
+use Rattle.esc_events.specs.Cache.{IsCacheOf}
+use Rattle.esc_events.specs.declared.cache.Cache.{Cache}
 use Rattle.esc_desk.specs.declared.desk.Desk.{Desk}
-use Rattle.esc_desk.specs.Calls.{IsWhole, ServesStill, WasHonest, writes_of}
+use Rattle.esc_desk.specs.Calls.{IsWhole, StillReflects, WasHonest, writes_of}
 
 module _ {S : Type 0} (g : Ghosts S) where
-  -- a desk whose store stands for what it stood for, and that remembers what it did or nothing, serves what it did
-  serves_still : (old new : Desk S) → ((k : Kept) → Stands g old.store k → Stands g new.store k) → ((k : Kept) → IfSome old.known (IsKnown k) → IfSome new.known (IsKnown k)) → ServesStill g old new
+  -- a desk whose store stands for what it stood for, and that remembers what it did or nothing, reflects what it did
+  serves_still : (old new : Desk S) → ((k : StoreState) → Represents g old.store k → Represents g new.store k) → ((k : StoreState) → IfSome old.cache (IsCacheOf k) → IfSome new.cache (IsCacheOf k)) → StillReflects g old new
   serves_still old new stands remembers e served =
       let serves = served.serves in
       record {
@@ -21,26 +21,26 @@ module _ {S : Type 0} (g : Ghosts S) where
         remembers = remembers serves.kept served.remembers;
       }
 
-  pub forgets : (old new : Desk S) → IsAsBefore g old.store new.store → new.known ≡ None → ServesStill g old new
-  forgets old new same none = serves_still old new same.stands (λ k knows. subst (λ (known : Option Known). IfSome known (IsKnown k)) (sym none) tt)
+  pub forgets : (old new : Desk S) → IsAsBefore g old.store new.store → new.cache ≡ None → StillReflects g old new
+  forgets old new same none = serves_still old new same.stands (λ k knows. subst (λ (cache : Option Cache). IfSome cache (IsCacheOf k)) (sym none) tt)
 
   -- a call that failed
   pub whole_err : (old new : Desk S) {X E : Type 0} {work : X → Work} {result : Result X E} (f : E) → result ≡ Err f → WasHonest g old new → writes_of new ≡ writes_of old
-      → ((k : Kept) → Stands g old.store k → Stands g new.store k) → new.known ≡ old.known → IsWhole g old new result work
+      → ((k : StoreState) → Represents g old.store k → Represents g new.store k) → new.cache ≡ old.cache → IsWhole g old new result work
   whole_err old new f is honest writes stands same = rw is (record {
     honest = honest;
     counted = tt;
     uncounted = writes;
-    lost = serves_still old new stands (λ k knows. subst (λ (known : Option Known). IfSome known (IsKnown k)) (sym same) knows);
+    lost = serves_still old new stands (λ k knows. subst (λ (cache : Option Cache). IfSome cache (IsCacheOf k)) (sym same) knows);
   })
 
   -- one that failed before anything was begun
-  pub whole_early : (old new : Desk S) {X E : Type 0} {work : X → Work} {result : Result X E} (f : E) → result ≡ Err f → IsAsBefore g old.store new.store → ServesStill g old new
+  pub whole_early : (old new : Desk S) {X E : Type 0} {work : X → Work} {result : Result X E} (f : E) → result ≡ Err f → IsAsBefore g old.store new.store → StillReflects g old new
       → IsWhole g old new result work
   whole_early old new f is same still = rw is (record { honest = was_honest same; counted = tt; uncounted = same.writes; lost = still })
 
   -- reads, and then a call that was whole
-  module _ (old mid new : Desk S) (same : IsAsBefore g old.store mid.store) (still : ServesStill g old mid) {X Y E F : Type 0} {work : X → Work} {made : Y → Work} where
+  module _ (old mid new : Desk S) (same : IsAsBefore g old.store mid.store) (still : StillReflects g old mid) {X Y E F : Type 0} {work : X → Work} {made : Y → Work} where
     pub whole_lost : {result : Result X E} (f : E) {h : F} → result ≡ Err f → IsWhole g mid new (Err h) made → IsWhole g old new result work
     whole_lost f is whole = rw is (record {
       honest = λ clean. was_honest same (whole.honest clean);

@@ -6,15 +6,15 @@ use Rattle.esc_tables.specs.Reading.{reading}
 use Rattle.esc_manifest.specs.declared.row.MRow.{MRow}
 use Rattle.esc_chain.specs.Chain.{Rows}
 use Rattle.esc_apply.specs.declared.moves.Work.{Work}
-use Rattle.esc_store.specs.Kept.{Kept, with_moment, body_put}
-use Rattle.esc_events.specs.declared.known.Known.{Known}
+use Rattle.esc_store.specs.StoreState.{StoreState, with_moment, body_put}
+use Rattle.esc_events.specs.declared.cache.Cache.{Cache}
 use Rattle.esc_events.specs.declared.plan.Plan.{Plan}
 use Rattle.esc_events.specs.ArrivalValue.{ArrivalValue}
 use Rattle.esc_events.specs.Events.{EventValue}
 use Rattle.esc_events.specs.Events.EventValue.{arrived, moved}
-use Rattle.esc_events.specs.Known.{IsKnown}
+use Rattle.esc_events.specs.Cache.{IsCacheOf}
 use Rattle.esc_events.specs.Plans.{AreLatestSteps, IsPlanned}
-use Rattle.esc_events.specs.Stands.{StandsFor, IsApart, held_body}
+use Rattle.esc_events.specs.StateAfter.{IsStateAfter, IsApart, held_body}
 use Rattle.esc_events.specs.Works.{IsIdle}
 use Rattle.esc_desk.proofs.AmendedBooks.{books_of_moment}
 use Rattle.esc_desk.proofs.Moving.{IsMove, apart_before}
@@ -22,7 +22,7 @@ use Rattle.esc_desk.proofs.MovingLemmas.{contains_held}
 use Rattle.esc_desk.proofs.KnownRows.{put_at}
 
 -- an arrival that adds a row: nothing is said of one that adds none
-pub idle_by : (e : List EventValue) (a : ArrivalValue) (k : Kept) (row : ℕ) → StandsFor sha256 reading e k → k.bodies row ≡ None
+pub idle_by : (e : List EventValue) (a : ArrivalValue) (k : StoreState) (row : ℕ) → IsStateAfter sha256 reading e k → k.bodies row ≡ None
     → (IsApart sha256 reading (e ++ arrived a ∷ []) → body_put k.bodies row a.body row ≡ held_body sha256 reading (e ++ arrived a ∷ []) row)
     → (work : Work) → IsIdle e (arrived a) work
 idle_by e a k row stood none held work apart same =
@@ -37,9 +37,9 @@ idle_by e a k row stood none held work apart same =
 
 -- ---- another moment is set
 
-pub moment_move : {e : List EventValue} {k : Kept} {t : Option ℤ} {known : Known} {plan : Plan} {listed : List MRow} {rows : List ℕ} → StandsFor sha256 reading e k → IsKnown k known
-    → listed ≡ k.listed → rows ≡ known.held.items → AreLatestSteps listed rows t plan.new.items → IsPlanned k k.bodies plan
-    → IsMove e (moved t) k (with_moment k t) [] known.held.items k.bodies plan
+pub moment_move : {e : List EventValue} {k : StoreState} {t : Option ℤ} {cache : Cache} {plan : Plan} {listed : List MRow} {rows : List ℕ} → IsStateAfter sha256 reading e k → IsCacheOf k cache
+    → listed ≡ k.listed → rows ≡ cache.held_rows.items → AreLatestSteps listed rows t plan.new.items → IsPlanned k k.bodies plan
+    → IsMove e (moved t) k (with_moment k t) [] cache.held_rows.items k.bodies plan
 moment_move {e = e} {k = k} {t = t} {plan = plan} {rows = rows} stood is listed_are rows_are latest planned = record {
   stood = stood;
   books = books_of_moment e k t stood.books;

@@ -19,7 +19,7 @@ use Rattle.esc_events.specs.ArrivalValue.{ArrivalValue}
 use Rattle.esc_events.specs.Events.{EventValue, union}
 use Rattle.esc_events.specs.Assessment.{assessment}
 use Rattle.esc_events.specs.Receipts.{reply_to}
-use Rattle.esc_events.specs.Stands.{held_body, parked_body}
+use Rattle.esc_events.specs.StateAfter.{held_body, parked_body}
 
 -- this arrival is no duplicate of an earlier one, or that one's verdict was A2, so that its body
 -- was not kept

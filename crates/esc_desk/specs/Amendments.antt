@@ -31,7 +31,7 @@ use Rattle.esc_desk.specs.declared.amendment.AmendFault.TheVariants.{M, Store as
 use Rattle.esc_desk.specs.declared.desk.Desk.{Desk}
 use Rattle.esc_desk.specs.Asked.{amendment_of}
 use Rattle.esc_desk.specs.Crashes.{CrashLeaves, LeavesRefused}
-use Rattle.esc_desk.specs.Serving.{DeskServes}
+use Rattle.esc_desk.specs.Reflection.{DeskReflects}
 
 -- a text reads as an accepted manifest; the union with it is accepted, and has this many rows more
 pub record AddsRows (e : List EventValue) (text : List ℕ) (count : ℕ) : Type 0 where
@@ -40,12 +40,12 @@ pub record AddsRows (e : List EventValue) (text : List ℕ) (count : ℕ) : Type
   pub accepted : extension (union e) rows ≡ Ok (extended (union e) rows)
   pub count_is : count ≡ length (new_rows (union e) rows)
 
--- an amendment was taken in: the desk serves the events with it, this many rows were added, and
+-- an amendment was taken in: the desk reflects the events with it, this many rows were added, and
 -- this was the work, none if no row was added
 pub record IsAmended {S : Type 0} (g : Ghosts S) (desk : Desk S) (e : List EventValue)
     (text : List ℕ) (count : ℕ) (work : Work) : Type 0 where
   pub adds : AddsRows e text count
-  pub serves : DeskServes g desk (e ++ amendment_of text ∷ [])
+  pub serves : DeskReflects g desk (e ++ amendment_of text ∷ [])
   pub works : IsWorkOf e (amendment_of text) work
   pub idle : count ≡ 0 → work ≡ no_work
 

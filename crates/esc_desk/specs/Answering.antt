@@ -1,22 +1,41 @@
 -- What an arrival is answered, and what it comes to, found by reads alone.
-use Rattle.std.specs.Prelude.{◌≡◌, ◌≢◌, ◌+◌, ℕ, Bool, true, false, is_some, IsSome, IfSome, List, [], ◌∷◌, ◌++◌, length, Option, Some, None}
+use Rattle.std.specs.Prelude.{
+  ◌≡◌,
+  ◌≢◌,
+  ◌+◌,
+  ℕ,
+  Bool,
+  true,
+  false,
+  is_some,
+  IsSome,
+  IfSome,
+  List,
+  [],
+  ◌∷◌,
+  ◌++◌,
+  length,
+  Option,
+  Some,
+  None,
+}
 use Rattle.sha2.specs.Sha256.{sha256}
 use Rattle.sqlite_trees.specs.declared.store.Store.{Ghosts}
 use Rattle.esc_tables.specs.Reading.{reading}
 use Rattle.esc_apply.specs.declared.moves.Work.{Work}
 use Rattle.esc_store.specs.declared.reply.Verdict.TheVariants.{A2}
 use Rattle.esc_store.specs.declared.store.Store.{Store}
-use Rattle.esc_store.specs.Kept.{Kept}
+use Rattle.esc_store.specs.StoreState.{StoreState}
 use Rattle.esc_store.specs.ReplyValue.{ReplyValue, reply_alike}
-use Rattle.esc_store.specs.Standing.{Stands}
-use Rattle.esc_events.specs.declared.known.Known.{Known}
+use Rattle.esc_store.specs.Representation.{Represents}
+use Rattle.esc_events.specs.declared.cache.Cache.{Cache}
 use Rattle.esc_events.specs.ArrivalValue.{ArrivalValue}
 use Rattle.esc_events.specs.Assessment.{assessment}
 use Rattle.esc_events.specs.Events.{EventValue, union}
 use Rattle.esc_events.specs.Events.EventValue.{arrived}
-use Rattle.esc_events.specs.Known.{IsKnown}
+use Rattle.esc_events.specs.Cache.{IsCacheOf}
 use Rattle.esc_events.specs.Receipts.{reply_to}
-use Rattle.esc_events.specs.Stands.{StandsFor}
+use Rattle.esc_events.specs.StateAfter.{IsStateAfter}
 use Rattle.esc_events.specs.Works.{IsIdle}
 use Rattle.esc_desk.specs.declared.answering.Answer.{Answer}
 use Rattle.esc_desk.specs.Again.{IsUnkept, is_missing}
@@ -26,12 +45,12 @@ use Rattle.esc_desk.specs.Edits.{IsCostIf, chain_deposits, is_empty}
 
 -- a store keeps k and stands for e, this is known of its rows, if anything is, and this is the
 -- reply that it keeps for an arrival with this number and digest
-pub record IsAsked {S : Type 0} (g : Ghosts S) (store : Store S) (known : Option Known)
-    (n digest : List ℕ) (kept : Option ReplyValue) (e : List EventValue) (k : Kept)
+pub record IsAsked {S : Type 0} (g : Ghosts S) (store : Store S) (cache : Option Cache)
+    (n digest : List ℕ) (kept : Option ReplyValue) (e : List EventValue) (k : StoreState)
     : Type 0 where
-  pub stood : Stands g store k
-  pub stands_for : StandsFor sha256 reading e k
-  pub known_is : IfSome known (IsKnown k)
+  pub stood : Represents g store k
+  pub stands_for : IsStateAfter sha256 reading e k
+  pub cache_is : IfSome cache (IsCacheOf k)
   pub kept_is : reply_alike (union e) 1 n digest k.receipts ≡ kept
 
 -- a reply, with this number of its receipt if that is new
@@ -47,7 +66,7 @@ pub record IsRepeat (r : ReplyValue) (p : Answer) : Type 0 where
   pub rests : r.verdict ≢ A2 → is_empty p.decision.edit ≡ true
 
 -- what an arrival is answered, and what it makes of a store that keeps k and stands for e
-pub record IsAnswer (e : List EventValue) (a : ArrivalValue) (k : Kept) (p : Answer)
+pub record IsAnswer (e : List EventValue) (a : ArrivalValue) (k : StoreState) (p : Answer)
     : Type 0 where
   pub decided : IsDecided e (arrived a) k p.decision
   pub idle : (work : Work) → IsCostIf p.decision.edit.plan (chain_deposits k) work

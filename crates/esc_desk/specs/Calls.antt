@@ -1,5 +1,24 @@
--- The words of a desk's contracts: what a call says of whatever events the desk served before it.
-use Rattle.std.specs.Prelude.{◌≡◌, ◌≢◌, ℕ, Bool, ◌+◌, ◌<◌, ◌≤◌, ◌++◌, List, [], ◌∷◌, length, Some, None, Result, IfOk, OnErr}
+-- The words of a desk's contracts: what a call says of whatever events the desk reflected before
+-- it.
+use Rattle.std.specs.Prelude.{
+  ◌≡◌,
+  ◌≢◌,
+  ℕ,
+  Bool,
+  ◌+◌,
+  ◌<◌,
+  ◌≤◌,
+  ◌++◌,
+  List,
+  [],
+  ◌∷◌,
+  length,
+  Some,
+  None,
+  Result,
+  IfOk,
+  OnErr,
+}
 use Rattle.sha2.specs.Sha256.{sha256}
 use Rattle.sqlite_trees.specs.declared.store.Store.{Ghosts}
 use Rattle.esc_tables.specs.Reading.{reading}
@@ -11,7 +30,7 @@ use Rattle.esc_store.specs.declared.fault.SFault.TheVariants.{S1, S2, S3, S4, S5
 use Rattle.esc_store.specs.declared.reply.Verdict.TheVariants.{A2}
 use Rattle.esc_store.specs.declared.store.Store.{Store}
 use Rattle.esc_store.specs.ReplyValue.{ReplyValue}
-use Rattle.esc_store.specs.Standing.{IsHonest, IsAsBefore}
+use Rattle.esc_store.specs.Representation.{IsHonest, IsAsBefore}
 use Rattle.esc_desk.specs.declared.desk.Desk.{Desk}
 use Rattle.esc_desk.specs.declared.event.Event.{Event}
 use Rattle.esc_desk.specs.declared.event.EventOutcome.{EventOutcome}
@@ -30,9 +49,9 @@ use Rattle.esc_events.specs.Receipts.{receipts_of, reply_to}
 use Rattle.esc_desk.specs.Again.{IsUnkept}
 use Rattle.esc_desk.specs.Asked.{matched, taken_by, taken_in}
 use Rattle.esc_desk.specs.Causes.{IsCrowded}
-use Rattle.esc_desk.specs.Serving.{Serves, DeskServes}
+use Rattle.esc_desk.specs.Reflection.{StoreReflects, DeskReflects}
 use Rattle.esc_events.specs.Apart.{WhereApart}
-use Rattle.esc_events.specs.Stands.{parked_body}
+use Rattle.esc_events.specs.StateAfter.{parked_body}
 use Rattle.esc_events.specs.Works.{IsWorkOf, IsIdle, no_work}
 
 -- ---- a desk
@@ -57,59 +76,62 @@ DeskLeaves g desk e doubtful = CrashLeaves g desk.store.conn e doubtful
 -- ---- a call, by the desk before it and after it
 
 module _ {S : Type 0} (g : Ghosts S) (old new : Desk S) where
-  -- if the store is honest after the call, this holds for every list of events that the desk served
-  -- before it
-  abbrev pub After : (List EventValue → Type 0) → Type 0
-  After says = IsHonestDesk g new → (e : List EventValue) → DeskServes g old e → says e
+  -- if the store is honest after the call, this holds for every list of events that the desk
+  -- reflected before it
+  abbrev pub ForDeskEvents : (List EventValue → Type 0) → Type 0
+  ForDeskEvents says = IsHonestDesk g new → (e : List EventValue) → DeskReflects g old e → says e
 
   -- the same of such a list and the result, where the call succeeded
-  abbrev pub OkAfter : {X E : Type 0} → Result X E → (List EventValue → X → Type 0) → Type 0
-  OkAfter result says = After (λ e. IfOk result (says e))
+  abbrev pub OkForDeskEvents : {X E : Type 0} → Result X E → (List EventValue → X → Type 0) → Type 0
+  OkForDeskEvents result says = ForDeskEvents (λ e. IfOk result (says e))
 
   -- if the store is honest after the call, this holds for every list of events that the store stood
   -- for before it, whatever the desk remembers
-  abbrev pub Over : (List EventValue → Type 0) → Type 0
-  Over says = IsHonestDesk g new → (e : List EventValue) → Serves g old.store e → says e
+  abbrev pub ForStoreEvents : (List EventValue → Type 0) → Type 0
+  ForStoreEvents says = IsHonestDesk g new → (e : List EventValue) → StoreReflects g old.store e
+      → says e
 
   -- the same of such a list and the result, where the call succeeded
-  abbrev pub OkOver : {X E : Type 0} → Result X E → (List EventValue → X → Type 0) → Type 0
-  OkOver result says = Over (λ e. IfOk result (says e))
+  abbrev pub OkForStoreEvents : {X E : Type 0} → Result X E → (List EventValue → X → Type 0)
+      → Type 0
+  OkForStoreEvents result says = ForStoreEvents (λ e. IfOk result (says e))
 
   -- a store that is honest after the call was so before
   abbrev pub WasHonest : Type 0
   WasHonest = IsHonestDesk g new → IsHonestDesk g old
 
-  -- the desk serves what it served
-  abbrev pub ServesStill : Type 0
-  ServesStill = (e : List EventValue) → DeskServes g old e → DeskServes g new e
+  -- the desk reflects what it reflected
+  abbrev pub StillReflects : Type 0
+  StillReflects = (e : List EventValue) → DeskReflects g old e → DeskReflects g new e
 
   -- the call changed nothing: the manifest, the writes, what the store is and what a crash leaves
-  -- of it are as before, it was honest before if it is now, and the desk serves what it served
-  pub record Stays : Type 0 where
+  -- of it are as before, it was honest before if it is now, and the desk reflects what it reflected
+  pub record IsUnchangedDesk : Type 0 where
     pub same : IsAsBefore g old.store new.store
-    pub serves : ServesStill
+    pub serves : StillReflects
 
   -- a call was whole or not at all: where it succeeded the desk counted the writes of its work;
-  -- where it failed it counted none, and serves what it served. A store that is honest after it was
-  -- so before
+  -- where it failed it counted none, and reflects what it reflected. A store that is honest after
+  -- it was so before
   pub record IsWhole {X E : Type 0} (result : Result X E) (work : X → Work) : Type 0 where
     pub honest : WasHonest
     pub counted : IfOk result (λ x. writes_of new ≡ saturated (writes_of old + (work x).writes))
     pub uncounted : OnErr result (writes_of new ≡ writes_of old)
-    pub lost : OnErr result ServesStill
+    pub lost : OnErr result StillReflects
 
   -- the desk remembers what it remembered before
   abbrev pub RemembersStill : Type 0
-  RemembersStill = new.known ≡ old.known
+  RemembersStill = new.cache ≡ old.cache
 
   -- the call changed nothing, and the desk remembers what it remembered before
-  abbrev pub Rests : Type 0
-  Rests = Stays × RemembersStill
+  abbrev pub IsUnchangedWithCache : Type 0
+  IsUnchangedWithCache = IsUnchangedDesk × RemembersStill
 
--- this holds for every list of events that the desk served before the call, and those in doubt then
-abbrev pub CrashAfter : {S : Type 0} → Ghosts S → Desk S
+-- this holds for every list of events that the desk reflected before the call, and those in doubt
+-- then
+abbrev pub ForEventsInDoubt : {S : Type 0} → Ghosts S → Desk S
     → (List EventValue → List EventValue → Type 0) → Type 0
-CrashAfter g old says = (e doubtful : List EventValue) → DeskServes g old e
+ForEventsInDoubt g old says = (e doubtful : List EventValue) → DeskReflects g old e
     → DeskLeaves g old e doubtful → says e doubtful
 
 -- ---- an arrival
@@ -138,8 +160,8 @@ HadRoom e a = reply_to sha256 reading e a ≡ None
     → length (receipts_of sha256 reading e) < MOST_RECEIPTS
 
 -- why an arrival may be lost: the database failed (S1), memory was refused (S2), there is no room
--- for its receipt (S4), or there is room for its receipt, but no place to park its body (S5; said if
--- no two different bodies have the same digest)
+-- for its receipt (S4), or there is room for its receipt, but no place to park its body (S5; said
+-- if no two different bodies have the same digest)
 abbrev pub IsCause : List EventValue → ArrivalValue → SFault → Type 0
 IsCause e a S1 = Unit {0}
 IsCause e a S2 = Unit {0}
@@ -152,11 +174,11 @@ IsCause e a S5 = HadRoom e a × WhereApart e (HasNoPlace e a)
 abbrev pub HadPlace : List EventValue → ArrivalValue → Type 0
 HadPlace e a = WhereApart e (HasNoPlace e a → ⊥)
 
--- an arrival was answered with this reply and this work: the desk serves the events with it; there
--- was room for its receipt, and a place to park its body, if it was to be parked
+-- an arrival was answered with this reply and this work: the desk reflects the events with it;
+-- there was room for its receipt, and a place to park its body, if it was to be parked
 pub record Answers {S : Type 0} (g : Ghosts S) (desk : Desk S) (e : List EventValue)
     (a : ArrivalValue) (reply : ReplyValue) (work : Work) : Type 0 where
-  pub serves : DeskServes g desk (e ++ arrived a ∷ [])
+  pub serves : DeskReflects g desk (e ++ arrived a ∷ [])
   pub told : reply_to sha256 reading (e ++ arrived a ∷ []) a ≡ Some reply
   pub repeats : RepeatsReply e a reply work
   pub works : IsWorkOf e (arrived a) work

@@ -7,9 +7,15 @@ use Rattle.esc_store.specs.declared.fault.SFault.{SFault}
 use Rattle.esc_store.specs.declared.fault.SFault.TheVariants.{S4, S5}
 use Rattle.esc_store.specs.declared.store.Store.{Store}
 use Rattle.esc_store.specs.Faults.{IsS1OrS2}
-use Rattle.esc_store.specs.Kept.{Kept}
+use Rattle.esc_store.specs.StoreState.{StoreState}
 use Rattle.esc_store.specs.ReplyValue.{ReceiptValue}
-use Rattle.esc_store.specs.Standing.{ChangeOf, IsHonest, Stands, StoreLeavesNoMore, Rest}
+use Rattle.esc_store.specs.Representation.{
+  ChangeOf,
+  IsHonest,
+  Represents,
+  StoreLeavesNoMore,
+  HasMadeBooks,
+}
 use Rattle.esc_events.specs.declared.assessment.Assessment.{Assessment}
 use Rattle.esc_events.specs.declared.assessment.Assessment.TheVariants.{Unlisted}
 use Rattle.esc_events.specs.declared.parking.Parking.TheVariants.{Crowded}
@@ -22,13 +28,14 @@ abbrev pub IsCrowded : List MRow → (List ℕ → Option (List ℕ)) → List �
 IsCrowded rows parked digest = (row_of rows digest ≡ None) × IsParking parked digest Crowded
 
 -- there is room for one more receipt, if one is to be kept
-abbrev pub HasRoomFor : Kept → Option ReceiptValue → Type 0
+abbrev pub HasRoomFor : StoreState → Option ReceiptValue → Type 0
 HasRoomFor k receipt = IfSome receipt (λ r. length k.receipts < MOST_RECEIPTS)
 
 module _ {S : Type 0} (g : Ghosts S) where
   -- the store had 1,000,000,000 receipts, and nothing was done: a crash leaves nothing more
   pub record IsWithoutRoom (old new : Store S) : Type 0 where
-    pub full : IsHonest g new → (k : Kept) → Stands g old k → MOST_RECEIPTS ≤ length k.receipts
+    pub full : IsHonest g new → (k : StoreState) → Represents g old k
+        → MOST_RECEIPTS ≤ length k.receipts
     pub leaves : StoreLeavesNoMore g old new
 
   -- S1 or S2; or S4, where the store had no room for a receipt
@@ -38,7 +45,8 @@ module _ {S : Type 0} (g : Ghosts S) where
   -- the same of a change, of which nothing is committed
   abbrev pub IsChangeFault : ChangeOf S → ChangeOf S → SFault → Type 0
   IsChangeFault old new fault = IsS1OrS2 fault
-      ⊎ ((fault ≡ S4) × (IsHonest g new.store.now → (before k : Kept) → Rest g old before k
+      ⊎ ((fault ≡ S4) × (IsHonest g new.store.now → (before k : StoreState)
+      → HasMadeBooks g old before k
       → MOST_RECEIPTS ≤ length k.receipts))
 
   -- why an edit is refused: S4 may be only where it has a receipt
@@ -57,6 +65,6 @@ module _ {S : Type 0} (g : Ghosts S) where
   abbrev pub IsPlaceFault : Option ReceiptValue → Store S → Store S → Assessment → List ℕ → SFault
       → Type 0
   IsPlaceFault receipt old new found digest fault = ((fault ≡ S5) × (found ≡ Unlisted)
-      × (IsHonest g new → (k : Kept) → Stands g old k
+      × (IsHonest g new → (k : StoreState) → Represents g old k
       → IsParking k.parked digest Crowded × HasRoomFor k receipt))
       ⊎ IsEditFault receipt old new fault

@@ -32,7 +32,7 @@ use Rattle.sqlite.specs.State.{HasCleanDisk}
 use Rattle.esc_tables.specs.Reading.{reading}
 use Rattle.esc_store.specs.declared.fault.SFault.{SFault}
 use Rattle.esc_store.specs.declared.fault.SFault.TheVariants.{S1, S2, S3, S4, S5}
-use Rattle.esc_store.specs.Kept.{Kept}
+use Rattle.esc_store.specs.StoreState.{StoreState}
 use Rattle.esc_store.specs.StoreTables.{IsStore}
 use Rattle.esc_desk.specs.declared.amendment.AmendFault.{AmendFault}
 use Rattle.esc_desk.specs.declared.amendment.AmendFault.TheVariants.{M, Store as OfStore}
@@ -43,16 +43,16 @@ use Rattle.esc_events.specs.ArrivalValue.{ArrivalValue}
 use Rattle.esc_events.specs.Events.{EventValue}
 use Rattle.esc_events.specs.Events.EventValue.{arrived, moved}
 use Rattle.esc_events.specs.Receipts.{reply_to}
-use Rattle.esc_events.specs.Stands.{IsApart, StandsFor}
+use Rattle.esc_events.specs.StateAfter.{IsApart, IsStateAfter}
 use Rattle.esc_desk.specs.Again.{changes_table, is_missing_after}
 use Rattle.esc_desk.specs.Asked.{Matched, amendment_of, matched, taken_by}
 use Rattle.esc_desk.specs.Asked.Matched.{of_arrival, of_amendment, of_moment}
 
 -- the trees of a database are a store that stands for this list of events
 pub record IsStoreFor (trees : Trees) (e : List EventValue) : Type 0 where
-  pub kept : Kept
+  pub kept : StoreState
   pub store : IsStore trees kept
-  pub stands_for : StandsFor sha256 reading e kept
+  pub stands_for : IsStateAfter sha256 reading e kept
 
 -- the trees of a database are a store of these events, or of them and one of those in doubt
 abbrev pub IsStoreForOneOf : Trees → List EventValue → List EventValue → Type 0

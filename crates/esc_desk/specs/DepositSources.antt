@@ -18,7 +18,7 @@ use Rattle.std.specs.Prelude.{
 use Rattle.esc_tables.specs.DepositValue.{DepositValue}
 use Rattle.esc_tables.specs.Reading.{reading}
 use Rattle.esc_manifest.specs.declared.row.MRow.{MRow}
-use Rattle.esc_store.specs.Kept.{Kept}
+use Rattle.esc_store.specs.StoreState.{StoreState}
 use Rattle.esc_events.specs.declared.assessment.Assessment.{Assessment}
 use Rattle.esc_events.specs.declared.assessment.Assessment.TheVariants.{
   Unlisted,
@@ -38,7 +38,7 @@ use Rattle.esc_desk.specs.declared.judging.Judgement.{Judgement}
 use Rattle.esc_desk.specs.declared.judging.Judgement.TheVariants.{Absent, Dropped, Adopted}
 use Rattle.esc_desk.specs.declared.judging.Judged.{Judged}
 use Rattle.esc_desk.specs.declared.plan.Source.{Source}
-use Rattle.esc_desk.specs.declared.plan.Source.TheVariants.{Kept as FromKept, Arrived, Listed}
+use Rattle.esc_desk.specs.declared.plan.Source.TheVariants.{Stored, Arrived, Listed}
 
 -- a deposit at hand, if it still is, reads from this body
 abbrev pub IsGiven : Option DepositValue → Option (List ℕ) → Type 0
@@ -47,8 +47,8 @@ IsGiven given body = IfSome given
 
 -- a source gives the deposits of these bodies, where a store keeps k: of the bodies that it holds;
 -- of one row a deposit that is at hand; or of new rows the parked bodies that are their deposits
-abbrev pub IsSource : Source → Kept → (ℕ → Option (List ℕ)) → Type 0
-IsSource FromKept k bodies = (r : ℕ) → bodies r ≡ k.bodies r
+abbrev pub IsSource : Source → StoreState → (ℕ → Option (List ℕ)) → Type 0
+IsSource Stored k bodies = (r : ℕ) → bodies r ≡ k.bodies r
 IsSource (Arrived row given) k bodies = IsGiven given (bodies row)
     × ((r : ℕ) → (r == row) ≡ false → bodies r ≡ k.bodies r)
 IsSource (Listed rows from) k bodies = (r : ℕ)

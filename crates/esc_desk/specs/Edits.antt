@@ -1,5 +1,23 @@
 -- What an event changes of what a store keeps, and what is kept then.
-use Rattle.std.specs.Prelude.{◌≡◌, ◌≤◌, ◌+◌, ℕ, Bool, true, false, ◌&&◌, is_none, ℤ, List, length, take, Option, Some, None, Result, OnOk, IfSome}
+use Rattle.std.specs.Prelude.{
+  ◌≡◌,
+  ◌≤◌,
+  ◌+◌,
+  ℕ,
+  Bool,
+  true,
+  false,
+  ◌&&◌,
+  is_none,
+  ℤ,
+  List,
+  length,
+  take,
+  Option,
+  Some,
+  None,
+  IfSome,
+}
 use Rattle.sqlite_trees.specs.declared.store.Store.{Ghosts}
 use Rattle.esc_tables.specs.DepositValue.{DepositValue}
 use Rattle.esc_tables.specs.Reading.{reading}
@@ -8,13 +26,28 @@ use Rattle.esc_apply.specs.Registry.{State}
 use Rattle.esc_apply.specs.declared.moves.Work.{Work}
 use Rattle.esc_store.specs.declared.books.TheConstants.{MOST_RECEIPTS}
 use Rattle.esc_store.specs.declared.store.Store.{Store}
-use Rattle.esc_store.specs.Kept.{Kept, with_body, with_listed, with_moment, with_parked, with_receipt, with_registry}
+use Rattle.esc_store.specs.StoreState.{
+  StoreState,
+  with_body,
+  with_listed,
+  with_moment,
+  with_parked,
+  with_receipt,
+  with_registry,
+}
 use Rattle.esc_store.specs.ReplyValue.{ReceiptValue}
-use Rattle.esc_store.specs.Standing.{ChangeOf, IsHonest, LeavesOnly, Rest, HoldsNow, Stands}
+use Rattle.esc_store.specs.Representation.{
+  ChangeOf,
+  IsHonest,
+  LeavesOnly,
+  HasMadeBooks,
+  HasMadeTables,
+  Represents,
+}
 use Rattle.esc_events.specs.declared.plan.Plan.{Plan}
 use Rattle.esc_events.specs.Amended.{with_all_adopted, with_all_dropped}
 use Rattle.esc_events.specs.Plans.{HasDepositsPast, IsMovedFrom, IsCostOfMove, moved_by}
-use Rattle.esc_events.specs.Stands.{deposits_of}
+use Rattle.esc_events.specs.StateAfter.{deposits_of}
 use Rattle.esc_events.specs.Works.{no_work}
 use Rattle.esc_desk.specs.declared.changes.Committed.{Committed}
 use Rattle.esc_desk.specs.declared.edit.Edit.{Edit}
@@ -25,45 +58,45 @@ use Rattle.esc_desk.specs.declared.edit.Storing.TheVariants.{Nothing, Hold, Park
 -- ---- what is kept once each part was made, if it is there
 
 -- one more receipt
-abbrev pub noted : Option ReceiptValue → Kept → Kept
+abbrev pub noted : Option ReceiptValue → StoreState → StoreState
 noted None k = k
 noted (Some r) k = with_receipt k r
 
 -- a body, held for a row or parked
-abbrev pub stored : Storing → Kept → Kept
+abbrev pub stored : Storing → StoreState → StoreState
 stored Nothing k = k
 stored (Hold row body) k = with_body k row body.now
 stored (Park digest body) k = with_parked k digest (Some body.now)
 
 -- the rows of a union, where the bodies that are parked for them are held or let go
-abbrev pub listed_more : Option Listing → Kept → Kept
+abbrev pub listed_more : Option Listing → StoreState → StoreState
 listed_more None k = k
 listed_more (Some l) k =
     with_all_dropped l.union
     (with_all_adopted l.union (with_listed k l.union) l.judged.adopted.items) l.judged.dropped.items
 
 -- a moment, or none
-abbrev pub timed : Option (Option ℤ) → Kept → Kept
+abbrev pub timed : Option (Option ℤ) → StoreState → StoreState
 timed None k = k
 timed (Some moment) k = with_moment k moment
 
 -- a chain and its tables, where c are the deposits of the chain before
-abbrev pub moved_if : Option Plan → List DepositValue → Kept → Kept
+abbrev pub moved_if : Option Plan → List DepositValue → StoreState → StoreState
 moved_if None c k = k
 moved_if (Some plan) c k = moved_by plan k c
 
 -- ---- what is kept once an edit was made
 
 -- but for the chain and its tables
-abbrev pub books_edited : Edit → Kept → Kept
+abbrev pub books_edited : Edit → StoreState → StoreState
 books_edited edit k =
     timed edit.moment (stored edit.body (listed_more edit.listing (noted edit.receipt k)))
 
 -- the deposits of the chain that is kept
-abbrev pub chain_deposits : Kept → List DepositValue
+abbrev pub chain_deposits : StoreState → List DepositValue
 chain_deposits k = deposits_of reading k.bodies k.steps
 
-abbrev pub edited : Edit → Kept → Kept
+abbrev pub edited : Edit → StoreState → StoreState
 edited edit k = moved_if edit.plan (chain_deposits k) (books_edited edit k)
 
 -- nothing is changed
@@ -90,7 +123,7 @@ abbrev pub Begins : Option Listing → List MRow → Type 0
 Begins listing rows = IfSome listing (λ l. take (length rows) l.union ≡ rows)
 
 -- the chain moves from the one that is kept, if it does
-abbrev pub IsFromChainOf : Kept → Option Plan → Type 0
+abbrev pub IsFromChainOf : StoreState → Option Plan → Type 0
 IsFromChainOf k plan = IfSome plan (IsMovedFrom k (chain_deposits k))
 
 -- this is the work of a move, where c are the deposits of the chain before; there is none without a
@@ -100,7 +133,7 @@ IsCostIf None c work = work ≡ no_work
 IsCostIf (Some plan) c work = IsCostOfMove plan c work
 
 -- what stays where only the books are edited: the chain and its tables
-pub record StaysPut (k made : Kept) : Type 0 where
+pub record StaysPut (k made : StoreState) : Type 0 where
   pub steps : made.steps ≡ k.steps
   pub registry : made.registry ≡ k.registry
 
@@ -108,23 +141,23 @@ pub record StaysPut (k made : Kept) : Type 0 where
 
 -- a change of a store that stood for `before` has made k: its rows, receipts, bodies and chain, and
 -- its tables
-pub record IsFilled {S : Type 0} (g : Ghosts S) (change : ChangeOf S) (before k : Kept)
+pub record IsFilled {S : Type 0} (g : Ghosts S) (change : ChangeOf S) (before k : StoreState)
     : Type 0 where
   pub tables : State
-  pub rest : Rest g change before (with_registry k tables)
-  pub holds : IsHonest g change.store.now → HoldsNow g change k.registry
+  pub rest : HasMadeBooks g change before (with_registry k tables)
+  pub holds : IsHonest g change.store.now → HasMadeTables g change k.registry
 
 -- ---- an edit that was made
 
 -- what came of an edit by what was kept before: the work of its move, and the number of its
 -- receipt, for which there was room
-pub record IsResult (edit : Edit) (k : Kept) (number : ℕ) (work : Work) : Type 0 where
+pub record IsResult (edit : Edit) (k : StoreState) (number : ℕ) (work : Work) : Type 0 where
   pub worked : IsCostIf edit.plan (chain_deposits k) work
   pub numbered : IfSome edit.receipt
       (λ r. (number ≡ length k.receipts + 1) × (number ≤ MOST_RECEIPTS))
 
 -- a change has all the parts of an edit, where the store kept k, and this came of them
-pub record Fills {S : Type 0} (g : Ghosts S) (change : ChangeOf S) (edit : Edit) (k : Kept)
+pub record Fills {S : Type 0} (g : Ghosts S) (change : ChangeOf S) (edit : Edit) (k : StoreState)
     (done : Committed) : Type 0 where
   pub filled : IsFilled g change k (edited edit k)
   pub result : IsResult edit k done.number done.work
@@ -132,9 +165,9 @@ pub record Fills {S : Type 0} (g : Ghosts S) (change : ChangeOf S) (edit : Edit)
 
 -- an edit was committed in a store that kept k: it keeps what is edited, a crash leaves that, and
 -- this came of it
-pub record IsCommitted {S : Type 0} (g : Ghosts S) (store : Store S) (edit : Edit) (k : Kept)
+pub record IsCommitted {S : Type 0} (g : Ghosts S) (store : Store S) (edit : Edit) (k : StoreState)
     (done : Committed) : Type 0 where
-  pub stands : Stands g store (edited edit k)
+  pub stands : Represents g store (edited edit k)
   pub left : LeavesOnly g store (edited edit k)
   pub result : IsResult edit k done.number done.work
   pub plan : done.plan ≡ edit.plan

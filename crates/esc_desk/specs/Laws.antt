@@ -8,7 +8,7 @@ use Rattle.esc_manifest.specs.Accepted.{IsAccepted}
 use Rattle.esc_chain.specs.Chain.{IsLatestChain}
 use Rattle.esc_chain.specs.Laws.{ListEqualRows, HoldEqualRows, rows_along}
 use Rattle.esc_apply.specs.Images.{chain_state}
-use Rattle.esc_store.specs.Kept.{Kept}
+use Rattle.esc_store.specs.StoreState.{StoreState}
 use Rattle.esc_store.specs.ReplyValue.{ReplyValue}
 use Rattle.esc_events.specs.Apart.{WhereApart}
 use Rattle.esc_events.specs.ArrivalValue.{ArrivalValue}
@@ -17,28 +17,28 @@ use Rattle.esc_events.specs.Events.{
   Coming,
   union,
   coming,
-  moment_of,
+  last_moment,
   manifest_then,
 }
 use Rattle.esc_events.specs.Receipts.{distinct, receipts_after, reply_to}
-use Rattle.esc_events.specs.Stands.{
+use Rattle.esc_events.specs.StateAfter.{
   Among,
   kept_arrivals,
   deposits_of,
   rows_of,
   held_rows,
   held_body,
-  StandsFor,
+  IsStateAfter,
 }
 use Rattle.esc_events.specs.LatestTables.{IsChainOf, tables_of}
 
 -- a store that stands for these events has the tables of the latest chain
-pub record HoldsTablesOf (e : List EventValue) (k : Kept) : Type 0 where
+pub record HoldsTablesOf (e : List EventValue) (k : StoreState) : Type 0 where
   pub latest : IsChainOf e k.steps
   pub content : k.registry.content ≡ tables_of e k.steps
 
 abbrev pub TablesAreOfEvents : Type 0
-TablesAreOfEvents = (e : List EventValue) (k : Kept) → StandsFor sha256 reading e k
+TablesAreOfEvents = (e : List EventValue) (k : StoreState) → IsStateAfter sha256 reading e k
     → WhereApart e (HoldsTablesOf e k)
 
 -- each reply after the events e is the one after the events f
@@ -58,7 +58,7 @@ came_with m l = map (coming m) l
 
 -- what a manifest and arrivals leave: the rows, the receipts of the distinct arrivals, the latest
 -- chain of the rows that any arrival holds, and that chain's tables and before-images
-pub record IsLeftByArrivals (m : List MRow) (l : List ArrivalValue) (k : Kept) : Type 0 where
+pub record IsLeftByArrivals (m : List MRow) (l : List ArrivalValue) (k : StoreState) : Type 0 where
   pub listed : k.listed ≡ m
   pub receipts : k.receipts
       ≡ receipts_after sha256 reading [] (distinct sha256 reading (came_with m l))
@@ -67,8 +67,8 @@ pub record IsLeftByArrivals (m : List MRow) (l : List ArrivalValue) (k : Kept) :
       ≡ chain_state (deposits_of reading (held_body sha256 reading (manifest_then m l)) k.steps)
 
 abbrev pub AreLeftByArrivals : Type 0
-AreLeftByArrivals = (m : List MRow) (l : List ArrivalValue) (k : Kept)
-    → StandsFor sha256 reading (manifest_then m l) k
+AreLeftByArrivals = (m : List MRow) (l : List ArrivalValue) (k : StoreState)
+    → IsStateAfter sha256 reading (manifest_then m l) k
     → WhereApart (manifest_then m l) (IsLeftByArrivals m l k)
 
 -- ---- two lists
@@ -83,12 +83,12 @@ AreApart e f = (a b : Coming) → Among (kept_arrivals sha256 reading e) a
 pub record HoldTheSame (e f : List EventValue) : Type 0 where
   pub listed : union e ≡ union f
   pub held : held_rows sha256 reading e ≡ held_rows sha256 reading f
-  pub moment : moment_of e ≡ moment_of f
+  pub moment : last_moment e ≡ last_moment f
   pub apart : AreApart e f
 
 -- two stores keep the same, but for the receipts and the parked bodies: the rows, the bodies, the
 -- chain, its tables and its before-images
-pub record KeepTheSame (k l : Kept) : Type 0 where
+pub record KeepTheSame (k l : StoreState) : Type 0 where
   pub listed : k.listed ≡ l.listed
   pub bodies : (r : ℕ) → k.bodies r ≡ l.bodies r
   pub steps : k.steps ≡ l.steps
@@ -97,8 +97,9 @@ pub record KeepTheSame (k l : Kept) : Type 0 where
 -- where the same rows are listed, in the same order, and the same are held, the same is kept, in
 -- whatever order, however often and under whatever numbers the deposits came
 abbrev pub SameHeldSameKept : Type 0
-SameHeldSameKept = (e f : List EventValue) (k l : Kept) → IsAccepted (union e) → HoldTheSame e f
-    → WhereApart e (WhereApart f (StandsFor sha256 reading e k → StandsFor sha256 reading f l
+SameHeldSameKept = (e f : List EventValue) (k l : StoreState) → IsAccepted (union e)
+    → HoldTheSame e f
+    → WhereApart e (WhereApart f (IsStateAfter sha256 reading e k → IsStateAfter sha256 reading f l
     → KeepTheSame k l))
 
 -- ---- two lists by which the rows are listed in different orders
@@ -109,18 +110,18 @@ pub record HoldTheSameRows (e f : List EventValue) : Type 0 where
   pub listed : ListEqualRows (union e) (union f)
   pub held : HoldEqualRows (union e) (held_rows sha256 reading e) (union f)
       (held_rows sha256 reading f)
-  pub moment : moment_of e ≡ moment_of f
+  pub moment : last_moment e ≡ last_moment f
   pub apart : AreApart e f
 
 -- two stores have the same rows along the chain, and its tables and before-images are the same
-pub record KeepTheSameTables (k l : Kept) : Type 0 where
+pub record KeepTheSameTables (k l : StoreState) : Type 0 where
   pub chain : rows_along k.listed k.steps ≡ rows_along l.listed l.steps
   pub registry : k.registry ≡ l.registry
 
 -- where the same rows are listed and held the tables are the same, in whatever order the rows were
 -- listed, and in whatever order, however often and under whatever numbers the deposits came
 abbrev pub SameRowsSameTables : Type 0
-SameRowsSameTables = (e f : List EventValue) (k l : Kept) → IsAccepted (union e)
+SameRowsSameTables = (e f : List EventValue) (k l : StoreState) → IsAccepted (union e)
     → HoldTheSameRows e f
-    → WhereApart e (WhereApart f (StandsFor sha256 reading e k → StandsFor sha256 reading f l
+    → WhereApart e (WhereApart f (IsStateAfter sha256 reading e k → IsStateAfter sha256 reading f l
     → KeepTheSameTables k l))

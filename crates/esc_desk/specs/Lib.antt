@@ -8,13 +8,13 @@ pub mod Crashes
 pub mod Decisions
 pub mod DepositSources
 pub mod Edits
-pub mod Knowing
 pub mod Laws
+pub mod Lengthening
 pub mod Outcomes
 pub mod Places
 pub mod Reads
 pub mod Receiving
 pub mod Running
-pub mod Serving
+pub mod Reflection
 pub mod Walking
 pub mod Worked

@@ -16,7 +16,7 @@ use Rattle.sha2.specs.Sha256.{sha256}
 use Rattle.esc_tables.specs.DepositValue.{DepositValue}
 use Rattle.esc_tables.specs.Reading.{reading}
 use Rattle.esc_apply.specs.declared.front.Step.{Step}
-use Rattle.esc_store.specs.Kept.{step_at, AreHeld, AreCounts}
+use Rattle.esc_store.specs.StoreState.{step_at, AreHeld, AreCounts}
 use Rattle.esc_store.specs.ReplyValue.{ReplyValue, replies_from}
 use Rattle.esc_events.specs.declared.parked.ParkedBody.{ParkedBody}
 use Rattle.esc_events.specs.Apart.{WhereApart}
@@ -24,7 +24,7 @@ use Rattle.esc_events.specs.Events.{EventValue, union}
 use Rattle.esc_events.specs.Parks.{AreParkedBodies}
 use Rattle.esc_events.specs.LatestTables.{IsChainOf, tables_of}
 use Rattle.esc_events.specs.Receipts.{receipts_of}
-use Rattle.esc_events.specs.Stands.{deposit_of, held_body, parked_body}
+use Rattle.esc_events.specs.StateAfter.{deposit_of, held_body, parked_body}
 use Rattle.esc_desk.specs.declared.status.Status.{Status}
 use Rattle.esc_desk.specs.declared.status.End.{End}
 

@@ -16,7 +16,7 @@ use Rattle.esc_desk.specs.Asked.{Matched, matched, taken_by, taken_in}
 use Rattle.esc_desk.specs.Asked.Matched.{of_arrival, of_amendment, of_moment}
 use Rattle.esc_desk.specs.Calls.{IsCause, HadRoom, HadPlace, writes_of}
 use Rattle.esc_desk.specs.Outcomes.{HasWorked}
-use Rattle.esc_desk.specs.Serving.{DeskServes}
+use Rattle.esc_desk.specs.Reflection.{DeskReflects}
 
 -- an arrival after the events e got its reply by `all`, the events in the end, and there was room
 -- for its receipt and a place for its body; or it was lost, by a cause that held after e
@@ -42,17 +42,17 @@ AreRight e all (x ∷ xs) [] = ⊥
 AreRight e all (x ∷ xs) (o ∷ os) = IsRight e all (matched x o)
     × AreRight (e ++ taken_by x o) all xs os
 
--- after a run the desk serves the events before it and those that were taken in, each outcome is
+-- after a run the desk reflects the events before it and those that were taken in, each outcome is
 -- right, and the writes of their works were counted
 pub record Ran {S : Type 0} (g : Ghosts S) (old new : Desk S) (before : List EventValue)
     (events : List Event) (outcomes : List EventOutcome) : Type 0 where
-  pub serves : DeskServes g new (before ++ taken_in events outcomes)
+  pub serves : DeskReflects g new (before ++ taken_in events outcomes)
   pub answers : AreRight before (before ++ taken_in events outcomes) events outcomes
   pub worked : HasWorked before (taken_in events outcomes) (writes_of old) (writes_of new)
 
 -- the same of one event
 pub record Takes {S : Type 0} (g : Ghosts S) (old new : Desk S) (e : List EventValue) (x : Event)
     (o : EventOutcome) : Type 0 where
-  pub serves : DeskServes g new (e ++ taken_by x o)
+  pub serves : DeskReflects g new (e ++ taken_by x o)
   pub answer : IsRight e (e ++ taken_by x o) (matched x o)
   pub worked : HasWorked e (taken_by x o) (writes_of old) (writes_of new)

@@ -26,15 +26,15 @@ use Rattle.esc_tables.specs.KeyName.{KeyName, key_eq}
 use Rattle.esc_apply.specs.ObjectStreams.{Entry, InOrder}
 use Rattle.esc_apply.specs.Registry.{Content}
 use Rattle.esc_store.specs.declared.store.Store.{Store}
-use Rattle.esc_store.specs.Kept.{Kept}
-use Rattle.esc_store.specs.Standing.{Stands, IsAsBefore}
+use Rattle.esc_store.specs.StoreState.{StoreState}
+use Rattle.esc_store.specs.Representation.{Represents, IsAsBefore}
 use Rattle.esc_desk.specs.declared.walk.Pages.{Pages}
 use Rattle.esc_desk.specs.declared.walk.Walk.{Walk}
 use Rattle.esc_events.specs.Apart.{WhereApart}
 use Rattle.esc_events.specs.Events.{EventValue}
 use Rattle.esc_events.specs.LatestTables.{AreEntries}
 use Rattle.esc_desk.specs.declared.desk.Desk.{Desk}
-use Rattle.esc_desk.specs.Serving.{DeskServes}
+use Rattle.esc_desk.specs.Reflection.{DeskReflects}
 
 -- the entries of one kind, or all
 abbrev pub of_kinds : Option Kind → List Entry → List Entry
@@ -60,8 +60,8 @@ pub record AreBehind (content : Content) (kind : Option Kind) (from : List ℕ) 
 pub record AreToCome {S : Type 0} (g : Ghosts S) (store : Store S) (pages : Pages)
     (es : List Entry) : Type 0 where
   pub order : InOrder es
-  pub kept : Kept
-  pub stands : Stands g store kept
+  pub kept : StoreState
+  pub stands : Represents g store kept
   pub behind : List Entry
   pub are_behind : AreBehind kept.registry.content pages.kind pages.from.items pages.alone behind
   pub are_all : es ≡ into_iter_items pages.page ++ behind
@@ -101,5 +101,5 @@ ListsPages g store pages kind e = WhereApart e ((es : List Entry) → AreEntries
 pub record Follows {S : Type 0} (g : Ghosts S) (old new : Walk S Pages) : Type 0 where
   pub same_reference : new.desk.ghost_name ≡ old.desk.ghost_name
   pub same : IsAsBefore g old.desk.now.store new.desk.now.store
-  pub known : new.desk.now.known ≡ old.desk.now.known
-  pub serves : (e : List EventValue) → DeskServes g old.desk.now e → DeskServes g new.desk.now e
+  pub cache : new.desk.now.cache ≡ old.desk.now.cache
+  pub serves : (e : List EventValue) → DeskReflects g old.desk.now e → DeskReflects g new.desk.now e

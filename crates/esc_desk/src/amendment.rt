@@ -22,13 +22,13 @@ ghost use Rattle.esc_manifest.specs.declared.row.MRow.{MRow};
 ghost use Rattle.esc_manifest.specs.Extension.{extended};
 ghost use Rattle.esc_manifest.specs.Manifest.{most_bytes};
 ghost use Rattle.esc_store.specs.Faults.{IsS1OrS2};
-ghost use Rattle.esc_store.specs.Kept.{Kept};
-ghost use Rattle.esc_store.specs.Standing.{Stands, IsHonest, IsAsBefore, rows_of};
-ghost use Rattle.esc_events.specs.declared.known.Known.{Known};
+ghost use Rattle.esc_store.specs.StoreState.{StoreState};
+ghost use Rattle.esc_store.specs.Representation.{Represents, IsHonest, IsAsBefore, listed_rows_of};
+ghost use Rattle.esc_events.specs.declared.cache.Cache.{Cache};
 ghost use Rattle.esc_events.specs.Events.{EventValue, union as union_of};
 ghost use Rattle.esc_events.specs.Events.EventValue.{listed};
-ghost use Rattle.esc_events.specs.Known.{IsKnown};
-ghost use Rattle.esc_events.specs.Stands.{StandsFor};
+ghost use Rattle.esc_events.specs.Cache.{IsCacheOf};
+ghost use Rattle.esc_events.specs.StateAfter.{IsStateAfter};
 ghost use Rattle.esc_desk.specs.Amendments.{
   IsAmended,
   IsAmendCause,
@@ -39,14 +39,14 @@ ghost use Rattle.esc_desk.specs.Amendments.{
 };
 ghost use Rattle.esc_desk.specs.Calls.{
   store_of,
-  OkAfter,
-  CrashAfter,
+  OkForDeskEvents,
+  ForEventsInDoubt,
   IsWhole,
   DeskLeavesMade,
 };
 ghost use Rattle.esc_desk.specs.Decisions.{IsDecided, IsSound};
 ghost use Rattle.esc_desk.specs.Edits.{is_empty};
-ghost use Rattle.esc_desk.specs.Serving.{TakesIn};
+ghost use Rattle.esc_desk.specs.Reflection.{TakesIn};
 
 use crate::decision::Decision;
 use crate::desk::{Desk, NO_WORK};
@@ -56,7 +56,7 @@ use crate::plan::{Source, latest_steps, plan_move};
 use esc_apply::{Work, read_deposits_mention_few};
 use esc_bundle::NoMemory;
 use esc_chain::latest_chain_at_rows_are_held;
-use esc_events::Known;
+use esc_events::Cache;
 use esc_manifest::{MFault, Manifest, read_manifest};
 use esc_store::{SFault, Store};
 use sqlite::Alter;
@@ -96,15 +96,15 @@ impl<S: Alter> Desk<S> {
     /// M13). That doesn't depend on the disk, and a text of more than 4,194,304 bytes is M1 also
     /// where memory is short. `Store`: `S1`, `S2`.
     pub fn amend(&mut self, alloc: Global, text: &[u8]) -> Result<(u32, Work), AmendFault>
-        ensures amended { OkAfter S.Store self.old self.new result
+        ensures amended { OkForDeskEvents S.Store self.old self.new result
             (λ e p. IsAmended S.Store self.new e text.now p.0 p.1) }
-        ensures cause { IfErr result (IsAmendCause (rows_of (store_of self.old)) text.now) }
+        ensures cause { IfErr result (IsAmendCause (listed_rows_of (store_of self.old)) text.now) }
         ensures unchanged { (code row : ℕ)
             → result ≡ Err (AmendFault.M (MFault.Refused code row)) → self.new ≡ self.old }
         ensures over_limit { most_bytes < length text.now
             → result ≡ Err (AmendFault.M (MFault.Refused 1 0)) }
         ensures whole { IsWhole S.Store self.old self.new result (λ p. p.1) }
-        ensures crash { CrashAfter S.Store self.old
+        ensures crash { ForEventsInDoubt S.Store self.old
             (λ e doubtful. DeskLeavesAmended S.Store self.new e doubtful text.now result) }
     {
         // Read for the proof alone: it shows that the count is below 2^64.
@@ -142,50 +142,50 @@ impl<S: Alter> Desk<S> {
     #[tactic(auto, using(esc_store::specs::StandingLaws::was_honest))]
     fn list_more(&mut self, alloc: Global, union: Manifest) -> Result<Work, SFault>
         requires begins { take (length self.old.store.manifest) union ≡ self.old.store.manifest }
-        ensures made { (more : List MRow) → OkAfter S.Store self.old self.new result
+        ensures made { (more : List MRow) → OkForDeskEvents S.Store self.old self.new result
             (λ e work. union ≡ extended (union_of e) more
             → TakesIn S.Store self.new e (listed more) work) }
         ensures whole { IsWhole S.Store self.old self.new result (λ work. work) }
-        ensures crash { (more : List MRow) → CrashAfter S.Store self.old
+        ensures crash { (more : List MRow) → ForEventsInDoubt S.Store self.old
             (λ e doubtful. union ≡ extended (union_of e) more
             → DeskLeavesMade S.Store self.new e doubtful (listed more) result) }
         ensures cause { IfErr result IsS1OrS2 }
     {
-        let known = self.take_known(alloc)?;
-        let decision = decide_union(&mut self.store, alloc, union, known)?;
+        let cache = self.take_cache(alloc)?;
+        let decision = decide_union(&mut self.store, alloc, union, cache)?;
         let (_number, work) = self.make(alloc, decision)?;
         Ok(work)
     }
 }
 
-// What it comes to that the rows of a union are listed. `known` is what is known of the store's
+// What it comes to that the rows of a union are listed. `cache` is what is known of the store's
 // rows.
 fn decide_union<'n, 'b, S: Alter>(
     store: &mut Store<S>,
     alloc: Global,
     union: Manifest,
-    known: Known,
+    cache: Cache,
 ) -> Result<Decision<'n, 'b>, SFault>
     requires begins { take (length store.old.manifest) union ≡ store.old.manifest }
     ensures same { IsAsBefore S.Store store.old store.new }
     ensures sound { IfOk result (IsSound store.new.manifest) }
     ensures none { IfOk result (λ d. d.edit.receipt ≡ None) }
     ensures some { IfOk result (λ d. is_empty d.edit ≡ false) }
-    ensures decided { IsHonest S.Store store.new → (e : List EventValue) (k : Kept)
-        (more : List MRow) → Stands S.Store store.old k → StandsFor sha256 reading e k
-        → IsKnown k known → union ≡ extended (union_of e) more
+    ensures decided { IsHonest S.Store store.new → (e : List EventValue) (k : StoreState)
+        (more : List MRow) → Represents S.Store store.old k → IsStateAfter sha256 reading e k
+        → IsCacheOf k cache → union ≡ extended (union_of e) more
         → IfOk result (IsDecided e (listed more) k) }
     ensures cause { IfErr result IsS1OrS2 }
 {
     latest_chain_at_rows_are_held();
     read_deposits_mention_few();
-    let mut known = known;
+    let mut cache = cache;
     let from = store.manifest().rows().len();
     let judged = judge_rows(store, alloc, union.rows(), from)?;
-    append_rows(&mut known.held, &judged.adopted)?;
+    append_rows(&mut cache.held_rows, &judged.adopted)?;
     let moment = store.moment()?;
-    let new = latest_steps(alloc, &union, &known.held, moment)?;
-    let old = mem::replace(&mut known.chain, Vec::new(alloc));
+    let new = latest_steps(alloc, &union, &cache.held_rows, moment)?;
+    let old = mem::replace(&mut cache.chain, Vec::new(alloc));
     let plan = plan_move(store, alloc, old, new, Source::Listed(union.rows(), from))?;
     Ok(Decision {
         edit: Edit {
@@ -195,7 +195,7 @@ fn decide_union<'n, 'b, S: Alter>(
             moment: None,
             plan: Some(plan),
         },
-        known: Some(known),
+        cache: Some(cache),
     })
 }
 

@@ -7,8 +7,8 @@
 ghost use Rattle.std.specs.Prelude.{◌≡◌, ℕ, List, Some, None, IfOk, IfErr};
 ghost use Rattle.sha2.specs.Sha256.{sha256};
 ghost use Rattle.esc_store.specs.Faults.{IsS1OrS2OrS4OrS5};
-ghost use Rattle.esc_store.specs.Kept.{Kept};
-ghost use Rattle.esc_store.specs.Standing.{IsHonest, IsAsBefore};
+ghost use Rattle.esc_store.specs.StoreState.{StoreState};
+ghost use Rattle.esc_store.specs.Representation.{IsHonest, IsAsBefore};
 ghost use Rattle.esc_events.specs.ArrivalValue.{an_arrival};
 ghost use Rattle.esc_events.specs.Events.{EventValue};
 ghost use Rattle.esc_desk.specs.Answering.{IsAsked, IsAnswer, numbered};
@@ -16,13 +16,13 @@ ghost use Rattle.esc_desk.specs.Calls.{IsCause};
 ghost use Rattle.esc_desk.specs.Decisions.{IsSound};
 
 use crate::assessment::find;
+use crate::caching::cache_or;
 use crate::decision::Decision;
 use crate::edit::Storing;
 use crate::intake::decide_arrival;
-use crate::knowing::known_or;
 use crate::receiving::{Received, receive};
 use crate::reread::Reread;
-use esc_events::Known;
+use esc_events::Cache;
 use esc_store::{Number, Reply, SFault, Store, Verdict};
 use sqlite::Alter;
 use std::alloc::Global;
@@ -47,7 +47,7 @@ pub(crate) fn numbered(reply: Reply, is_new: bool, number: u64) -> Reply
 }
 
 /// What an arrival is answered, and what it comes to: `kept` is the reply that the store keeps for
-/// it, and `known` what is known of the store's rows, if anything is.
+/// it, and `cache` what is known of the store's rows, if anything is.
 pub(crate) fn answer_arrival<'n, 'b, S: Alter>(
     store: &mut Store<S>,
     alloc: Global,
@@ -55,23 +55,23 @@ pub(crate) fn answer_arrival<'n, 'b, S: Alter>(
     number: &Number<'n>,
     digest: [u8; 32],
     body: &'b [u8],
-    known: Option<Known>,
+    cache: Option<Cache>,
     last: &mut Option<Reread>,
 ) -> Result<Answer<'n, 'b>, SFault>
     requires { digest ≡ sha256 body.now }
     ensures same { IsAsBefore S.Store store.old store.new }
     ensures sound { IfOk result (λ p. IsSound store.new.manifest p.decision) }
-    ensures answers { IsHonest S.Store store.new → (e : List EventValue) (k : Kept)
-        → IsAsked S.Store store.old known number.now digest kept e k
+    ensures answers { IsHonest S.Store store.new → (e : List EventValue) (k : StoreState)
+        → IsAsked S.Store store.old cache number.now digest kept e k
         → IfOk result (IsAnswer e (an_arrival number.now body.now) k) }
     ensures cause { IfErr result IsS1OrS2OrS4OrS5 }
-    ensures full { IsHonest S.Store store.new → (e : List EventValue) (k : Kept)
-        → IsAsked S.Store store.old known number.now digest kept e k
+    ensures full { IsHonest S.Store store.new → (e : List EventValue) (k : StoreState)
+        → IsAsked S.Store store.old cache number.now digest kept e k
         → IfErr result (IsCause e (an_arrival number.now body.now)) }
 {
     match kept {
-        Some(reply) => answer_again(store, alloc, reply, digest, body, known, last),
-        None => answer_new(store, alloc, number, digest, body, known, last),
+        Some(reply) => answer_again(store, alloc, reply, digest, body, cache, last),
+        None => answer_new(store, alloc, number, digest, body, cache, last),
     }
 }
 
@@ -83,34 +83,34 @@ fn answer_new<'n, 'b, S: Alter>(
     number: &Number<'n>,
     digest: [u8; 32],
     body: &'b [u8],
-    known: Option<Known>,
+    cache: Option<Cache>,
     last: &mut Option<Reread>,
 ) -> Result<Answer<'n, 'b>, SFault>
     requires { digest ≡ sha256 body.now }
     ensures same { IsAsBefore S.Store store.old store.new }
     ensures sound { IfOk result (λ p. IsSound store.new.manifest p.decision) }
-    ensures answers { IsHonest S.Store store.new → (e : List EventValue) (k : Kept)
-        → IsAsked S.Store store.old known number.now digest None e k
+    ensures answers { IsHonest S.Store store.new → (e : List EventValue) (k : StoreState)
+        → IsAsked S.Store store.old cache number.now digest None e k
         → IfOk result (IsAnswer e (an_arrival number.now body.now) k) }
     ensures cause { IfErr result IsS1OrS2OrS4OrS5 }
-    ensures full { IsHonest S.Store store.new → (e : List EventValue) (k : Kept)
-        → IsAsked S.Store store.old known number.now digest None e k
+    ensures full { IsHonest S.Store store.new → (e : List EventValue) (k : StoreState)
+        → IsAsked S.Store store.old cache number.now digest None e k
         → IfErr result (IsCause e (an_arrival number.now body.now)) }
 {
-    let before = known_or(store, alloc, known)?;
+    let before = cache_or(store, alloc, cache)?;
     let first = last.take();
     let manifest = store.manifest();
     let Received {
         found,
         receipt,
         reply,
-        known,
+        cache,
     } = receive(alloc, manifest, number, digest, body, first, before)?;
     let decision = decide_arrival(
         store,
         alloc,
         Some(receipt),
-        known,
+        cache,
         found,
         digest,
         body,
@@ -127,31 +127,32 @@ fn answer_again<'n, 'b, S: Alter>(
     reply: Reply,
     digest: [u8; 32],
     body: &'b [u8],
-    known: Option<Known>,
+    cache: Option<Cache>,
     last: &mut Option<Reread>,
 ) -> Result<Answer<'n, 'b>, SFault>
     requires { digest ≡ sha256 body.now }
     ensures same { IsAsBefore S.Store store.old store.new }
     ensures sound { IfOk result (λ p. IsSound store.new.manifest p.decision) }
-    ensures answers { IsHonest S.Store store.new → (e : List EventValue) (n : List ℕ) (k : Kept)
-        → IsAsked S.Store store.old known n digest (Some reply) e k
+    ensures answers { IsHonest S.Store store.new
+        → (e : List EventValue) (n : List ℕ) (k : StoreState)
+        → IsAsked S.Store store.old cache n digest (Some reply) e k
         → IfOk result (IsAnswer e (an_arrival n body.now) k) }
     ensures cause { IfErr result IsS1OrS2OrS4OrS5 }
-    ensures full { IsHonest S.Store store.new → (e : List EventValue) (n : List ℕ) (k : Kept)
-        → IsAsked S.Store store.old known n digest (Some reply) e k
+    ensures full { IsHonest S.Store store.new → (e : List EventValue) (n : List ℕ) (k : StoreState)
+        → IsAsked S.Store store.old cache n digest (Some reply) e k
         → IfErr result (IsCause e (an_arrival n body.now)) }
 {
     match reply.verdict {
         Verdict::A2 => {
-            let known = known_or(store, alloc, known)?;
+            let cache = cache_or(store, alloc, cache)?;
             let first = last.take();
             let found = find(alloc, store.manifest(), &digest, body, first)?;
-            let decision = decide_arrival(store, alloc, None, known, found, digest, body, last)?;
+            let decision = decide_arrival(store, alloc, None, cache, found, digest, body, last)?;
             Ok(Answer { reply, decision })
         }
         Verdict::A1 | Verdict::A3(_) | Verdict::A4 | Verdict::A5 => Ok(Answer {
             reply,
-            decision: Decision::still(None, known, Storing::Nothing),
+            decision: Decision::still(None, cache, Storing::Nothing),
         }),
     }
 }

@@ -15,15 +15,15 @@ ghost use Rattle.std.specs.Prelude.{
 };
 ghost use Rattle.esc_apply.specs.Registry.{saturated};
 ghost use Rattle.esc_store.specs.Faults.{IsS1OrS2};
-ghost use Rattle.esc_store.specs.Kept.{Kept};
-ghost use Rattle.esc_store.specs.Standing.{
-  Stands,
+ghost use Rattle.esc_store.specs.StoreState.{StoreState};
+ghost use Rattle.esc_store.specs.Representation.{
+  Represents,
   IsHonest,
   LeavesOnly,
   StoreLeavesOr,
   Began,
-  Rest,
-  HoldsNow,
+  HasMadeBooks,
+  HasMadeTables,
   IsUncommitted,
   IsChangePart,
   listed_by,
@@ -72,13 +72,13 @@ pub(crate) fn commit<S: Alter>(
     requires begins { Begins edit.listing store.old.manifest }
     requires sound { IfSome edit.plan IsSoundPlan }
     ensures honest { IsHonest S.Store store.new → IsHonest S.Store store.old }
-    ensures made { IsHonest S.Store store.new → (k : Kept) → IsFromChainOf k edit.entry.plan
-        → Stands S.Store store.old k
+    ensures made { IsHonest S.Store store.new → (k : StoreState) → IsFromChainOf k edit.entry.plan
+        → Represents S.Store store.old k
         → IfOk result (IsCommitted S.Store store.new edit.entry k) }
-    ensures kept { OnErr result ((k : Kept) → Stands S.Store store.old k
-        → Stands S.Store store.new k) }
-    ensures crash { IsHonest S.Store store.new → (k : Kept) → IsFromChainOf k edit.entry.plan
-        → Stands S.Store store.old k
+    ensures kept { OnErr result ((k : StoreState) → Represents S.Store store.old k
+        → Represents S.Store store.new k) }
+    ensures crash { IsHonest S.Store store.new → (k : StoreState) → IsFromChainOf k edit.entry.plan
+        → Represents S.Store store.old k
         → StoreLeavesOr S.Store store.old store.new (edited edit.entry k) }
     ensures counted { IfOk result (λ done. store.new.writes
         ≡ saturated (store.old.writes + done.work.writes)) }
@@ -102,9 +102,9 @@ fn fill<S: Alter>(
     requires begins { Begins edit.listing (listed_by change.now) }
     requires sound { IfSome edit.plan IsSoundPlan }
     ensures goes_on { IsUncommitted S.Store change.old change.new }
-    ensures fills { IsHonest S.Store change.new.store.now → (k : Kept)
+    ensures fills { IsHonest S.Store change.new.store.now → (k : StoreState)
         → IsFromChainOf k edit.entry.plan
-        → Rest S.Store change.old k k → HoldsNow S.Store change.old k.registry
+        → HasMadeBooks S.Store change.old k k → HasMadeTables S.Store change.old k.registry
         → IfOk result (Fills S.Store change.new edit.entry k) }
     ensures counted { IfOk result (λ done. saturated change.new.count
         ≡ saturated (saturated change.old.count + done.work.writes)) }
@@ -134,8 +134,8 @@ fn add_receipt<S: Alter>(
     ensures part { IsChangePart S.Store change.old change.new result (noted receipt.now) }
     ensures listed { listed_by change.new ≡ listed_by change.old }
     ensures numbered { IfOk result (λ n. IfSome receipt.now (λ r.
-        IsHonest S.Store change.new.store.now → (before k : Kept)
-        → Rest S.Store change.old before k → n ≡ length k.receipts + 1)) }
+        IsHonest S.Store change.new.store.now → (before k : StoreState)
+        → HasMadeBooks S.Store change.old before k → n ≡ length k.receipts + 1)) }
     ensures room { IfOk result (λ n. n ≤ MOST_RECEIPTS) }
     ensures cause { IfErr result (IsFillFault S.Store receipt.now change.old change.new) }
 {
@@ -250,12 +250,12 @@ fn commit_filled<S: Alter>(change: Change<'_, S>) -> Result<(), SFault>
     ensures written { OnOk result (change.exit.0.now.writes
         ≡ saturated (change.entry.store.now.writes + change.entry.count)) }
     ensures unwritten { OnErr result (change.exit.0.now.writes ≡ change.entry.store.now.writes) }
-    ensures made { OnOk result ((before k : Kept) → IsFilled S.Store change.entry before k
+    ensures made { OnOk result ((before k : StoreState) → IsFilled S.Store change.entry before k
         → LeavesOnly S.Store change.exit.0.now k
-        × (IsHonest S.Store change.exit.0.now → Stands S.Store change.exit.0.now k)) }
-    ensures kept { OnErr result ((before : Kept) → Began S.Store change.entry before
-        → Stands S.Store change.exit.0.now before) }
-    ensures crash { (before k : Kept) → IsFilled S.Store change.entry before k
+        × (IsHonest S.Store change.exit.0.now → Represents S.Store change.exit.0.now k)) }
+    ensures kept { OnErr result ((before : StoreState) → Began S.Store change.entry before
+        → Represents S.Store change.exit.0.now before) }
+    ensures crash { (before k : StoreState) → IsFilled S.Store change.entry before k
         → StoreLeavesOr S.Store change.entry.store.now change.exit.0.now k }
     ensures cause { IfErr result IsS1OrS2 }
 {

@@ -1,19 +1,19 @@
 //! Decisions: what an event comes to, found by reads alone, and how it is made.
 
 ghost use Rattle.std.specs.Prelude.{◌≡◌, List, IfOk, IfErr};
-ghost use Rattle.esc_store.specs.Kept.{Kept};
-ghost use Rattle.esc_store.specs.Standing.{Stands, IsHonest};
+ghost use Rattle.esc_store.specs.StoreState.{StoreState};
+ghost use Rattle.esc_store.specs.Representation.{Represents, IsHonest};
 ghost use Rattle.esc_events.specs.Events.{EventValue};
 ghost use Rattle.esc_desk.specs.Calls.{IsWhole};
 ghost use Rattle.esc_desk.specs.Causes.{IsEditFault};
 ghost use Rattle.esc_desk.specs.Crashes.{CrashLeaves, LeavesRefused};
-ghost use Rattle.esc_desk.specs.Decisions.{known_after, still_by, IsSound, IsDecided, IsDone};
+ghost use Rattle.esc_desk.specs.Decisions.{cache_after, still_by, IsSound, IsDecided, IsDone};
 
 use crate::changes::commit;
 use crate::desk::{Desk, NO_WORK};
 use crate::edit::{Edit, Storing};
 use esc_apply::Work;
-use esc_events::{Known, Plan};
+use esc_events::{Cache, Plan};
 use esc_store::{Receipt, SFault};
 use sqlite::Alter;
 use std::alloc::Global;
@@ -23,17 +23,17 @@ use std::alloc::Global;
 #[derive(Drop)]
 pub(crate) struct Decision<'n, 'b> {
     pub(crate) edit: Edit<'n, 'b>,
-    pub(crate) known: Option<Known>,
+    pub(crate) cache: Option<Cache>,
 }
 
 impl<'n, 'b> Decision<'n, 'b> {
     /// A decision by which the chain stays.
     pub(crate) fn still(
         receipt: Option<Receipt<'n>>,
-        known: Option<Known>,
+        cache: Option<Cache>,
         body: Storing<'b>,
     ) -> Decision<'n, 'b>
-        ensures { result ≡ still_by receipt.entry known body.entry }
+        ensures { result ≡ still_by receipt.entry cache body.entry }
     {
         Decision {
             edit: Edit {
@@ -43,7 +43,7 @@ impl<'n, 'b> Decision<'n, 'b> {
                 moment: None,
                 plan: None,
             },
-            known,
+            cache,
         }
     }
 }
@@ -60,10 +60,10 @@ impl<S: Alter> Desk<S> {
         requires sound { IsSound self.old.store.manifest decision }
         ensures whole { IsWhole S.Store self.old self.new result (λ p. p.1) }
         ensures made { IsHonest S.Store self.new.store → (e : List EventValue) (x : EventValue)
-            (k : Kept) → Stands S.Store self.old.store k → IsDecided e x k decision.entry
+            (k : StoreState) → Represents S.Store self.old.store k → IsDecided e x k decision.entry
             → IfOk result (IsDone S.Store self.old.store self.new e x k decision.entry) }
-        ensures crash { (e doubtful : List EventValue) (x : EventValue) (k : Kept)
-            → Stands S.Store self.old.store k
+        ensures crash { (e doubtful : List EventValue) (x : EventValue) (k : StoreState)
+            → Represents S.Store self.old.store k
             → (IsHonest S.Store self.new.store → IsDecided e x k decision.entry)
             → CrashLeaves S.Store self.old.store.conn e doubtful
             → IfErr result (LeavesRefused S.Store self.new.store.conn e doubtful x) }
@@ -72,30 +72,30 @@ impl<S: Alter> Desk<S> {
     {
         // Read for the proof alone: it shows that the count is below 2^64.
         let _writes = self.store.writes();
-        let Decision { edit, known } = decision;
+        let Decision { edit, cache } = decision;
         if edit.is_empty() {
-            self.known = known;
+            self.cache = cache;
             return Ok((0, NO_WORK));
         }
         let done = commit(&mut self.store, alloc, edit)?;
-        self.known = known_then(known, done.plan);
+        self.cache = cache_then(cache, done.plan);
         Ok((done.number, done.work))
     }
 }
 
 // What is known of a store's rows once a plan was carried out, if there is one.
-fn known_then(known: Option<Known>, plan: Option<Plan>) -> Option<Known>
-    ensures { result ≡ known_after plan known }
+fn cache_then(cache: Option<Cache>, plan: Option<Plan>) -> Option<Cache>
+    ensures { result ≡ cache_after plan cache }
 {
     match plan {
-        Some(plan) => match known {
-            Some(known) => Some(Known {
-                held: known.held,
-                told: known.told,
+        Some(plan) => match cache {
+            Some(cache) => Some(Cache {
+                held_rows: cache.held_rows,
+                rows_with_receipt: cache.rows_with_receipt,
                 chain: plan.new,
             }),
             None => None,
         },
-        None => known,
+        None => cache,
     }
 }

@@ -4,30 +4,30 @@ ghost use Rattle.std.specs.Prelude.{◌≡◌, [], List, None, IfOk, IfErr, IfSo
 ghost use Rattle.sha2.specs.Sha256.{sha256};
 ghost use Rattle.esc_tables.specs.Reading.{reading};
 ghost use Rattle.esc_store.specs.Faults.{IsS1OrS2, IsS1OrS2OrS4OrS5};
-ghost use Rattle.esc_store.specs.Kept.{Kept};
-ghost use Rattle.esc_store.specs.Standing.{Stands, IsHonest, IsAsBefore, LeavesOnly};
+ghost use Rattle.esc_store.specs.StoreState.{StoreState};
+ghost use Rattle.esc_store.specs.Representation.{Represents, IsHonest, IsAsBefore, LeavesOnly};
 ghost use Rattle.esc_events.specs.ArrivalValue.{an_arrival};
 ghost use Rattle.esc_events.specs.Events.{EventValue};
-ghost use Rattle.esc_events.specs.Known.{IsKnown};
-ghost use Rattle.esc_events.specs.Stands.{StandsFor};
+ghost use Rattle.esc_events.specs.Cache.{IsCacheOf};
+ghost use Rattle.esc_events.specs.StateAfter.{IsStateAfter};
 ghost use Rattle.esc_desk.specs.Calls.{
   store_of,
   DeskLeaves,
   DeskLeavesTaken,
-  After,
-  OkAfter,
-  CrashAfter,
+  ForDeskEvents,
+  OkForDeskEvents,
+  ForEventsInDoubt,
   IsWhole,
   IsCause,
   Answers,
 };
-ghost use Rattle.esc_desk.specs.Serving.{Serves, DeskServes};
+ghost use Rattle.esc_desk.specs.Reflection.{StoreReflects, DeskReflects};
 
 use crate::answering::{Answer, answer_arrival, numbered};
-use crate::knowing::known_or;
+use crate::caching::cache_or;
 use crate::reread::Reread;
 use esc_apply::Work;
-use esc_events::Known;
+use esc_events::Cache;
 use esc_store::{Number, Reply, SFault, Store};
 use sha2::{Digest, Sha256};
 use sqlite::Alter;
@@ -40,7 +40,7 @@ use std::alloc::Global;
 pub struct Desk<S: Alter> {
     pub(crate) store: Store<S>,
     // `None` until an event needs it, and again once such an event has failed.
-    pub(crate) known: Option<Known>,
+    pub(crate) cache: Option<Cache>,
     // The deposit of the last arrival, if its row was held before: whoever sends a body again often
     // sends it many times.
     pub(crate) reread: Option<Reread>,
@@ -57,15 +57,15 @@ impl<S: Alter> Desk<S> {
     /// A desk over a store. Doesn't allocate.
     pub fn open(store: Store<S>) -> Desk<S>
         ensures same { store_of result ≡ store }
-        ensures serves { (e : List EventValue) → Serves S.Store store e
-            → DeskServes S.Store result e }
-        ensures left { (e : List EventValue) (k : Kept)
-            → LeavesOnly S.Store store k → StandsFor sha256 reading e k
+        ensures serves { (e : List EventValue) → StoreReflects S.Store store e
+            → DeskReflects S.Store result e }
+        ensures left { (e : List EventValue) (k : StoreState)
+            → LeavesOnly S.Store store k → IsStateAfter sha256 reading e k
             → DeskLeaves S.Store result e [] }
     {
         Desk {
             store,
-            known: None,
+            cache: None,
             reread: None,
         }
     }
@@ -73,8 +73,8 @@ impl<S: Alter> Desk<S> {
     /// The desk's store. Doesn't allocate.
     pub fn into_store(self) -> Store<S>
         ensures same { result ≡ store_of self }
-        ensures serves { (e : List EventValue) → DeskServes S.Store self e
-            → Serves S.Store result e }
+        ensures serves { (e : List EventValue) → DeskReflects S.Store self e
+            → StoreReflects S.Store result e }
     {
         self.store
     }
@@ -96,13 +96,13 @@ impl<S: Alter> Desk<S> {
         number: &Number<'_>,
         body: &[u8],
     ) -> Result<(Reply, Work), SFault>
-        ensures answered { OkAfter S.Store self.old self.new result
+        ensures answered { OkForDeskEvents S.Store self.old self.new result
             (λ e p. Answers S.Store self.new e (an_arrival number.now body.now) p.0 p.1) }
         ensures cause { IfErr result IsS1OrS2OrS4OrS5 }
-        ensures full { After S.Store self.old self.new
+        ensures full { ForDeskEvents S.Store self.old self.new
             (λ e. IfErr result (IsCause e (an_arrival number.now body.now))) }
         ensures whole { IsWhole S.Store self.old self.new result (λ p. p.1) }
-        ensures crash { CrashAfter S.Store self.old
+        ensures crash { ForEventsInDoubt S.Store self.old
             (λ e doubtful. DeskLeavesTaken S.Store self.new e doubtful
             (an_arrival number.now body.now) result) }
     {
@@ -110,10 +110,10 @@ impl<S: Alter> Desk<S> {
         // Read for the proof alone: it shows that the count is below 2^64.
         let _writes = self.store.writes();
         let kept = self.store.receipt_of(alloc, number, &digest)?;
-        let known = self.known.take();
+        let cache = self.cache.take();
         let last = &mut self.reread;
         let store = &mut self.store;
-        let answer = answer_arrival(store, alloc, kept, number, digest, body, known, last)?;
+        let answer = answer_arrival(store, alloc, kept, number, digest, body, cache, last)?;
         let Answer { reply, decision } = answer;
         let is_new = decision.edit.receipt.is_some();
         let (number, work) = self.make(alloc, decision)?;
@@ -122,15 +122,15 @@ impl<S: Alter> Desk<S> {
 
     /// What is known of the store's rows: what was remembered, which is forgotten, or else what the
     /// store reports.
-    pub(crate) fn take_known(&mut self, alloc: Global) -> Result<Known, SFault>
+    pub(crate) fn take_cache(&mut self, alloc: Global) -> Result<Cache, SFault>
         ensures same { IsAsBefore S.Store self.old.store self.new.store }
-        ensures forgotten { self.new.known ≡ None }
-        ensures known { IsHonest S.Store self.new.store → (e : List EventValue) (k : Kept)
-            → Stands S.Store self.old.store k → StandsFor sha256 reading e k
-            → IfSome self.old.known (IsKnown k) → IfOk result (IsKnown k) }
+        ensures forgotten { self.new.cache ≡ None }
+        ensures cache { IsHonest S.Store self.new.store → (e : List EventValue) (k : StoreState)
+            → Represents S.Store self.old.store k → IsStateAfter sha256 reading e k
+            → IfSome self.old.cache (IsCacheOf k) → IfOk result (IsCacheOf k) }
         ensures cause { IfErr result IsS1OrS2 }
     {
-        let known = self.known.take();
-        known_or(&mut self.store, alloc, known)
+        let cache = self.cache.take();
+        cache_or(&mut self.store, alloc, cache)
     }
 }

@@ -16,8 +16,8 @@ ghost use Rattle.sha2.specs.Sha256.{sha256};
 ghost use Rattle.esc_tables.specs.DepositValue.{DepositValue};
 ghost use Rattle.esc_tables.specs.Reading.{reading};
 ghost use Rattle.esc_store.specs.Faults.{IsS1OrS2};
-ghost use Rattle.esc_store.specs.Kept.{Kept};
-ghost use Rattle.esc_store.specs.Standing.{Stands, IsHonest, IsAsBefore};
+ghost use Rattle.esc_store.specs.StoreState.{StoreState};
+ghost use Rattle.esc_store.specs.Representation.{Represents, IsHonest, IsAsBefore};
 ghost use Rattle.esc_events.specs.declared.assessment.Assessment.TheVariants.{Unlisted, Holding};
 ghost use Rattle.esc_events.specs.declared.parking.Parking.TheVariants.{Crowded};
 ghost use Rattle.esc_events.specs.ArrivalValue.{an_arrival};
@@ -28,14 +28,13 @@ ghost use Rattle.esc_desk.specs.Decisions.{IsSound, IsArriving, IsDecidedArrival
 
 use crate::decision::Decision;
 use crate::edit::{Edit, Storing};
-use crate::knowing::insert_row;
 use crate::parking::parking_of;
-use crate::plan::{Source, plan_latest};
+use crate::plan::{Source, plan_arrived};
 use crate::reread::Reread;
 use esc_apply::read_deposits_mention_few;
 use esc_chain::latest_chain_at_rows_are_held;
-use esc_events::{Assessment, Known, Parking};
-use esc_store::{MOST_RECEIPTS, Receipt, SFault, Store};
+use esc_events::{Assessment, Cache, Parking};
+use esc_store::{MOST_RECEIPTS, Receipt, SFault, Store, insert_row};
 use esc_tables::Deposit;
 use sqlite::Alter;
 use std::alloc::Global;
@@ -46,7 +45,7 @@ pub(crate) fn decide_arrival<'n, 'b, S: Alter>(
     store: &mut Store<S>,
     alloc: Global,
     receipt: Option<Receipt<'n>>,
-    known: Known,
+    cache: Cache,
     found: Assessment,
     digest: [u8; 32],
     body: &'b [u8],
@@ -57,22 +56,23 @@ pub(crate) fn decide_arrival<'n, 'b, S: Alter>(
     ensures same { IsAsBefore S.Store store.old store.new }
     ensures sound { IfOk result (IsSound store.new.manifest) }
     ensures receipt { IfOk result (λ d. d.edit.receipt ≡ receipt.entry) }
-    ensures decided { IsHonest S.Store store.new → (e : List EventValue) (n : List ℕ) (k : Kept)
-        → Stands S.Store store.old k
-        → IsArriving e (an_arrival n body.now) k found known receipt.entry
+    ensures decided { IsHonest S.Store store.new
+        → (e : List EventValue) (n : List ℕ) (k : StoreState)
+        → Represents S.Store store.old k
+        → IsArriving e (an_arrival n body.now) k found cache receipt.entry
         → IfOk result (IsDecidedArrival e (an_arrival n body.now) k found) }
-    ensures place { IsHonest S.Store store.new → (k : Kept) → Stands S.Store store.old k
+    ensures place { IsHonest S.Store store.new → (k : StoreState) → Represents S.Store store.old k
         → found ≡ Unlisted → OnOk result (IsParking k.parked digest Crowded → ⊥) }
     ensures cause { IfErr result
         (IsPlaceFault S.Store receipt.entry store.old store.new found digest) }
 {
     match found {
-        Assessment::Unlisted => decide_unlisted(store, alloc, receipt, known, digest, body),
+        Assessment::Unlisted => decide_unlisted(store, alloc, receipt, cache, digest, body),
         Assessment::Unreadable(..) | Assessment::Differing(_) => {
-            Ok(Decision::still(receipt, Some(known), Storing::Nothing))
+            Ok(Decision::still(receipt, Some(cache), Storing::Nothing))
         }
         Assessment::Holding(row, deposit) => {
-            decide_held(store, alloc, receipt, known, row, deposit, body, last)
+            decide_held(store, alloc, receipt, cache, row, deposit, body, last)
         }
     }
 }
@@ -82,7 +82,7 @@ fn decide_unlisted<'n, 'b, S: Alter>(
     store: &mut Store<S>,
     alloc: Global,
     receipt: Option<Receipt<'n>>,
-    known: Known,
+    cache: Cache,
     digest: [u8; 32],
     body: &'b [u8],
 ) -> Result<Decision<'n, 'b>, SFault>
@@ -90,18 +90,19 @@ fn decide_unlisted<'n, 'b, S: Alter>(
     ensures same { IsAsBefore S.Store store.old store.new }
     ensures sound { IfOk result (IsSound store.new.manifest) }
     ensures receipt { IfOk result (λ d. d.edit.receipt ≡ receipt.entry) }
-    ensures decided { IsHonest S.Store store.new → (e : List EventValue) (n : List ℕ) (k : Kept)
-        → Stands S.Store store.old k
-        → IsArriving e (an_arrival n body.now) k Unlisted known receipt.entry
+    ensures decided { IsHonest S.Store store.new
+        → (e : List EventValue) (n : List ℕ) (k : StoreState)
+        → Represents S.Store store.old k
+        → IsArriving e (an_arrival n body.now) k Unlisted cache receipt.entry
         → IfOk result (IsDecidedArrival e (an_arrival n body.now) k Unlisted) }
-    ensures place { IsHonest S.Store store.new → (k : Kept) → Stands S.Store store.old k
+    ensures place { IsHonest S.Store store.new → (k : StoreState) → Represents S.Store store.old k
         → OnOk result (IsParking k.parked digest Crowded → ⊥) }
     ensures cause { IfErr result
         (IsPlaceFault S.Store receipt.entry store.old store.new Unlisted digest) }
 {
     match parking_of(store, alloc, &digest)? {
-        Parking::Needless => Ok(Decision::still(receipt, Some(known), Storing::Nothing)),
-        Parking::Free => Ok(Decision::still(receipt, Some(known), Storing::Park(digest, body))),
+        Parking::Needless => Ok(Decision::still(receipt, Some(cache), Storing::Nothing)),
+        Parking::Free => Ok(Decision::still(receipt, Some(cache), Storing::Park(digest, body))),
         Parking::Crowded => Err(crowded_fault(store, &receipt)),
     }
 }
@@ -110,8 +111,8 @@ fn decide_unlisted<'n, 'b, S: Alter>(
 // either, it is `S4`.
 fn crowded_fault<S: Alter>(store: &mut Store<S>, receipt: &Option<Receipt<'_>>) -> SFault
     ensures same { IsAsBefore S.Store store.old store.new }
-    ensures cause { ((result ≡ SFault.S5) × (IsHonest S.Store store.new → (k : Kept)
-        → Stands S.Store store.old k → HasRoomFor k receipt.now))
+    ensures cause { ((result ≡ SFault.S5) × (IsHonest S.Store store.new → (k : StoreState)
+        → Represents S.Store store.old k → HasRoomFor k receipt.now))
         ⊎ IsEditFault S.Store receipt.now store.old store.new result }
 {
     match receipt {
@@ -129,7 +130,7 @@ fn decide_held<'n, 'b, S: Alter>(
     store: &mut Store<S>,
     alloc: Global,
     receipt: Option<Receipt<'n>>,
-    known: Known,
+    cache: Cache,
     row: usize,
     deposit: Deposit,
     body: &'b [u8],
@@ -139,17 +140,18 @@ fn decide_held<'n, 'b, S: Alter>(
     ensures same { IsAsBefore S.Store store.old store.new }
     ensures sound { IfOk result (IsSound store.new.manifest) }
     ensures receipt { IfOk result (λ d. d.edit.receipt ≡ receipt.entry) }
-    ensures decided { IsHonest S.Store store.new → (e : List EventValue) (n : List ℕ) (k : Kept)
-        → Stands S.Store store.old k
-        → IsArriving e (an_arrival n body.now) k (Holding row deposit) known receipt.entry
+    ensures decided { IsHonest S.Store store.new
+        → (e : List EventValue) (n : List ℕ) (k : StoreState)
+        → Represents S.Store store.old k
+        → IsArriving e (an_arrival n body.now) k (Holding row deposit) cache receipt.entry
         → IfOk result (IsDecidedArrival e (an_arrival n body.now) k (Holding row deposit)) }
     ensures cause { IfErr result IsS1OrS2 }
 {
-    if known.held.contains(&row) {
+    if cache.held_rows.contains(&row) {
         *last = Reread::of(alloc, body, deposit);
-        return Ok(Decision::still(receipt, Some(known), Storing::Nothing));
+        return Ok(Decision::still(receipt, Some(cache), Storing::Nothing));
     }
-    decide_late(store, alloc, receipt, known, row, deposit, body)
+    decide_late(store, alloc, receipt, cache, row, deposit, body)
 }
 
 // What an arrival comes to that is the deposit of a row that has no body yet.
@@ -157,7 +159,7 @@ fn decide_late<'n, 'b, S: Alter>(
     store: &mut Store<S>,
     alloc: Global,
     receipt: Option<Receipt<'n>>,
-    known: Known,
+    cache: Cache,
     row: usize,
     deposit: Deposit,
     body: &'b [u8],
@@ -165,20 +167,21 @@ fn decide_late<'n, 'b, S: Alter>(
     ensures same { IsAsBefore S.Store store.old store.new }
     ensures sound { IfOk result (IsSound store.new.manifest) }
     ensures receipt { IfOk result (λ d. d.edit.receipt ≡ receipt.entry) }
-    ensures decided { IsHonest S.Store store.new → (e : List EventValue) (n : List ℕ) (k : Kept)
-        → Stands S.Store store.old k
-        → IsArriving e (an_arrival n body.now) k (Holding row deposit) known receipt.entry
+    ensures decided { IsHonest S.Store store.new
+        → (e : List EventValue) (n : List ℕ) (k : StoreState)
+        → Represents S.Store store.old k
+        → IsArriving e (an_arrival n body.now) k (Holding row deposit) cache receipt.entry
         → k.bodies row ≡ None
         → IfOk result (IsDecidedArrival e (an_arrival n body.now) k (Holding row deposit)) }
     ensures cause { IfErr result IsS1OrS2 }
 {
     latest_chain_at_rows_are_held();
     read_deposits_mention_few();
-    let mut known = known;
-    insert_row(&mut known.held, row)?;
+    let mut cache = cache;
+    insert_row(&mut cache.held_rows, row)?;
     let moment = store.moment()?;
     let source = Source::Arrived(row, Some(deposit));
-    let plan = plan_latest(store, alloc, &mut known, moment, source)?;
+    let plan = plan_arrived(store, alloc, &mut cache, moment, row, source)?;
     Ok(Decision {
         edit: Edit {
             receipt,
@@ -187,6 +190,6 @@ fn decide_late<'n, 'b, S: Alter>(
             moment: None,
             plan: Some(plan),
         },
-        known: Some(known),
+        cache: Some(cache),
     })
 }

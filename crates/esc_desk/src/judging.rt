@@ -2,8 +2,8 @@
 
 ghost use Rattle.std.specs.Prelude.{◌≡◌, ◌<◌, ◌≤◌, ◌++◌, length, IfOk, IfErr, OnOk};
 ghost use Rattle.esc_store.specs.Faults.{IsS1OrS2};
-ghost use Rattle.esc_store.specs.Kept.{Kept};
-ghost use Rattle.esc_store.specs.Standing.{Stands, IsHonest, IsAsBefore};
+ghost use Rattle.esc_store.specs.StoreState.{StoreState};
+ghost use Rattle.esc_store.specs.Representation.{Represents, IsHonest, IsAsBefore};
 ghost use Rattle.esc_desk.specs.DepositSources.{IsJudgement, AreJudged, adopted_by, dropped_by};
 
 use crate::assessment::compare;
@@ -59,7 +59,7 @@ pub(crate) fn judge_rows<S: Alter>(
 ) -> Result<Judged, SFault>
     requires { from ≤ length rows.now }
     ensures same { IsAsBefore S.Store store.old store.new }
-    ensures judged { IsHonest S.Store store.new → (k : Kept) → Stands S.Store store.old k
+    ensures judged { IsHonest S.Store store.new → (k : StoreState) → Represents S.Store store.old k
         → IfOk result (AreJudged rows.now k.parked from) }
     ensures cause { IfErr result IsS1OrS2 }
 {
@@ -83,7 +83,7 @@ pub(crate) fn judge<S: Alter>(
 ) -> Result<Judgement, SFault>
     requires { row < length rows.now }
     ensures same { IsAsBefore S.Store store.old store.new }
-    ensures judged { IsHonest S.Store store.new → (k : Kept) → Stands S.Store store.old k
+    ensures judged { IsHonest S.Store store.new → (k : StoreState) → Represents S.Store store.old k
         → IfOk result (IsJudgement rows.now k.parked row) }
     ensures cause { IfErr result IsS1OrS2 }
 {

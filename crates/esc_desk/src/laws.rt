@@ -7,12 +7,12 @@ ghost use Rattle.std.specs.Prelude.{List, ◌≡◌, [], ◌∷◌, Some, None, 
 ghost use Rattle.sha2.specs.Sha256.{sha256};
 ghost use Rattle.esc_tables.specs.Reading.{reading};
 ghost use Rattle.esc_manifest.specs.declared.row.MRow.{MRow};
-ghost use Rattle.esc_store.specs.Kept.{fresh};
+ghost use Rattle.esc_store.specs.StoreState.{fresh};
 ghost use Rattle.esc_events.specs.ArrivalValue.{ArrivalValue};
 ghost use Rattle.esc_events.specs.Events.{union, comings, arrivals, manifest_then};
 ghost use Rattle.esc_events.specs.Events.EventValue.{listed};
 ghost use Rattle.esc_events.specs.Receipts.{distinct, reply_to};
-ghost use Rattle.esc_events.specs.Stands.{StandsFor};
+ghost use Rattle.esc_events.specs.StateAfter.{IsStateAfter};
 ghost use Rattle.esc_desk.specs.Laws.{
   TablesAreOfEvents,
   AreLeftByArrivals,
@@ -36,10 +36,10 @@ use esc_chain::{chains_are_of_rows, latest_chain_at_is_one};
 use esc_store::Store;
 use sqlite::Alter;
 
-/// What a new store keeps stands for its manifest alone, so a desk over a new store serves that one
-/// event.
+/// What a new store keeps stands for its manifest alone, so a desk over a new store reflects that
+/// one event.
 pub fn new_store_stands_for_its_manifest()
-    ensures stands_for { (m : List MRow) → StandsFor sha256 reading (listed m ∷ []) (fresh m) }
+    ensures stands_for { (m : List MRow) → IsStateAfter sha256 reading (listed m ∷ []) (fresh m) }
 {}
 
 /// What a store keeps that stands for a manifest and then arrivals, said without events: the
@@ -102,23 +102,23 @@ pub fn worked_replies()
         ≡ None }
 {}
 
-/// A store of version 1 that was migrated serves its manifest, and its arrivals as early ones: the
-/// events from which a desk over it goes on. What it stood for before is said by version 1's own
-/// rules (`StoodFor`).
+/// A store of version 1 that was migrated reflects its manifest, and its arrivals as early ones:
+/// the events from which a desk over it goes on. What it stood for before is said by version 1's
+/// own rules (`StoodFor`).
 pub fn migrated_store_serves<S: Alter>(store: &Store<S>)
-    ensures serves { (m : List MRow) (l : List ArrivalValue) (k : Kept)
-        → StoodFor sha256 reading m l k → Stands S.Store store.now k
-        → Serves S.Store store.now (events_before m l) }
-    ensures stands_for { (m : List MRow) (l : List ArrivalValue) (k : Kept)
-        → StoodFor sha256 reading m l k → StandsFor sha256 reading (events_before m l) k }
+    ensures serves { (m : List MRow) (l : List ArrivalValue) (k : StoreState)
+        → StoodFor sha256 reading m l k → Represents S.Store store.now k
+        → StoreReflects S.Store store.now (events_before m l) }
+    ensures stands_for { (m : List MRow) (l : List ArrivalValue) (k : StoreState)
+        → StoodFor sha256 reading m l k → IsStateAfter sha256 reading (events_before m l) k }
 {
     let _ = store;
 }
 
-ghost use Rattle.esc_store.specs.Kept.{Kept};
-ghost use Rattle.esc_store.specs.Standing.{Stands};
+ghost use Rattle.esc_store.specs.StoreState.{StoreState};
+ghost use Rattle.esc_store.specs.Representation.{Represents};
 ghost use Rattle.esc_events.specs.FirstVersion.{StoodFor, events_before};
-ghost use Rattle.esc_desk.specs.Serving.{Serves};
+ghost use Rattle.esc_desk.specs.Reflection.{StoreReflects};
 
 /// The definitions at a store of version 1 that was migrated. An arrival with `A2` gets that reply
 /// when it comes again, and its body is held then, if a row lists it by now.
@@ -150,7 +150,7 @@ pub fn worked_migration_unlisted()
 ghost use Rattle.std.specs.Prelude.{◌++◌};
 ghost use Rattle.esc_apply.specs.Tables.{tables};
 ghost use Rattle.esc_events.specs.Events.EventValue.{arrived};
-ghost use Rattle.esc_events.specs.Stands.{deposits_of, held_body, parked_body};
+ghost use Rattle.esc_events.specs.StateAfter.{deposits_of, held_body, parked_body};
 ghost use Rattle.esc_desk.specs.Worked.{
   a_domain,
   of_domain,

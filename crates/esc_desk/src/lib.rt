@@ -37,7 +37,7 @@
 //! # Example
 //!
 //! ```text
-//! // `store` was made of the first manifest by `Store::create`, or is opened again by `Store::open`.
+//! // `store` was made of the first manifest by `Store::create`, or opened again by `Store::open`.
 //! let mut desk = Desk::open(store);
 //! let events = [
 //!     Event::Arrival(Arrival { number: number("n1")?, body }),
@@ -66,25 +66,26 @@
 //!
 //! The contracts speak of lists of events (`EventValue`, `esc_events`): a manifest was taken in, an
 //! arrival was answered, a moment was set or taken back, or an *early* arrival was answered, one
-//! that a store of version 1 took in. A store serves a list of events (`Serves`) if it holds the
-//! rows that are listed, the receipts that the arrivals leave, the body of each held row, the
-//! bodies that no row lists, the moment, the rows of the latest chain, and that chain's tables with
-//! their before-images (`StandsFor`). A store that was just made serves its manifest alone
-//! ([`new_store_stands_for_its_manifest`]), and one of version 1 that was migrated its manifest and
-//! its arrivals as early ones ([`migrated_store_serves`]); what it means to serve a manifest and
-//! then arrivals is said without events by [`stands_for_manifest_and_arrivals`]. A desk serves what
-//! its store serves, if what it remembers of the held rows and the chain is true (`DeskServes`).
+//! that a store of version 1 took in. A store *reflects* a list of events (`StoreReflects`) if it
+//! holds the rows that are listed, the receipts that the arrivals leave, the body of each held row,
+//! the bodies that no row lists, the moment, the rows of the latest chain, and that chain's tables
+//! with their before-images (`IsStateAfter`). A store that was just made reflects its manifest
+//! alone ([`new_store_stands_for_its_manifest`]), and one of version 1 that was migrated its
+//! manifest and its arrivals as early ones ([`migrated_store_serves`]); what it means to reflect a
+//! manifest and then arrivals is said without events by [`stands_for_manifest_and_arrivals`]. A
+//! desk reflects what its store does, if what it remembers of the held rows and the chain is true
+//! (`DeskReflects`).
 //!
 //! Most clauses begin with a word of `specs/Calls.antt`, which says of which events they speak.
-//! `OkAfter` is "if the store is honest after the call, and the call succeeded, then for every list
-//! of events that the desk served before it": a desk that served a list serves, after an arrival
-//! that was answered, that list with the arrival. `OkOver` is the same for every list that the
-//! desk's store stood for, even where what the desk remembers is wrong; reads have it. `Stays` says
-//! that a call changed nothing. What one event changes is one change of the store, whole or not at
-//! all (`IsWhole`): after an `Err` the desk serves the list as it was. So an arrival that was
-//! refused by `S1` (the store failed), `S2` (out of memory), `S4` (there are 1,000,000,000
-//! receipts) or `S5` (1,024 bodies are parked) is as one that never came, and runs compose,
-//! whatever came before them and however they were cut.
+//! `OkForDeskEvents` is "if the store is honest after the call, and the call succeeded, then for
+//! every list of events that the desk reflected before it": a desk that reflected a list reflects,
+//! after an arrival that was answered, that list with the arrival. `OkForStoreEvents` is the same
+//! for every list that the desk's store reflected, even where what the desk remembers is wrong;
+//! reads have it. `IsUnchangedDesk` says that a call changed nothing. What one event changes is one
+//! change of the store, whole or not at all (`IsWhole`): after an `Err` the desk reflects the list
+//! as it was. So an arrival that was refused by `S1` (the store failed), `S2` (out of memory), `S4`
+//! (there are 1,000,000,000 receipts) or `S5` (1,024 bodies are parked) is as one that never came,
+//! and runs compose, whatever came before them and however they were cut.
 //!
 //! What was answered is kept through a crash. An event is *in doubt* once it was refused by `S1` or
 //! `S2`, until another changes a table: a crash may leave it taken in. The clauses `left` of
@@ -123,7 +124,7 @@
 //! - a function that decides it, with the clauses `same` (it only reads), `sound` (`IsSound`),
 //!   `decided` (`IsDecided`) and `cause`;
 //! - one lemma for that: the edited books are those with the event, as `IsMove` says, for
-//!   `decided_moved` of `proofs/Deciding.antt`, or as `StandsFor` does, for `decided_still`;
+//!   `decided_moved` of `proofs/Deciding.antt`, or as `IsStateAfter` does, for `decided_still`;
 //! - a call of [`Desk`] that decides and makes it, and its variants of [`Event`] and
 //!   [`EventOutcome`].
 //!
@@ -138,11 +139,14 @@
 //! row that was held already, its deposit is remembered, and the bodies are compared in place of
 //! that. Of the new chain's steps only the bodies past the front that both chains have in common
 //! are parsed again. A transaction is begun only for an event that changes something, and none for
-//! one that is refused by `S5`. Each [`Desk::held`] and [`Desk::status`] asks the store which rows
-//! are held; so do a desk's first event that may change the store, and the next one after such an
-//! event failed. Receipts with `A1` say so. A row that has a body, and that no such receipt names,
-//! lists the digest of a receipt with `A2` or `A5`: its body is read, once, however many receipts
-//! have that digest.
+//! one that is refused by `S5`. The latest chain is made anew from all held rows, except where the
+//! row of an arrival comes after all of them, builds on the chain's end and isn't later than the
+//! moment: then the chain stays, with that row at its end.
+//!
+//! Each [`Desk::held`] and [`Desk::status`] asks the store which rows are held; so do a desk's
+//! first event that may change the store, and the next one after such an event failed. Receipts
+//! with `A1` say so. A row that has a body, and that no such receipt names, lists the digest of a
+//! receipt with `A2` or `A5`: its body is read, once, however many receipts have that digest.
 //!
 //! [`Desk::end`] reads the body of the chain's last step, and parses its envelope alone, no row.
 //!
@@ -155,6 +159,7 @@ mod amendment;
 mod answering;
 mod arrival;
 mod assessment;
+mod caching;
 mod changes;
 mod decision;
 mod desk;
@@ -162,7 +167,6 @@ mod edit;
 mod event;
 mod intake;
 mod judging;
-mod knowing;
 mod laws;
 mod moment;
 mod moves;

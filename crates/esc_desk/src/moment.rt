@@ -2,12 +2,12 @@
 
 ghost use Rattle.std.specs.Prelude.{◌≡◌, None, false, IfOk, IfErr};
 ghost use Rattle.esc_store.specs.Faults.{IsS1OrS2};
-ghost use Rattle.esc_store.specs.Standing.{IsAsBefore};
+ghost use Rattle.esc_store.specs.Representation.{IsAsBefore};
 ghost use Rattle.esc_events.specs.Events.EventValue.{moved};
-ghost use Rattle.esc_desk.specs.Calls.{DeskLeavesMade, OkAfter, CrashAfter, IsWhole};
+ghost use Rattle.esc_desk.specs.Calls.{DeskLeavesMade, OkForDeskEvents, ForEventsInDoubt, IsWhole};
 ghost use Rattle.esc_desk.specs.Decisions.{Decides, IsDecided, IsSound};
 ghost use Rattle.esc_desk.specs.Edits.{is_empty};
-ghost use Rattle.esc_desk.specs.Serving.{TakesIn};
+ghost use Rattle.esc_desk.specs.Reflection.{TakesIn};
 
 use crate::decision::Decision;
 use crate::desk::Desk;
@@ -26,10 +26,10 @@ impl<S: Alter> Desk<S> {
     /// `S1`, `S2`. A crash leaves the moment that was set; after `S1` or `S2` it may leave this one
     /// set.
     pub fn as_of(&mut self, alloc: Global, moment: Option<i64>) -> Result<Work, SFault>
-        ensures set { OkAfter S.Store self.old self.new result
+        ensures set { OkForDeskEvents S.Store self.old self.new result
             (λ e work. TakesIn S.Store self.new e (moved moment) work) }
         ensures whole { IsWhole S.Store self.old self.new result (λ work. work) }
-        ensures crash { CrashAfter S.Store self.old
+        ensures crash { ForEventsInDoubt S.Store self.old
             (λ e doubtful. DeskLeavesMade S.Store self.new e doubtful (moved moment) result) }
         ensures cause { IfErr result IsS1OrS2 }
     {
@@ -47,7 +47,7 @@ impl<S: Alter> Desk<S> {
         moment: Option<i64>,
     ) -> Result<Decision<'n, 'b>, SFault>
         ensures same { IsAsBefore S.Store self.old.store self.new.store }
-        ensures forgotten { self.new.known ≡ None }
+        ensures forgotten { self.new.cache ≡ None }
         ensures sound { IfOk result (IsSound self.new.store.manifest) }
         ensures none { IfOk result (λ d. d.edit.receipt ≡ None) }
         ensures some { IfOk result (λ d. is_empty d.edit ≡ false) }
@@ -57,8 +57,8 @@ impl<S: Alter> Desk<S> {
     {
         latest_chain_at_rows_are_held();
         read_deposits_mention_few();
-        let mut known = self.take_known(alloc)?;
-        let plan = plan_latest(&mut self.store, alloc, &mut known, moment, Source::Kept)?;
+        let mut cache = self.take_cache(alloc)?;
+        let plan = plan_latest(&mut self.store, alloc, &mut cache, moment, Source::Stored)?;
         Ok(Decision {
             edit: Edit {
                 receipt: None,
@@ -67,7 +67,7 @@ impl<S: Alter> Desk<S> {
                 moment: Some(moment),
                 plan: Some(plan),
             },
-            known: Some(known),
+            cache: Some(cache),
         })
     }
 }

@@ -25,8 +25,14 @@ ghost use Rattle.esc_apply.specs.Tables.{mention_count};
 ghost use Rattle.esc_apply.specs.Moves.{cost};
 ghost use Rattle.esc_apply.specs.Images.{chain_state};
 ghost use Rattle.esc_apply.specs.Front.{common_front};
-ghost use Rattle.esc_store.specs.Kept.{Kept};
-ghost use Rattle.esc_store.specs.Standing.{IsHonest, Rest, HoldsNow, IsUncommitted, Follows};
+ghost use Rattle.esc_store.specs.StoreState.{StoreState};
+ghost use Rattle.esc_store.specs.Representation.{
+  IsHonest,
+  HasMadeBooks,
+  HasMadeTables,
+  IsUncommitted,
+  Follows,
+};
 ghost use Rattle.esc_store.specs.Faults.{IsS1OrS2};
 ghost use Rattle.esc_events.specs.Plans.{
   HasDepositsPast,
@@ -61,12 +67,12 @@ pub(crate) fn move_if_planned<S: Alter>(
 ) -> Result<Work, SFault>
     requires sound { IfSome plan.now IsSoundPlan }
     ensures goes_on { IsUncommitted S.Store change.old change.new }
-    ensures filled { OnOk result ((before k made : Kept) → IsFromChainOf k plan.now
-        → StaysPut k made → Rest S.Store change.old before made
-        → HoldsNow S.Store change.old k.registry
+    ensures filled { OnOk result ((before k made : StoreState) → IsFromChainOf k plan.now
+        → StaysPut k made → HasMadeBooks S.Store change.old before made
+        → HasMadeTables S.Store change.old k.registry
         → IsFilled S.Store change.new before (moved_if plan.now (chain_deposits k) made)) }
     ensures worked { IfOk result (λ work. IsHonest S.Store change.new.store.now
-        → (k : Kept) → IsFromChainOf k plan.now → HoldsNow S.Store change.old k.registry
+        → (k : StoreState) → IsFromChainOf k plan.now → HasMadeTables S.Store change.old k.registry
         → IsCostIf plan.now (chain_deposits k) work) }
     ensures counted { IfOk result (λ work. saturated change.new.count
         ≡ saturated (saturated change.old.count + work.writes)) }
@@ -85,20 +91,21 @@ fn move_by<S: Alter>(change: &mut Change<'_, S>, alloc: Global, plan: &Plan) -> 
     requires few_new { length plan.now.new.items ≤ 4096 }
     requires deposits { HasDepositsPast plan.now }
     ensures goes_on { IsUncommitted S.Store change.old change.new }
-    ensures filled { OnOk result ((before k made : Kept) (c : List DepositValue)
-        → IsMovedFrom k c plan.now → made.steps ≡ k.steps → Rest S.Store change.old before made
-        → HoldsNow S.Store change.old k.registry
+    ensures filled { OnOk result ((before k made : StoreState) (c : List DepositValue)
+        → IsMovedFrom k c plan.now → made.steps ≡ k.steps
+        → HasMadeBooks S.Store change.old before made
+        → HasMadeTables S.Store change.old k.registry
         → IsFilled S.Store change.new before (moved_by plan.now made c)) }
     ensures worked { IfOk result (λ work. IsHonest S.Store change.new.store.now
-        → (k : Kept) (c : List DepositValue) → IsMovedFrom k c plan.now
-        → HoldsNow S.Store change.old k.registry → IsCostOfMove plan.now c work) }
+        → (k : StoreState) (c : List DepositValue) → IsMovedFrom k c plan.now
+        → HasMadeTables S.Store change.old k.registry → IsCostOfMove plan.now c work) }
     ensures counted { IfOk result (λ work. saturated change.new.count
         ≡ saturated (saturated change.old.count + work.writes)) }
     ensures cause { IfErr result IsS1OrS2 }
 {
     let work = move_here(change, alloc, &plan.old, &plan.new, &plan.deposits)?;
     let front = same_rows(&plan.old, &plan.new);
-    change.continue_chain(front, &plan.new[front..])?;
+    change.replace_chain_from(front, &plan.new[front..])?;
     Ok(work)
 }
 
@@ -136,12 +143,12 @@ fn move_here<S: Alter>(
         ≡ saturated (saturated change.old.count + work.writes)) }
     ensures moved { OnOk result (IsHonest S.Store change.new.store.now
         → (c : List DepositValue) → length c ≡ length old.now
-        → HoldsNow S.Store change.old (chain_state c)
-        → HoldsNow S.Store change.new
+        → HasMadeTables S.Store change.old (chain_state c)
+        → HasMadeTables S.Store change.new
         (chain_state (take (common_front old.now new.now) c ++ deposits.now))) }
     ensures cost { IfOk result (λ work. IsHonest S.Store change.new.store.now
         → (c : List DepositValue) → length c ≡ length old.now
-        → HoldsNow S.Store change.old (chain_state c)
+        → HasMadeTables S.Store change.old (chain_state c)
         → sum_by mention_count (c ++ deposits.now) < 2 ^ 64
         → work ≡ cost c old.now new.now deposits.now) }
     ensures cause { IfErr result IsS1OrS2 }

@@ -2,8 +2,8 @@
 
 ghost use Rattle.std.specs.Prelude.{IfOk, IfErr};
 ghost use Rattle.esc_store.specs.Faults.{IsS1OrS2};
-ghost use Rattle.esc_store.specs.Kept.{Kept};
-ghost use Rattle.esc_store.specs.Standing.{Stands, IsHonest, IsAsBefore};
+ghost use Rattle.esc_store.specs.StoreState.{StoreState};
+ghost use Rattle.esc_store.specs.Representation.{Represents, IsHonest, IsAsBefore};
 ghost use Rattle.esc_events.specs.Parks.{IsParking};
 
 use esc_events::Parking;
@@ -18,7 +18,7 @@ pub(crate) fn parking_of<S: Alter>(
     digest: &[u8; 32],
 ) -> Result<Parking, SFault>
     ensures same { IsAsBefore S.Store store.old store.new }
-    ensures parking { IsHonest S.Store store.new → (k : Kept) → Stands S.Store store.old k
+    ensures parking { IsHonest S.Store store.new → (k : StoreState) → Represents S.Store store.old k
         → IfOk result (IsParking k.parked digest.now) }
     ensures cause { IfErr result IsS1OrS2 }
 {

@@ -4,6 +4,9 @@ ghost use Rattle.std.specs.Prelude.{
   ◌≡◌,
   ◌≤◌,
   ◌<◌,
+  ◌++◌,
+  ◌∷◌,
+  [],
   ℕ,
   List,
   Option,
@@ -11,15 +14,16 @@ ghost use Rattle.std.specs.Prelude.{
   map,
   IfOk,
   IfErr,
+  IsTrue,
   OnOk,
 };
 ghost use Rattle.esc_tables.specs.Reading.{reading};
 ghost use Rattle.esc_manifest.specs.declared.row.MRow.{MRow};
 ghost use Rattle.esc_store.specs.Faults.{IsS1OrS2};
-ghost use Rattle.esc_store.specs.Kept.{Kept, step_at, kept_chain};
-ghost use Rattle.esc_store.specs.Standing.{Stands, IsHonest, IsAsBefore};
+ghost use Rattle.esc_store.specs.StoreState.{StoreState, step_at, kept_chain};
+ghost use Rattle.esc_store.specs.Representation.{Represents, IsHonest, IsAsBefore};
 ghost use Rattle.esc_events.specs.Amended.{amended_bodies};
-ghost use Rattle.esc_events.specs.Stands.{deposit_of, deposits_of};
+ghost use Rattle.esc_events.specs.StateAfter.{deposit_of, deposits_of};
 ghost use Rattle.esc_events.specs.Plans.{
   AllInRange,
   rows_in,
@@ -29,13 +33,14 @@ ghost use Rattle.esc_events.specs.Plans.{
 };
 ghost use Rattle.esc_desk.specs.DepositSources.{IsSource};
 ghost use Rattle.esc_desk.specs.Edits.{IsSoundPlan};
+ghost use Rattle.esc_desk.specs.Lengthening.{IsChainWithout, Lengthens};
 
 use crate::judging::{Judgement, judge};
 use esc_apply::{Step, common_front};
 use esc_bundle::{Fault, NoMemory};
-use esc_chain::{Held, latest_chain_at};
-use esc_events::{Known, Plan};
-use esc_manifest::{MOST_ROWS, MRow, Manifest};
+use esc_chain::{Held, goes_at_end, latest_chain_at};
+use esc_events::{Cache, Plan};
+use esc_manifest::{MOST_LISTED_ROWS, MRow, Manifest};
 use esc_store::{SFault, Store};
 use esc_tables::{Deposit, read_deposit};
 use sqlite::Alter;
@@ -46,10 +51,10 @@ use std::mem;
 #[derive(Drop)]
 pub(crate) enum Source<'a> {
     /// From the bodies that the store holds.
-    Kept,
-    /// As `Kept`, except that the deposit of this row is at hand. `None` once it was used.
+    Stored,
+    /// As `Stored`, except that the deposit of this row is at hand. `None` once it was used.
     Arrived(usize, Option<Deposit>),
-    /// As `Kept`, except for these rows from this index on: the bodies that are parked for them.
+    /// As `Stored`, except for these rows from this index on: the bodies that are parked for them.
     Listed(&'a [MRow], usize),
 }
 
@@ -69,6 +74,60 @@ pub(crate) fn latest_steps(
     let held = Held::from_rows(alloc, manifest, rows)?.ok_or(SFault::S1)?;
     let chain = latest_chain_at(alloc, manifest, &held, moment)?;
     Ok(steps_of(alloc, manifest.rows(), &chain)?)
+}
+
+/// The steps of the latest chain of these rows up to a moment, where `chain` is that of the rows
+/// but for one. Where that row goes at the end of `chain`, no chain is made anew. `S1`, `S2` as of
+/// [`latest_steps`].
+pub(crate) fn steps_with(
+    alloc: Global,
+    manifest: &Manifest,
+    chain: &[Step],
+    rows: &[usize],
+    moment: Option<i64>,
+    row: usize,
+) -> Result<Vec<Step>, SFault>
+    ensures few { IfOk result (λ steps. length steps.items ≤ 4096) }
+    ensures steps { IfOk result
+        (λ steps. IsChainWithout manifest.now rows.now moment row chain.now
+        → AreLatestSteps manifest.now rows.now moment steps.items) }
+    ensures cause { IfErr result IsS1OrS2 }
+{
+    if lengthens(manifest, chain, rows, moment, row) {
+        let last = step_of(manifest.rows(), row);
+        return Ok(with_step(alloc, chain, last)?);
+    }
+    latest_steps(alloc, manifest, rows, moment)
+}
+
+// Whether a row goes at the end of the chain with these steps.
+fn lengthens(
+    manifest: &Manifest,
+    chain: &[Step],
+    rows: &[usize],
+    moment: Option<i64>,
+    row: usize,
+) -> bool
+    ensures longer { IsTrue result → Lengthens manifest.now rows.now moment row chain.now }
+{
+    let Some(end) = chain.last().copied() else {
+        return false;
+    };
+    if chain.len() >= MOST_LISTED_ROWS {
+        return false;
+    }
+    goes_at_end(manifest, rows, moment, end.place, row)
+}
+
+// The steps with one more.
+fn with_step(alloc: Global, steps: &[Step], last: Step) -> Result<Vec<Step>, NoMemory>
+    requires { length steps.now < 4096 }
+    ensures { IfOk result (λ more. more.items ≡ steps.now ++ last ∷ []) }
+{
+    let mut more = Vec::with_capacity(alloc, steps.len() + 1)?;
+    more.extend_from_slice(steps)?;
+    more.push(last)?;
+    Ok(more)
 }
 
 // The steps of rows.
@@ -95,28 +154,83 @@ fn step_of(rows: &[MRow], row: usize) -> Step
     }
 }
 
-/// Plans the move from the known chain to the latest chain of the known rows of which a body is
-/// held, up to a moment. The known chain is taken.
+/// Plans the move from the cached chain to the latest chain of the held rows, up to a moment. The
+/// cached chain is taken.
 pub(crate) fn plan_latest<S: Alter>(
     store: &mut Store<S>,
     alloc: Global,
-    known: &mut Known,
+    cache: &mut Cache,
     moment: Option<i64>,
     source: Source<'_>,
 ) -> Result<Plan, SFault>
     ensures same { IsAsBefore S.Store store.old store.new }
-    ensures held { known.new.held ≡ known.old.held }
-    ensures told { known.new.told ≡ known.old.told }
+    ensures held { cache.new.held_rows ≡ cache.old.held_rows }
+    ensures told { cache.new.rows_with_receipt ≡ cache.old.rows_with_receipt }
     ensures sound { IfOk result IsSoundPlan }
-    ensures latest { (k : Kept) → Stands S.Store store.old k → IfOk result
-        (λ p. AreLatestSteps k.listed known.old.held.items moment p.new.items) }
-    ensures planned { IsHonest S.Store store.new → (k : Kept) (bodies : ℕ → Option (List ℕ))
-        → Stands S.Store store.old k → IsSource source.entry k bodies
-        → known.old.chain.items ≡ kept_chain k → IfOk result (IsPlanned k bodies) }
+    ensures latest { (k : StoreState) → Represents S.Store store.old k → IfOk result
+        (λ p. AreLatestSteps k.listed cache.old.held_rows.items moment p.new.items) }
+    ensures planned { IsHonest S.Store store.new → (k : StoreState) (bodies : ℕ → Option (List ℕ))
+        → Represents S.Store store.old k → IsSource source.entry k bodies
+        → cache.old.chain.items ≡ kept_chain k → IfOk result (IsPlanned k bodies) }
     ensures cause { IfErr result IsS1OrS2 }
 {
-    let new = latest_steps(alloc, store.manifest(), &known.held, moment)?;
-    let old = mem::replace(&mut known.chain, Vec::new(alloc));
+    let new = latest_steps(alloc, store.manifest(), &cache.held_rows, moment)?;
+    plan_to(store, alloc, cache, new, source)
+}
+
+/// As [`plan_latest`], where the cached chain is the latest one of the held rows but for `row`,
+/// whose body has just arrived.
+pub(crate) fn plan_arrived<S: Alter>(
+    store: &mut Store<S>,
+    alloc: Global,
+    cache: &mut Cache,
+    moment: Option<i64>,
+    row: usize,
+    source: Source<'_>,
+) -> Result<Plan, SFault>
+    ensures same { IsAsBefore S.Store store.old store.new }
+    ensures held { cache.new.held_rows ≡ cache.old.held_rows }
+    ensures told { cache.new.rows_with_receipt ≡ cache.old.rows_with_receipt }
+    ensures sound { IfOk result IsSoundPlan }
+    ensures latest { (k : StoreState) → Represents S.Store store.old k
+        → IsChainWithout k.listed cache.old.held_rows.items moment row cache.old.chain.items
+        → IfOk result (λ p. AreLatestSteps k.listed cache.old.held_rows.items moment p.new.items) }
+    ensures planned { IsHonest S.Store store.new → (k : StoreState) (bodies : ℕ → Option (List ℕ))
+        → Represents S.Store store.old k → IsSource source.entry k bodies
+        → cache.old.chain.items ≡ kept_chain k → IfOk result (IsPlanned k bodies) }
+    ensures cause { IfErr result IsS1OrS2 }
+{
+    let new = steps_with(
+        alloc,
+        store.manifest(),
+        &cache.chain,
+        &cache.held_rows,
+        moment,
+        row,
+    )?;
+    plan_to(store, alloc, cache, new, source)
+}
+
+// Plans the move from the cached chain, which is taken, to these steps.
+fn plan_to<S: Alter>(
+    store: &mut Store<S>,
+    alloc: Global,
+    cache: &mut Cache,
+    new: Vec<Step>,
+    source: Source<'_>,
+) -> Result<Plan, SFault>
+    requires few { length new.items ≤ 4096 }
+    ensures same { IsAsBefore S.Store store.old store.new }
+    ensures held { cache.new.held_rows ≡ cache.old.held_rows }
+    ensures told { cache.new.rows_with_receipt ≡ cache.old.rows_with_receipt }
+    ensures sound { IfOk result IsSoundPlan }
+    ensures new { IfOk result (λ p. p.new ≡ new) }
+    ensures planned { IsHonest S.Store store.new → (k : StoreState) (bodies : ℕ → Option (List ℕ))
+        → Represents S.Store store.old k → IsSource source.entry k bodies
+        → cache.old.chain.items ≡ kept_chain k → IfOk result (IsPlanned k bodies) }
+    ensures cause { IfErr result IsS1OrS2 }
+{
+    let old = mem::replace(&mut cache.chain, Vec::new(alloc));
     plan_move(store, alloc, old, new, source)
 }
 
@@ -134,12 +248,12 @@ pub(crate) fn plan_move<S: Alter>(
     ensures few { IfOk result (λ p. length p.old.items ≤ 4096) }
     ensures new { IfOk result (λ p. p.new ≡ new) }
     ensures past { IfOk result HasDepositsPast }
-    ensures planned { IsHonest S.Store store.new → (k : Kept) (bodies : ℕ → Option (List ℕ))
-        → Stands S.Store store.old k → IsSource source.entry k bodies
+    ensures planned { IsHonest S.Store store.new → (k : StoreState) (bodies : ℕ → Option (List ℕ))
+        → Represents S.Store store.old k → IsSource source.entry k bodies
         → old.items ≡ kept_chain k → IfOk result (IsPlanned k bodies) }
     ensures cause { IfErr result IsS1OrS2 }
 {
-    if old.len() > MOST_ROWS {
+    if old.len() > MOST_LISTED_ROWS {
         return Err(SFault::S1);
     }
     let front = common_front(&old, &new);
@@ -156,8 +270,8 @@ fn deposits_of<S: Alter>(
 ) -> Result<Vec<Deposit>, SFault>
     ensures same { IsAsBefore S.Store store.old store.new }
     ensures count { IfOk result (λ v. length v.items ≡ length steps.now) }
-    ensures read { IsHonest S.Store store.new → (k : Kept) (bodies : ℕ → Option (List ℕ))
-        → Stands S.Store store.old k → IsSource source.entry k bodies
+    ensures read { IsHonest S.Store store.new → (k : StoreState) (bodies : ℕ → Option (List ℕ))
+        → Represents S.Store store.old k → IsSource source.entry k bodies
         → IfOk result (λ v. v.items ≡ deposits_of reading bodies (rows_in steps.now)) }
     ensures cause { IfErr result IsS1OrS2 }
 {
@@ -178,10 +292,10 @@ fn next_deposit<S: Alter>(
     source: &mut Source<'_>,
 ) -> Result<Deposit, SFault>
     ensures same { IsAsBefore S.Store store.old store.new }
-    ensures source { OnOk result ((k : Kept) (bodies : ℕ → Option (List ℕ))
+    ensures source { OnOk result ((k : StoreState) (bodies : ℕ → Option (List ℕ))
         → IsSource source.old k bodies → IsSource source.new k bodies) }
-    ensures read { IsHonest S.Store store.new → (k : Kept) (bodies : ℕ → Option (List ℕ))
-        → Stands S.Store store.old k → IsSource source.old k bodies
+    ensures read { IsHonest S.Store store.new → (k : StoreState) (bodies : ℕ → Option (List ℕ))
+        → Represents S.Store store.old k → IsSource source.old k bodies
         → IfOk result (λ d. d ≡ deposit_of reading (bodies row)) }
     ensures cause { IfErr result IsS1OrS2 }
 {
@@ -191,7 +305,7 @@ fn next_deposit<S: Alter>(
             None => Err(SFault::S1),
         },
         Source::Listed(rows, from) if *from <= row => parked_deposit(store, alloc, rows, row),
-        Source::Kept | Source::Arrived(..) | Source::Listed(..) => {
+        Source::Stored | Source::Arrived(..) | Source::Listed(..) => {
             stored_deposit(store, alloc, row)
         }
     }
@@ -206,7 +320,7 @@ fn parked_deposit<S: Alter>(
     row: usize,
 ) -> Result<Deposit, SFault>
     ensures same { IsAsBefore S.Store store.old store.new }
-    ensures read { IsHonest S.Store store.new → (k : Kept) → Stands S.Store store.old k
+    ensures read { IsHonest S.Store store.new → (k : StoreState) → Represents S.Store store.old k
         → (from : ℕ) → from ≤ row → IfOk result
         (λ d. d ≡ deposit_of reading (amended_bodies rows.now k.parked from k.bodies row)) }
     ensures cause { IfErr result IsS1OrS2 }
@@ -227,7 +341,7 @@ fn stored_deposit<S: Alter>(
     row: usize,
 ) -> Result<Deposit, SFault>
     ensures same { IsAsBefore S.Store store.old store.new }
-    ensures read { IsHonest S.Store store.new → (k : Kept) → Stands S.Store store.old k
+    ensures read { IsHonest S.Store store.new → (k : StoreState) → Represents S.Store store.old k
         → IfOk result (λ d. d ≡ deposit_of reading (k.bodies row)) }
     ensures cause { IfErr result IsS1OrS2 }
 {

@@ -17,13 +17,13 @@ ghost use Rattle.esc_tables.specs.DepositValue.{DepositValue};
 ghost use Rattle.esc_tables.specs.Reading.{reading};
 ghost use Rattle.esc_apply.specs.declared.front.Step.{Step};
 ghost use Rattle.esc_store.specs.Faults.{IsS1OrS2};
-ghost use Rattle.esc_store.specs.Kept.{Kept};
-ghost use Rattle.esc_store.specs.Standing.{Stands, IsHonest, IsAsBefore, rows_of};
-ghost use Rattle.esc_desk.specs.Calls.{store_of, writes_of, OkOver, Stays};
-ghost use Rattle.esc_events.specs.Events.{EventValue, union, moment_of};
+ghost use Rattle.esc_store.specs.StoreState.{StoreState};
+ghost use Rattle.esc_store.specs.Representation.{Represents, IsHonest, IsAsBefore, listed_rows_of};
+ghost use Rattle.esc_desk.specs.Calls.{store_of, writes_of, OkForStoreEvents, IsUnchangedDesk};
+ghost use Rattle.esc_events.specs.Events.{EventValue, union, last_moment};
 ghost use Rattle.esc_events.specs.Parks.{IsParkedBody};
 ghost use Rattle.esc_events.specs.LatestTables.{AreTables};
-ghost use Rattle.esc_desk.specs.Serving.{Serves};
+ghost use Rattle.esc_desk.specs.Reflection.{StoreReflects};
 ghost use Rattle.esc_desk.specs.Reads.{
   last,
   replies_of,
@@ -34,8 +34,8 @@ ghost use Rattle.esc_desk.specs.Reads.{
   IsStatus,
 };
 
+use crate::caching::cache_of;
 use crate::desk::Desk;
-use crate::knowing::{known_of, known_rows};
 use crate::status::{End, Status};
 use esc_apply::Step;
 use esc_bundle::Fault;
@@ -52,9 +52,9 @@ impl<S: Alter> Desk<S> {
     /// The rows that are listed: those of the first manifest and of each amendment, as the desk's
     /// store has them in memory. Doesn't allocate.
     pub fn manifest(&self) -> &Manifest
-        ensures rows { result.now ≡ rows_of (store_of self.now) }
+        ensures rows { result.now ≡ listed_rows_of (store_of self.now) }
         ensures manifest { (e : List EventValue)
-            → Serves S.Store (store_of self.now) e → result.now ≡ union e }
+            → StoreReflects S.Store (store_of self.now) e → result.now ≡ union e }
     {
         self.store.manifest()
     }
@@ -70,8 +70,8 @@ impl<S: Alter> Desk<S> {
     /// All replies, in the order of their receipts. `S1`, `S2`.
     #[tactic(auto, using(crate::proofs::ReadLemmas::read_stays))]
     pub fn receipts(&mut self, alloc: Global) -> Result<Vec<Reply>, SFault>
-        ensures stays { Stays S.Store self.old self.new }
-        ensures all { OkOver S.Store self.old self.new result
+        ensures stays { IsUnchangedDesk S.Store self.old self.new }
+        ensures all { OkForStoreEvents S.Store self.old self.new result
             (λ e replies. replies.items ≡ replies_of e) }
         ensures cause { IfErr result IsS1OrS2 }
     {
@@ -82,21 +82,20 @@ impl<S: Alter> Desk<S> {
     /// no receipt with `A1` names the body is read, once. `S1`, `S2`.
     #[tactic(auto, using(crate::proofs::ReadLemmas::read_stays))]
     pub fn held(&mut self, alloc: Global) -> Result<Vec<usize>, SFault>
-        ensures stays { Stays S.Store self.old self.new }
-        ensures rows { OkOver S.Store self.old self.new result
+        ensures stays { IsUnchangedDesk S.Store self.old self.new }
+        ensures rows { OkForStoreEvents S.Store self.old self.new result
             (λ e rows. AreHeldRows e rows.items) }
         ensures cause { IfErr result IsS1OrS2 }
     {
-        let (held, _told) = known_rows(&mut self.store, alloc)?;
-        Ok(held)
+        self.store.held(alloc)
     }
 
     /// The bodies that no row lists, each as its digest and length, in the order of digests. They
     /// are read one at a time. `S1`, `S2`.
     #[tactic(auto, using(crate::proofs::ReadLemmas::read_then_stays))]
     pub fn parked(&mut self, alloc: Global) -> Result<Vec<ParkedBody>, SFault>
-        ensures stays { Stays S.Store self.old self.new }
-        ensures bodies { OkOver S.Store self.old self.new result
+        ensures stays { IsUnchangedDesk S.Store self.old self.new }
+        ensures bodies { OkForStoreEvents S.Store self.old self.new result
             (λ e bodies. AreParkedOf e bodies.items) }
         ensures cause { IfErr result IsS1OrS2 }
     {
@@ -108,9 +107,9 @@ impl<S: Alter> Desk<S> {
     /// if one is set. `S1`, `S2`.
     #[tactic(auto, using(crate::proofs::ReadLemmas::read_stays))]
     pub fn moment(&mut self) -> Result<Option<i64>, SFault>
-        ensures stays { Stays S.Store self.old self.new }
-        ensures moment { OkOver S.Store self.old self.new result
-            (λ e moment. moment ≡ moment_of e) }
+        ensures stays { IsUnchangedDesk S.Store self.old self.new }
+        ensures moment { OkForStoreEvents S.Store self.old self.new result
+            (λ e moment. moment ≡ last_moment e) }
         ensures cause { IfErr result IsS1OrS2 }
     {
         self.store.moment()
@@ -119,8 +118,8 @@ impl<S: Alter> Desk<S> {
     /// The objects of the latest chain's tables by key, all in memory. `S1`, `S2`.
     #[tactic(auto, using(crate::proofs::ReadLemmas::read_stays))]
     pub fn tables(&mut self, alloc: Global) -> Result<BTreeMap<Key, Object>, SFault>
-        ensures stays { Stays S.Store self.old self.new }
-        ensures objects { OkOver S.Store self.old self.new result
+        ensures stays { IsUnchangedDesk S.Store self.old self.new }
+        ensures objects { OkForStoreEvents S.Store self.old self.new result
             (λ e objects. AreTables e objects.entries) }
         ensures cause { IfErr result IsS1OrS2 }
     {
@@ -131,8 +130,8 @@ impl<S: Alter> Desk<S> {
     /// `None` where there is no chain. `S1`, `S2`.
     #[tactic(auto, using(crate::proofs::ReadLemmas::read_then_stays))]
     pub fn end(&mut self, alloc: Global) -> Result<Option<End>, SFault>
-        ensures stays { Stays S.Store self.old self.new }
-        ensures end { OkOver S.Store self.old self.new result
+        ensures stays { IsUnchangedDesk S.Store self.old self.new }
+        ensures end { OkForStoreEvents S.Store self.old self.new result
             (λ e end. IsEnd e end) }
         ensures cause { IfErr result IsS1OrS2 }
     {
@@ -150,16 +149,16 @@ impl<S: Alter> Desk<S> {
     /// first time after a change, the kind of each object. `S1`, `S2`.
     #[tactic(auto, using(crate::proofs::ReadLemmas::read_then_stays))]
     pub fn status(&mut self, alloc: Global) -> Result<Status, SFault>
-        ensures stays { Stays S.Store self.old self.new }
-        ensures status { OkOver S.Store self.old self.new result
+        ensures stays { IsUnchangedDesk S.Store self.old self.new }
+        ensures status { OkForStoreEvents S.Store self.old self.new result
             (λ e status. IsStatus e status) }
         ensures cause { IfErr result IsS1OrS2 }
     {
         let receipts = self.store.receipt_count()?;
-        let known = known_of(&mut self.store, alloc)?;
+        let cache = cache_of(&mut self.store, alloc)?;
         let objects = self.store.counts_by_kind(alloc)?;
         let listed = self.store.manifest().rows().len();
-        Ok(status_of(listed, receipts, &known.held, &known.chain, objects))
+        Ok(status_of(listed, receipts, &cache.held_rows, &cache.chain, objects))
     }
 }
 
@@ -213,7 +212,7 @@ fn parked_bodies<S: Alter>(
 ) -> Result<Vec<ParkedBody>, SFault>
     ensures same { IsAsBefore S.Store store.old store.new }
     ensures digests { IfOk result (λ bodies. map (λ p. p.digest) bodies.items ≡ digests.now) }
-    ensures each { IsHonest S.Store store.new → (k : Kept) → Stands S.Store store.old k
+    ensures each { IsHonest S.Store store.new → (k : StoreState) → Represents S.Store store.old k
         → IfOk result (λ bodies. All (IsParkedBody k.parked) bodies.items) }
     ensures cause { IfErr result IsS1OrS2 }
 {
@@ -228,7 +227,7 @@ fn parked_bodies<S: Alter>(
 fn parked_body<S: Alter>(store: &mut Store<S>, digest: &[u8; 32]) -> Result<ParkedBody, SFault>
     ensures same { IsAsBefore S.Store store.old store.new }
     ensures digest { IfOk result (λ p. p.digest ≡ digest.now) }
-    ensures parked { IsHonest S.Store store.new → (k : Kept) → Stands S.Store store.old k
+    ensures parked { IsHonest S.Store store.new → (k : StoreState) → Represents S.Store store.old k
         → IfOk result (IsParkedBody k.parked) }
     ensures cause { IfErr result IsS1OrS2 }
 {
@@ -245,7 +244,7 @@ fn parked_body<S: Alter>(store: &mut Store<S>, digest: &[u8; 32]) -> Result<Park
 // alone is parsed.
 fn stored_end<S: Alter>(store: &mut Store<S>, alloc: Global, row: usize) -> Result<End, SFault>
     ensures same { IsAsBefore S.Store store.old store.new }
-    ensures says { IsHonest S.Store store.new → (k : Kept) → Stands S.Store store.old k
+    ensures says { IsHonest S.Store store.new → (k : StoreState) → Represents S.Store store.old k
         → IfOk result (λ end. (body : List ℕ) × (k.bodies row ≡ Some body) × ((d : DepositValue)
         → reading body ≡ Ok d → SaysEnd d end)) }
     ensures cause { IfErr result IsS1OrS2 }

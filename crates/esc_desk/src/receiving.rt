@@ -17,25 +17,24 @@ ghost use Rattle.sha2.specs.Sha256.{sha256};
 ghost use Rattle.esc_tables.specs.DepositValue.{DepositValue};
 ghost use Rattle.esc_tables.specs.Reading.{reading};
 ghost use Rattle.esc_store.specs.Faults.{IsS1OrS2};
-ghost use Rattle.esc_store.specs.Kept.{Kept, AreHeldBy};
+ghost use Rattle.esc_store.specs.StoreState.{StoreState, AreHeldBy};
 ghost use Rattle.esc_store.specs.ReplyValue.{ReceiptValue, reply_alike, reply_kept};
 ghost use Rattle.esc_events.specs.declared.assessment.Assessment.TheVariants.{Holding};
 ghost use Rattle.esc_events.specs.ArrivalValue.{an_arrival};
 ghost use Rattle.esc_events.specs.Assessment.{assessment};
 ghost use Rattle.esc_events.specs.Events.{EventValue, union};
-ghost use Rattle.esc_events.specs.Known.{IsKnown};
-ghost use Rattle.esc_events.specs.Stands.{StandsFor};
+ghost use Rattle.esc_events.specs.Cache.{IsCacheOf};
+ghost use Rattle.esc_events.specs.StateAfter.{IsStateAfter};
 ghost use Rattle.esc_events.specs.Taking.{IsNew};
 ghost use Rattle.esc_desk.specs.Receiving.{IsReceived};
 
 use crate::assessment::{find, held_row};
-use crate::knowing::insert_row;
 use crate::receipt::{is_among, receipt_by, reply_of};
 use crate::reread::Reread;
 use esc_bundle::NoMemory;
-use esc_events::{Assessment, Known};
+use esc_events::{Assessment, Cache};
 use esc_manifest::Manifest;
-use esc_store::{Number, Receipt, Reply, SFault};
+use esc_store::{Number, Receipt, Reply, SFault, insert_row};
 use std::alloc::Global;
 
 /// What was found of an arrival, its receipt, the reply, without the receipt's number, and what is
@@ -45,7 +44,7 @@ pub(crate) struct Received<'n> {
     pub(crate) found: Assessment,
     pub(crate) receipt: Receipt<'n>,
     pub(crate) reply: Reply,
-    pub(crate) known: Known,
+    pub(crate) cache: Cache,
 }
 
 /// What is told of an arrival for which no receipt is kept. Its body isn't read where it is that of
@@ -57,13 +56,13 @@ pub(crate) fn receive<'n>(
     digest: [u8; 32],
     body: &[u8],
     last: Option<Reread>,
-    known: Known,
+    cache: Cache,
 ) -> Result<Received<'n>, SFault>
     requires { digest ≡ sha256 body.now }
-    ensures received { (e : List EventValue) (k : Kept) → manifest.now ≡ k.listed
-        → StandsFor sha256 reading e k → IsKnown k known
+    ensures received { (e : List EventValue) (k : StoreState) → manifest.now ≡ k.listed
+        → IsStateAfter sha256 reading e k → IsCacheOf k cache
         → reply_alike (union e) 1 number.now digest k.receipts ≡ None
-        → IfOk result (IsReceived e (an_arrival number.now body.now) k known) }
+        → IfOk result (IsReceived e (an_arrival number.now body.now) k cache) }
     ensures reply { IfOk result (λ r. r.reply ≡ reply_kept manifest.now 0 r.receipt) }
     ensures found { IfOk result (λ r. r.found ≡ assessment sha256 reading manifest.now body.now) }
     ensures digest { IfOk result (λ r. r.receipt.digest ≡ digest) }
@@ -72,29 +71,29 @@ pub(crate) fn receive<'n>(
     ensures cause { IfErr result IsS1OrS2 }
 {
     let found = find(alloc, manifest, &digest, body, last)?;
-    let again = is_among(&known.told, held_row(&found));
+    let again = is_among(&cache.rows_with_receipt, held_row(&found));
     let receipt = receipt_by(number, digest, &found, again);
     let reply = reply_of(alloc, manifest.rows(), &receipt)?;
-    let mut known = known;
-    tell(&mut known, &found)?;
+    let mut cache = cache;
+    tell(&mut cache, &found)?;
     Ok(Received {
         found,
         receipt,
         reply,
-        known,
+        cache,
     })
 }
 
 // What is known of the rows once a receipt tells of what was found.
-fn tell(known: &mut Known, found: &Assessment) -> Result<(), NoMemory>
-    ensures held { known.new.held ≡ known.old.held }
-    ensures chain { known.new.chain ≡ known.old.chain }
-    ensures told { OnOk result ((e : List EventValue) (n body : List ℕ) (k : Kept)
-        (receipt : ReceiptValue) → IsNew e (an_arrival n body) k found.now known.old receipt
-        → AreHeldBy (k.receipts ++ receipt ∷ []) known.new.told.items) }
+fn tell(cache: &mut Cache, found: &Assessment) -> Result<(), NoMemory>
+    ensures held { cache.new.held_rows ≡ cache.old.held_rows }
+    ensures chain { cache.new.chain ≡ cache.old.chain }
+    ensures told { OnOk result ((e : List EventValue) (n body : List ℕ) (k : StoreState)
+        (receipt : ReceiptValue) → IsNew e (an_arrival n body) k found.now cache.old receipt
+        → AreHeldBy (k.receipts ++ receipt ∷ []) cache.new.rows_with_receipt.items) }
 {
     match held_row(found) {
-        Some(row) => insert_row(&mut known.told, row),
+        Some(row) => insert_row(&mut cache.rows_with_receipt, row),
         None => Ok(()),
     }
 }

@@ -9,9 +9,9 @@ ghost use Rattle.esc_desk.specs.Asked.{
   matched,
 };
 ghost use Rattle.esc_desk.specs.Calls.{
-  After,
-  OkAfter,
-  CrashAfter,
+  ForDeskEvents,
+  OkForDeskEvents,
+  ForEventsInDoubt,
   WasHonest,
   DeskLeavesEvent,
   DeskLeavesRun,
@@ -33,9 +33,9 @@ impl<S: Alter> Desk<S> {
     /// with repeats, losses and reorderings, the tables hold for each object what the last deposit
     /// that mentions it says on the latest unbroken chain, up to the moment set last, of the listed
     /// deposits that arrived, each at its highest arrived revision; and arrivals alike in number
-    /// and body get one receipt and the first one's reply. Where the desk served a list of events
-    /// before, it serves that list followed by the events that were taken in, so runs compose.
-    /// There is an outcome for each event:
+    /// and body get one receipt and the first one's reply. Where the desk reflected a list of
+    /// events before, it reflects that list followed by the events that were taken in, so runs
+    /// compose. There is an outcome for each event:
     ///
     /// - an arrival's reply; or it is lost by `S1` or `S2`, by `S4` where it is no duplicate and
     ///   the store has 1,000,000,000 receipts, or by `S5` where its body would be parked and 1,024
@@ -51,10 +51,10 @@ impl<S: Alter> Desk<S> {
         alloc: Global,
         events: &[Event<'_>],
     ) -> Result<Vec<EventOutcome>, NoMemory>
-        ensures ran { OkAfter S.Store self.old self.new result
+        ensures ran { OkForDeskEvents S.Store self.old self.new result
             (λ before outcomes. Ran S.Store self.old self.new before events.now
             outcomes.items) }
-        ensures crash { IfOk result (λ outcomes. CrashAfter S.Store self.old
+        ensures crash { IfOk result (λ outcomes. ForEventsInDoubt S.Store self.old
             (λ before doubtful. DeskLeavesRun S.Store self.new before doubtful
             events.now outcomes.items)) }
         ensures counted { IfOk result (λ outcomes. length outcomes.items
@@ -80,10 +80,10 @@ impl<S: Alter> Desk<S> {
     /// arrived, each at its highest arrived revision; and arrivals alike in number and body get one
     /// receipt and the first one's reply. `NoMemory` is returned before the first arrival.
     pub fn run(&mut self, alloc: Global, arrivals: &[Arrival<'_>]) -> Result<Vec<Outcome>, NoMemory>
-        ensures ran { OkAfter S.Store self.old self.new result
+        ensures ran { OkForDeskEvents S.Store self.old self.new result
             (λ before outcomes. Ran S.Store self.old self.new before
             (as_events arrivals.now) (as_outcomes outcomes.items)) }
-        ensures crash { IfOk result (λ outcomes. CrashAfter S.Store self.old
+        ensures crash { IfOk result (λ outcomes. ForEventsInDoubt S.Store self.old
             (λ before doubtful. DeskLeavesRun S.Store self.new before doubtful
             (as_events arrivals.now) (as_outcomes outcomes.items))) }
         ensures counted { IfOk result (λ outcomes. length outcomes.items
@@ -106,9 +106,9 @@ impl<S: Alter> Desk<S> {
     /// Takes one event, and returns its outcome: by [`Desk::arrive`], [`Desk::amend`] or
     /// [`Desk::as_of`]. It has the contract of [`Desk::run_events`] over this event alone.
     pub fn take(&mut self, alloc: Global, event: &Event<'_>) -> EventOutcome
-        ensures taken { After S.Store self.old self.new
+        ensures taken { ForDeskEvents S.Store self.old self.new
             (λ e. Takes S.Store self.old self.new e event.now result) }
-        ensures crash { CrashAfter S.Store self.old
+        ensures crash { ForEventsInDoubt S.Store self.old
             (λ e doubtful. DeskLeavesEvent S.Store self.new e doubtful event.now result) }
         ensures cause { IsOutcomeOf (matched event.now result) }
         ensures honest { WasHonest S.Store self.old self.new }
@@ -129,9 +129,9 @@ impl<S: Alter> Desk<S> {
     }
 
     fn take_arrival(&mut self, alloc: Global, arrival: &Arrival<'_>) -> Outcome
-        ensures taken { After S.Store self.old self.new
+        ensures taken { ForDeskEvents S.Store self.old self.new
             (λ e. Takes S.Store self.old self.new e (as_event arrival.now) (as_outcome result)) }
-        ensures crash { CrashAfter S.Store self.old
+        ensures crash { ForEventsInDoubt S.Store self.old
             (λ e doubtful. DeskLeavesEvent S.Store self.new e doubtful
             (as_event arrival.now) (as_outcome result)) }
         ensures cause { IsOutcomeOf (matched (as_event arrival.now) (as_outcome result)) }

@@ -21,9 +21,9 @@ ghost use Rattle.std.specs.Vec.Iter.{into_iter_items, into_iter_len};
 ghost use Rattle.std.specs.Borrow.{sem, RestsIfErr};
 ghost use Rattle.esc_apply.specs.ObjectStreams.{Entry};
 ghost use Rattle.esc_store.specs.Faults.{IsS1OrS2};
-ghost use Rattle.esc_store.specs.Standing.{IsHonest, IsAsBefore};
+ghost use Rattle.esc_store.specs.Representation.{IsHonest, IsAsBefore};
 ghost use Rattle.esc_desk.specs.Places.{first_kind, later_kind, kinds_left, IsPlaceBehind};
-ghost use Rattle.esc_desk.specs.Calls.{Over, OkOver, Rests};
+ghost use Rattle.esc_desk.specs.Calls.{ForStoreEvents, OkForStoreEvents, IsUnchangedWithCache};
 
 use crate::desk::Desk;
 use esc_apply::Objects;
@@ -77,10 +77,10 @@ impl<S: Alter> Desk<S> {
     /// returns 2^64 - 1 objects at most, more than the tables have. `S1`, `S2`.
     pub fn walk(&mut self, alloc: Global, kind: Option<Kind>) -> Result<Walk<'_, S>, SFault>
         ensures* refused { sem 𝓛 (RestsIfErr (the_row S.row S.Store) self.entry
-            (λ walk. lent_as walk) result (Rests S.Store self.old)) }
+            (λ walk. lent_as walk) result (IsUnchangedWithCache S.Store self.old)) }
         ensures same_reference { IfOk result (λ walk. lent_as walk ≡ self.entry.ghost_name) }
-        ensures rests { IfOk result (λ walk. Rests S.Store self.old (desk_of walk)) }
-        ensures lists { IfOk result (λ walk. Over S.Store self.old (desk_of walk)
+        ensures rests { IfOk result (λ walk. IsUnchangedWithCache S.Store self.old (desk_of walk)) }
+        ensures lists { IfOk result (λ walk. ForStoreEvents S.Store self.old (desk_of walk)
             (λ e. ListsTables S.Store walk kind e)) }
         ensures unfailed { IfOk result (λ walk. HasFailed walk → ⊥) }
         ensures most { IfOk result (λ walk. most_left walk ≡ 2 ^ 64 - 1) }
@@ -93,8 +93,8 @@ impl<S: Alter> Desk<S> {
     // The first page of a walk.
     #[tactic(auto, using(crate::proofs::StoreFacts::still_stays))]
     fn first_page(&mut self, alloc: Global, kind: Option<Kind>) -> Result<Pages, SFault>
-        ensures rests { Rests S.Store self.old self.new }
-        ensures lists { OkOver S.Store self.old self.new result
+        ensures rests { IsUnchangedWithCache S.Store self.old self.new }
+        ensures lists { OkForStoreEvents S.Store self.old self.new result
             (λ e pages. ListsPages S.Store self.new.store pages kind e) }
         ensures unfailed { IfOk result (λ pages. pages.has_failed ≡ false) }
         ensures most { IfOk result (λ pages. pages.left ≡ 2 ^ 64 - 1) }
@@ -111,7 +111,7 @@ impl<S: Alter> Desk<S> {
     // Reads pages until an object is at hand, or no page is left.
     fn fill(&mut self, pages: &mut Pages) -> Result<(), SFault>
         ensures same { IsAsBefore S.Store self.old.store self.new.store }
-        ensures known { self.new.known ≡ self.old.known }
+        ensures cache { self.new.cache ≡ self.old.cache }
         ensures left { pages.new.left ≡ pages.old.left }
         ensures failed { pages.new.has_failed ≡ pages.old.has_failed }
         ensures kept { OnOk result (IsHonest S.Store self.new.store → (es : List Entry)
@@ -133,7 +133,7 @@ impl<S: Alter> Desk<S> {
     // Reads the next page. The one at hand is used up.
     fn turn(&mut self, pages: &mut Pages, kind: Kind) -> Result<(), SFault>
         ensures same { IsAsBefore S.Store self.old.store self.new.store }
-        ensures known { self.new.known ≡ self.old.known }
+        ensures cache { self.new.cache ≡ self.old.cache }
         ensures left { pages.new.left ≡ pages.old.left }
         ensures failed { pages.new.has_failed ≡ pages.old.has_failed }
         ensures kept { OnOk result (IsHonest S.Store self.new.store → pages.old.kind ≡ Some kind
@@ -275,7 +275,7 @@ impl<'a, S: Alter> Objects for Walk<'a, S, Pages> {
         };
         stands = λ k h. h;
       };
-      known = refl;
+      cache = refl;
       serves = λ e h. h;
     } };
 
@@ -288,7 +288,7 @@ impl<'a, S: Alter> Objects for Walk<'a, S, Pages> {
             (λ _ db none. none) p.same.survives q.same.survives;
         stands = λ k h. q.same.stands k (p.same.stands k h);
       };
-      known = q.known ∙ p.known;
+      cache = q.cache ∙ p.cache;
       serves = λ e h. q.serves e (p.serves e h);
     } };
 

@@ -10,7 +10,7 @@ use Rattle.esc_envelope.specs.HeaderValue.{HeaderValue}
 use Rattle.esc_envelope.specs.Members.{header_of, counts_of, array_of}
 use Rattle.esc_envelope.specs.DeclaredTables.{contents_in, deletes_in}
 use Rattle.esc_envelope.specs.Envelope.{json_of, envelope_in, envelope_of}
-use Rattle.esc_envelope.specs.EnvelopeFaults.{LacksMember, LacksTables, Stands, IsLeast}
+use Rattle.esc_envelope.specs.EnvelopeFaults.{LacksMember, LacksTables, IsEnvelopeFault, IsLeastEnvelopeFault}
 
 there : {A : Type 0} (o : Option A) → (o ≡ None) ⊎ ((x : A) × (o ≡ Some x))
 there None = inl refl
@@ -110,24 +110,24 @@ same_json text = same_values (json_of text)
 
 -- an envelope to which no refusal applies, or the least
 abbrev pub Told : List ℕ → Type 0
-Told text = ((e : EnvelopeValue) × (envelope_of text ≡ Ok e) × ((n : ℕ) → Stands text n → ⊥)) ⊎ ((n : ℕ) × (envelope_of text ≡ Err n) × IsLeast text n)
+Told text = ((e : EnvelopeValue) × (envelope_of text ≡ Ok e) × ((n : ℕ) → IsEnvelopeFault text n → ⊥)) ⊎ ((n : ℕ) × (envelope_of text ≡ Err n) × IsLeastEnvelopeFault text n)
 
-from_five : (text : List ℕ) (m : ℕ) → Stands text m → 5 ≤ m
+from_five : (text : List ℕ) (m : ℕ) → IsEnvelopeFault text m → 5 ≤ m
 from_five text m (inl s) = omega (arith, s.0)
 from_five text m (inr (inl s)) = omega (arith, s.0)
 from_five text m (inr (inr s)) = omega (arith, s.0)
 
-from_six : (text : List ℕ) (json : Data) → json_of text ≡ Some json → (m : ℕ) → Stands text m → 6 ≤ m
+from_six : (text : List ℕ) (json : Data) → json_of text ≡ Some json → (m : ℕ) → IsEnvelopeFault text m → 6 ≤ m
 from_six text json is m (inl (five, none)) = absurd (cc)
 from_six text json is m (inr (inl s)) = omega (arith, s.0)
 from_six text json is m (inr (inr s)) = omega (arith, s.0)
 
-from_seven : (text : List ℕ) (json : Data) → json_of text ≡ Some json → HasMembers json → (m : ℕ) → Stands text m → 7 ≤ m
+from_seven : (text : List ℕ) (json : Data) → json_of text ≡ Some json → HasMembers json → (m : ℕ) → IsEnvelopeFault text m → 7 ≤ m
 from_seven text json is members m (inl (five, none)) = absurd (cc)
 from_seven text json is members m (inr (inl (six, other, at, lacks))) = absurd (lacks_none other (subst HasMembers (same_json text json other is at) members) lacks)
 from_seven text json is members m (inr (inr s)) = omega (arith, s.0)
 
-never : (text : List ℕ) (json : Data) → json_of text ≡ Some json → HasMembers json → (LacksTables json → ⊥) → (n : ℕ) → Stands text n → ⊥
+never : (text : List ℕ) (json : Data) → json_of text ≡ Some json → HasMembers json → (LacksTables json → ⊥) → (n : ℕ) → IsEnvelopeFault text n → ⊥
 never text json is members right n (inl (five, none)) = absurd (cc)
 never text json is members right n (inr (inl (six, other, at, lacks))) = lacks_none other (subst HasMembers (same_json text json other is at) members) lacks
 never text json is members right n (inr (inr (seven, other, at, lacks))) = right (subst LacksTables (sym (same_json text json other is at)) lacks)
@@ -144,11 +144,11 @@ told text = elim (there (json_of text)) [
   ]
 ]
 
-least_of : (text : List ℕ) (n : ℕ) → Told text → envelope_of text ≡ Err n → IsLeast text n
+least_of : (text : List ℕ) (n : ℕ) → Told text → envelope_of text ≡ Err n → IsLeastEnvelopeFault text n
 least_of text n (inl (e, ok, none)) err = let both = sym ok ∙ err in absurd cc
-least_of text n (inr (m, is, least)) err = let same : ◌≡◌ {A = Result EnvelopeValue ℕ} (Err m) (Err n) = sym is ∙ err in let one : m ≡ n = cc in subst (IsLeast text) one least
+least_of text n (inr (m, is, least)) err = let same : ◌≡◌ {A = Result EnvelopeValue ℕ} (Err m) (Err n) = sym is ∙ err in let one : m ≡ n = cc in subst (IsLeastEnvelopeFault text) one least
 
-of_least : (text : List ℕ) (n : ℕ) → Told text → IsLeast text n → envelope_of text ≡ Err n
+of_least : (text : List ℕ) (n : ℕ) → Told text → IsLeastEnvelopeFault text n → envelope_of text ≡ Err n
 of_least text n (inl (e, ok, none)) least = absurd (none n least.0)
 of_least text n (inr (m, is, other)) least =
     let below : m ≤ n = other.1 n least.0 in
@@ -156,13 +156,13 @@ of_least text n (inr (m, is, other)) least =
     let one : m ≡ n = omega arith in
     is ∙ ap (λ (k : ℕ). Err k) one
 
-pub is_least : (text : List ℕ) (n : ℕ) → envelope_of text ≡ Err n → IsLeast text n
+pub is_least : (text : List ℕ) (n : ℕ) → envelope_of text ≡ Err n → IsLeastEnvelopeFault text n
 is_least text n = least_of text n (told text)
 
-pub least_is : (text : List ℕ) (n : ℕ) → IsLeast text n → envelope_of text ≡ Err n
+pub least_is : (text : List ℕ) (n : ℕ) → IsLeastEnvelopeFault text n → envelope_of text ≡ Err n
 least_is text n = of_least text n (told text)
 
-pub number_of : (text : List ℕ) (n : ℕ) → Stands text n → (5 ≤ n) × (n ≤ 7)
+pub number_of : (text : List ℕ) (n : ℕ) → IsEnvelopeFault text n → (5 ≤ n) × (n ≤ 7)
 number_of text n (inl s) = (omega (arith, s.0), omega (arith, s.0))
 number_of text n (inr (inl s)) = (omega (arith, s.0), omega (arith, s.0))
 number_of text n (inr (inr s)) = (omega (arith, s.0), omega (arith, s.0))
@@ -172,8 +172,8 @@ number_of text n (inr (inr s)) = (omega (arith, s.0), omega (arith, s.0))
 pub record Answered (text : List ℕ) (result : Result EnvelopeValue Fault) : Type 0 where
   pub envelope : IfOk result (λ e. envelope_of text ≡ Ok e)
   pub refused : IfErr result (λ e. (n : ℕ) → e ≡ Refused n → envelope_of text ≡ Err n)
-  pub least : IfErr result (λ e. (n : ℕ) → e ≡ Refused n → IsLeast text n)
-  pub fault_told : (n : ℕ) → IsLeast text n → IsErrAnd result (λ e. (e ≡ Refused n) ⊎ (e ≡ NoMemory))
+  pub least : IfErr result (λ e. (n : ℕ) → e ≡ Refused n → IsLeastEnvelopeFault text n)
+  pub fault_told : (n : ℕ) → IsLeastEnvelopeFault text n → IsErrAnd result (λ e. (e ≡ Refused n) ⊎ (e ≡ NoMemory))
   pub numbers : IfErr result (λ e. (n : ℕ) → e ≡ Refused n → (5 ≤ n) × (n ≤ 7))
 
 fault_or_no_memory : (text : List ℕ) (n : ℕ) (e : Fault) → ((m : ℕ) → e ≡ Refused m → envelope_of text ≡ Err m) → envelope_of text ≡ Err n → (e ≡ Refused n) ⊎ (e ≡ NoMemory)

@@ -20,12 +20,12 @@ LacksTables json =
     × (deletes_in values ≡ None))
 
 -- the refusal of this number applies
-abbrev pub Stands : List ℕ → ℕ → Type 0
-Stands text n =
+abbrev pub IsEnvelopeFault : List ℕ → ℕ → Type 0
+IsEnvelopeFault text n =
     ((n ≡ 5) × (json_of text ≡ None))
     ⊎ ((n ≡ 6) × (json : Data) × (json_of text ≡ Some json) × LacksMember json)
     ⊎ ((n ≡ 7) × (json : Data) × (json_of text ≡ Some json) × LacksTables json)
 
 -- it applies, and no lesser one does
-abbrev pub IsLeast : List ℕ → ℕ → Type 0
-IsLeast text n = Stands text n × ((m : ℕ) → Stands text m → n ≤ m)
+abbrev pub IsLeastEnvelopeFault : List ℕ → ℕ → Type 0
+IsLeastEnvelopeFault text n = IsEnvelopeFault text n × ((m : ℕ) → IsEnvelopeFault text m → n ≤ m)

@@ -15,7 +15,7 @@ ghost use Rattle.std.specs.Prelude.{
 };
 ghost use Rattle.serde_json.specs.View.{view};
 ghost use Rattle.esc_envelope.specs.Envelope.{json_of, envelope_in, envelope_of};
-ghost use Rattle.esc_envelope.specs.EnvelopeFaults.{IsLeast};
+ghost use Rattle.esc_envelope.specs.EnvelopeFaults.{IsLeastEnvelopeFault};
 
 use crate::counts::counts_of;
 use crate::header::Header;
@@ -136,8 +136,8 @@ pub fn read_envelope(alloc: Global, json: &[u8]) -> Result<Envelope, Fault>
     ensures refused { IfErr result (λ e. (n : ℕ) → e ≡ Fault.Refused n
         → envelope_of json.now ≡ Err n) }
     ensures least { IfErr result (λ e. (n : ℕ) → e ≡ Fault.Refused n
-        → IsLeast json.now n) }
-    ensures fault_told { (n : ℕ) → IsLeast json.now n →
+        → IsLeastEnvelopeFault json.now n) }
+    ensures fault_told { (n : ℕ) → IsLeastEnvelopeFault json.now n →
         IsErrAnd result (λ e. (e ≡ Fault.Refused n) ⊎ (e ≡ Fault.NoMemory)) }
     ensures numbers { IfErr result (λ e. (n : ℕ) → e ≡ Fault.Refused n
         → (5 ≤ n) × (n ≤ 7)) }

@@ -19,7 +19,7 @@ ghost use Rattle.std.specs.Prelude.{
 };
 ghost use Rattle.esc_envelope.specs.DeclaredTables.{IsTable, AreContents, AreDeletes};
 ghost use Rattle.esc_envelope.specs.Envelope.{envelope_of};
-ghost use Rattle.esc_envelope.specs.EnvelopeFaults.{Stands, IsLeast};
+ghost use Rattle.esc_envelope.specs.EnvelopeFaults.{IsEnvelopeFault, IsLeastEnvelopeFault};
 ghost use Rattle.esc_envelope.specs.EnvelopeValue.{EnvelopeValue};
 ghost use Rattle.esc_envelope.specs.Moment.{IsWatermark};
 ghost use Rattle.esc_envelope.specs.Watermark.{IsInYears, watermark_of, watermark_text_of};
@@ -45,8 +45,8 @@ pub fn envelope_refusals_are_5_to_7()
 /// applies.
 pub fn refusals_are_least()
     ensures least { (text : List ℕ) (n : ℕ)
-        → (envelope_of text ≡ Err n) ↔ IsLeast text n }
-    ensures numbers { (text : List ℕ) (n : ℕ) → Stands text n → (5 ≤ n) × (n ≤ 7) }
+        → (envelope_of text ≡ Err n) ↔ IsLeastEnvelopeFault text n }
+    ensures numbers { (text : List ℕ) (n : ℕ) → IsEnvelopeFault text n → (5 ≤ n) × (n ≤ 7) }
 {}
 
 /// The texts that `watermark` reads are exactly those of moments.

@@ -24,7 +24,7 @@
 //! Its contract says exactly that. `specs/Envelope.antt` has the function `envelope_of` from bytes
 //! to an envelope or a refusal's number, put together from one small definition for each member
 //! (`specs/Members.antt`, `specs/DeclaredTables.antt`); `specs/EnvelopeFaults.antt` says which texts each
-//! number refuses, and that the refusal is the least of them (`IsLeast`). An `Ok` is the envelope
+//! number refuses, and that the refusal is the least of them (`IsLeastEnvelopeFault`). An `Ok` is the envelope
 //! that `envelope_of` gives, and a refusal is its number; only out of memory may be returned in
 //! place of either. Contracts see an `Envelope` as an `EnvelopeValue`, a `Header` as a
 //! `HeaderValue` and a `Table` as a `TableValue`, records of texts as bytes, numbers and lists.

@@ -23,7 +23,7 @@ use Rattle.esc_tables.specs.Reading.{reading}
 use Rattle.esc_manifest.specs.declared.row.MRow.{MRow}
 use Rattle.esc_manifest.specs.Extension.{extended}
 use Rattle.esc_manifest.specs.ManifestRows.{row_at}
-use Rattle.esc_store.specs.Kept.{Kept, with_adopted, with_listed, with_parked}
+use Rattle.esc_store.specs.StoreState.{StoreState, with_adopted, with_listed, with_parked}
 use Rattle.esc_events.specs.Assessment.{found, row_of}
 use Rattle.esc_events.specs.Receipts.{holds_row}
 
@@ -71,21 +71,21 @@ module _ (n : List MRow) (parked : List ℕ → Option (List ℕ)) where
   still_parked d = if is_some (row_of n d) then None else parked d
 
 -- what is kept, with the parked bodies of these rows of n held for them
-abbrev pub with_all_adopted : List MRow → Kept → List ℕ → Kept
+abbrev pub with_all_adopted : List MRow → StoreState → List ℕ → StoreState
 with_all_adopted n k [] = k
 with_all_adopted n k (r ∷ rows) =
     let digest = (row_at n r).digest in
     with_all_adopted n (with_adopted k r digest (k.parked digest)) rows
 
 -- what is kept, with no body parked under the digests of these rows of n
-abbrev pub with_all_dropped : List MRow → Kept → List ℕ → Kept
+abbrev pub with_all_dropped : List MRow → StoreState → List ℕ → StoreState
 with_all_dropped n k [] = k
 with_all_dropped n k (r ∷ rows) =
     with_all_dropped n (with_parked k (row_at n r).digest None) rows
 
 -- what is kept once more rows are listed: a parked body of a new row is held if it is the row's
 -- deposit, and else dropped
-abbrev pub amended_kept : Kept → List MRow → Kept
+abbrev pub amended_kept : StoreState → List MRow → StoreState
 amended_kept k more =
     let n = extended k.listed more in
     let from = length k.listed in

@@ -1,29 +1,10 @@
 -- The verdict on a body (this project's profile; the comparison is with what RFC 8909 has a deposit
 -- say of itself).
-use Rattle.std.specs.Prelude.{
-  ℕ,
-  Bool,
-  ◌&&◌,
-  ◌||◌,
-  ◌==◌,
-  not,
-  if◌then◌else◌,
-  List,
-  position,
-  Option,
-  Some,
-  None,
-  Result,
-  Ok,
-  Err,
-}
-use Rattle.std.specs.Str.{bytes_eq}
-use Rattle.esc_envelope.specs.HeaderValue.{HeaderValue}
+use Rattle.std.specs.Prelude.{ℕ, if◌then◌else◌, List, Option, Some, None, Result, Ok, Err}
 use Rattle.esc_tables.specs.DepositValue.{DepositValue}
 use Rattle.esc_manifest.specs.declared.row.MRow.{MRow}
-use Rattle.esc_manifest.specs.Extension.{same_prev}
+pub use Rattle.esc_manifest.specs.Listed.{as_listed, row_of}
 use Rattle.esc_manifest.specs.ManifestRows.{row_at}
-use Rattle.esc_manifest.specs.RowFaults.{is_diff, same_place}
 use Rattle.esc_events.specs.declared.assessment.Assessment.{Assessment}
 use Rattle.esc_events.specs.declared.assessment.Assessment.TheVariants.{
   Unlisted,
@@ -31,17 +12,6 @@ use Rattle.esc_events.specs.declared.assessment.Assessment.TheVariants.{
   Differing,
   Holding,
 }
-
--- id, place and resend are the row's, and of a Differential the previous id too
-abbrev pub as_listed : HeaderValue → HeaderValue → Bool
-as_listed row d = bytes_eq row.id d.id
-    && (same_place row.place d.place
-    && ((row.resend == d.resend)
-    && (not (is_diff row.place.kind) || same_prev row.prev d.prev)))
-
--- the first row with this digest, if any
-abbrev pub row_of : List MRow → List ℕ → Option ℕ
-row_of m digest = position (λ row. bytes_eq row.digest digest) m
 
 -- what is found at row r, if this deposit reads from the body
 abbrev pub compared : List MRow → ℕ → DepositValue → Assessment

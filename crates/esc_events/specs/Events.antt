@@ -66,8 +66,8 @@ moment_after t (moved u ∷ e) = moment_after u e
 moment_after t (arrived_early a ∷ e) = moment_after t e
 
 -- the moment that was set last, if it was not taken back
-abbrev pub moment_of : List EventValue → Option ℤ
-moment_of e = moment_after None e
+abbrev pub last_moment : List EventValue → Option ℤ
+last_moment e = moment_after None e
 
 -- a manifest, and then arrivals
 abbrev pub manifest_then : List MRow → List ArrivalValue → List EventValue

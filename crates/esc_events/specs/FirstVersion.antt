@@ -5,12 +5,12 @@ use Rattle.esc_tables.specs.DepositValue.{DepositValue}
 use Rattle.esc_manifest.specs.declared.row.MRow.{MRow}
 use Rattle.esc_chain.specs.Chain.{Rows, IsLatestChain}
 use Rattle.esc_apply.specs.Images.{chain_state}
-use Rattle.esc_store.specs.Kept.{Kept}
+use Rattle.esc_store.specs.StoreState.{StoreState}
 use Rattle.esc_events.specs.ArrivalValue.{ArrivalValue}
 use Rattle.esc_events.specs.Events.{EventValue, Coming, early_coming}
 use Rattle.esc_events.specs.Events.EventValue.{listed, arrived_early}
 use Rattle.esc_events.specs.Receipts.{distinct, holds, receipts_after}
-use Rattle.esc_events.specs.Stands.{HaveBodies, body_of, deposits_of}
+use Rattle.esc_events.specs.StateAfter.{HaveBodies, arrived_body, deposits_of}
 
 -- the events that a store of version 1 with this manifest and these arrivals stands for, once it is
 -- one of version 2
@@ -27,11 +27,11 @@ module _ (digest : List ℕ → List ℕ) (reads : List ℕ → Result DepositVa
   -- body of the first arrival with the verdict A1 at it, the rows of the latest chain of the rows
   -- that have a body, and that chain's tables and before-images. Nothing is parked, and no moment
   -- is set
-  pub record StoodFor (m : List MRow) (l : List ArrivalValue) (k : Kept) : Type 0 where
+  pub record StoodFor (m : List MRow) (l : List ArrivalValue) (k : StoreState) : Type 0 where
     pub listed : k.listed ≡ m
     pub receipts : k.receipts ≡ receipts_after digest reads [] (first_arrivals m l)
     pub bodies : (r : ℕ) → k.bodies r
-        ≡ body_of (find (holds digest reads r) (first_arrivals m l))
+        ≡ arrived_body (find (holds digest reads r) (first_arrivals m l))
     pub parked : (d : List ℕ) → k.parked d ≡ None
     pub moment : k.moment ≡ None
     pub held : Rows

@@ -8,14 +8,14 @@ use Rattle.esc_chain.specs.Chain.{IsLatestChainAt}
 use Rattle.esc_apply.specs.Registry.{Content, IsEntriesOf}
 use Rattle.esc_apply.specs.Tables.{tables}
 use Rattle.esc_events.specs.Apart.{WhereApart}
-use Rattle.esc_events.specs.Events.{EventValue, union, moment_of}
-use Rattle.esc_events.specs.Stands.{deposits_of, held_rows, held_body}
+use Rattle.esc_events.specs.Events.{EventValue, union, last_moment}
+use Rattle.esc_events.specs.StateAfter.{deposits_of, held_rows, held_body}
 
 module _ (e : List EventValue) where
   -- the rows of the latest chain of the held rows up to the moment that is set
   abbrev pub IsChainOf : List ℕ → Type 0
   IsChainOf chain =
-      IsLatestChainAt (union e) (held_rows sha256 reading e) (moment_of e) chain
+      IsLatestChainAt (union e) (held_rows sha256 reading e) (last_moment e) chain
 
   -- the tables of a chain, by the bodies that are held
   abbrev pub tables_of : List ℕ → Content

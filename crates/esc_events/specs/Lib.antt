@@ -4,13 +4,13 @@ pub mod ArrivalValue
 pub mod Events
 pub mod Assessment
 pub mod FirstVersion
-pub mod Known
+pub mod Cache
 pub mod Notes
 pub mod Parks
 pub mod Plans
 pub mod LatestTables
 pub mod Receipts
-pub mod Stands
+pub mod StateAfter
 pub mod Taking
 pub mod Works
 pub mod HeldLaws

@@ -1,6 +1,6 @@
 -- Whether a body that no row lists is to be parked, what is kept then, and all parked bodies.
 use Rattle.std.specs.Prelude.{◌≡◌, ℕ, List, length, map, All, Option, Some, None, IsSome}
-use Rattle.esc_store.specs.Kept.{Kept, IsFull, AreParked, with_parked}
+use Rattle.esc_store.specs.StoreState.{StoreState, IsFull, AreParked, with_parked}
 use Rattle.esc_events.specs.declared.parked.ParkedBody.{ParkedBody}
 use Rattle.esc_events.specs.declared.parking.Parking.{Parking}
 use Rattle.esc_events.specs.declared.parking.Parking.TheVariants.{Needless, Free, Crowded}
@@ -13,7 +13,7 @@ IsParking parked digest Free = (parked digest ≡ None) × (IsFull parked → �
 IsParking parked digest Crowded = (parked digest ≡ None) × IsFull parked
 
 -- what is kept once a body is parked, if it has to be
-abbrev pub with_parking : Kept → List ℕ → Parking → List ℕ → Kept
+abbrev pub with_parking : StoreState → List ℕ → Parking → List ℕ → StoreState
 with_parking k digest Needless body = k
 with_parking k digest Free body = with_parked k digest (Some body)
 with_parking k digest Crowded body = k

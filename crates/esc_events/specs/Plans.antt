@@ -28,9 +28,9 @@ use Rattle.esc_apply.specs.Images.{chain_state}
 use Rattle.esc_apply.specs.Moves.{cost}
 use Rattle.esc_apply.specs.Tables.{mention_count}
 use Rattle.esc_apply.specs.declared.moves.Work.{Work}
-use Rattle.esc_store.specs.Kept.{Kept, kept_chain, step_at, with_steps, with_registry}
+use Rattle.esc_store.specs.StoreState.{StoreState, kept_chain, step_at, with_steps, with_registry}
 use Rattle.esc_events.specs.declared.plan.Plan.{Plan}
-use Rattle.esc_events.specs.Stands.{deposits_of}
+use Rattle.esc_events.specs.StateAfter.{deposits_of}
 
 -- each of these rows is a row of the manifest
 abbrev pub AllInRange : List MRow → List ℕ → Type 0
@@ -58,7 +58,7 @@ pub record AreLatestSteps (m : List MRow) (rows : List ℕ) (moment : Option ℤ
 
 -- the plan goes from the chain that the store keeps to another one; its deposits are those past the
 -- common front, by these bodies
-pub record IsPlanned (k : Kept) (bodies : ℕ → Option (List ℕ)) (plan : Plan) : Type 0 where
+pub record IsPlanned (k : StoreState) (bodies : ℕ → Option (List ℕ)) (plan : Plan) : Type 0 where
   pub old : plan.old.items ≡ kept_chain k
   pub deposits : plan.deposits.items
       ≡ deposits_of reading bodies (rows_in (drop (front_of plan) plan.new.items))
@@ -69,7 +69,7 @@ deposits_by plan c = take (front_of plan) c ++ plan.deposits.items
 
 -- what is kept once a plan was carried out: the plan's new chain, and the tables and before-images
 -- of that chain, where c are the deposits of the old chain
-abbrev pub moved_by : Plan → Kept → List DepositValue → Kept
+abbrev pub moved_by : Plan → StoreState → List DepositValue → StoreState
 moved_by plan k c =
     with_registry (with_steps k (new_chain plan)) (chain_state (deposits_by plan c))
 
@@ -79,7 +79,7 @@ HasDepositsPast plan = length plan.deposits.items ≡ length plan.new.items - fr
 
 -- the chain that is kept is a plan's old one, whose deposits are c, and the tables and
 -- before-images are those of that chain
-pub record IsMovedFrom (k : Kept) (c : List DepositValue) (plan : Plan) : Type 0 where
+pub record IsMovedFrom (k : StoreState) (c : List DepositValue) (plan : Plan) : Type 0 where
   pub steps : k.steps ≡ rows_in plan.old.items
   pub count : length c ≡ length plan.old.items
   pub registry : k.registry ≡ chain_state c

@@ -7,11 +7,11 @@ use Rattle.esc_apply.specs.declared.moves.Work.{Work}
 use Rattle.esc_apply.specs.Front.{common_front}
 use Rattle.esc_apply.specs.Moves.{cost}
 use Rattle.esc_apply.specs.Tables.{mention_count}
-use Rattle.esc_store.specs.Kept.{step_at}
+use Rattle.esc_store.specs.StoreState.{step_at}
 use Rattle.esc_events.specs.Apart.{WhereApart}
 use Rattle.esc_events.specs.Events.{EventValue, union}
 use Rattle.esc_events.specs.LatestTables.{IsChainOf}
-use Rattle.esc_events.specs.Stands.{deposits_of, held_rows, held_body}
+use Rattle.esc_events.specs.StateAfter.{deposits_of, held_rows, held_body}
 
 -- no work: nothing is done
 abbrev pub no_work : Work

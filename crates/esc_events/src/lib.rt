@@ -10,7 +10,7 @@
 //! it took in before the migration. Version 1 kept no body that no row listed, and gave it `A2` in
 //! place of `A5`. Such a body is lost: no amendment holds it, and it isn't parked, until it comes
 //! again. A duplicate of an arrival with `A2` gets that one's reply, but its body counts as that of
-//! a new arrival does (`kept_arrivals`, specs/Stands.antt).
+//! a new arrival does (`kept_arrivals`, specs/StateAfter.antt).
 //!
 //! After a list of events
 //!
@@ -25,7 +25,7 @@
 //! - the chain is the latest one of the held rows whose last deposit is not later than the moment
 //!   that is set (`IsChainOf`), and the tables are those of its deposits.
 //!
-//! `StandsFor` says all of this of what a store keeps. Which body is held or parked under a digest
+//! `IsStateAfter` says all of this of what a store keeps. Which body is held or parked under a digest
 //! is fixed only if no two different bodies that count have the same digest (`IsApart`). In any case
 //! each body that is held did come and is the row's deposit, each that is parked did come (`came`,
 //! `waits`), and a receipt accounts for it (`held_told`, `parked_told`).
@@ -42,18 +42,18 @@
 //! events `e` before, it stands for them and the arrival after.
 //!
 //! ```text
-//! ensures { .. StandsFor sha256 reading e k → StandsFor sha256 reading (e ++ arrived a ∷ []) l }
+//! ensures { .. IsStateAfter sha256 reading e k → IsStateAfter sha256 reading (e ++ arrived a ∷ []) l }
 //! ```
 #![tactic(auto)]
 
 mod assessment;
-mod known;
+mod cache;
 mod parked;
 mod parking;
 mod plan;
 
 pub use assessment::Assessment;
-pub use known::Known;
+pub use cache::Cache;
 pub use parked::ParkedBody;
 pub use parking::Parking;
 pub use plan::Plan;

@@ -27,7 +27,7 @@ use Rattle.esc_events.specs.Events.{EventValue, Coming, coming}
 use Rattle.esc_events.specs.Events.EventValue.{listed, arrived}
 use Rattle.esc_events.specs.Assessment.{assessment, held_row}
 use Rattle.esc_events.specs.Receipts.{holds_row}
-use Rattle.esc_events.specs.Stands.{with_some, body_of, or_no_deposit, deposit_of, held_rows, held_body}
+use Rattle.esc_events.specs.StateAfter.{with_some, arrived_body, or_no_deposit, deposit_of, held_rows, held_body}
 use Rattle.esc_events.specs.HeldLaws.{exact}
 use Rattle.esc_handover.specs.FullBundle.{full_header, full_of}
 use Rattle.esc_handover.specs.Restored.{FullHasItsObjects, FullIsRestored}
@@ -91,7 +91,7 @@ module _ (digest : List ℕ → List ℕ) (reads : List ℕ → Result DepositVa
   rows_held = ap (λ (a : Assessment). set.from_list {R = nat_cmp} (with_some (held_row a) [])) assessed
 
   body_held : held_body digest reads events 0 ≡ Some body
-  body_held = ap (λ (a : Assessment). body_of (cond (holds_row 0 a) (Some only) None)) assessed
+  body_held = ap (λ (a : Assessment). arrived_body (cond (holds_row 0 a) (Some only) None)) assessed
 
   used : IsUsed (row ∷ []) first_alone 0
   used = record {

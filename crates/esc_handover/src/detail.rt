@@ -27,11 +27,30 @@ pub(crate) fn detail_of(alloc: Global, test: Test, seen: &Seen<'_>) -> Result<St
     }
 }
 
-fn moment_words(alloc: Global, moment: i64) -> Result<String, NoMemory> {
+pub(crate) fn moment_words(alloc: Global, moment: i64) -> Result<String, NoMemory> {
     match watermark_text(alloc, moment)? {
         Some(text) => Ok(text),
         None => Ok(format!(in alloc; "{moment}")?),
     }
+}
+
+/// A text of a deposit on one line: if it has control characters, these are written as Rust escapes
+/// them, and so are its backslashes.
+pub(crate) fn one_line(alloc: Global, text: &str) -> Result<String, NoMemory> {
+    if !text.chars().any(char::is_control) {
+        return Ok(String::from_str(alloc, text)?);
+    }
+    let mut words = String::new(alloc);
+    for letter in text.chars() {
+        if letter.is_control() || letter == '\\' {
+            let escape = letter.escape_default();
+            let spelled = format!(in alloc; "{escape}")?;
+            words.push_str(spelled.as_str())?;
+        } else {
+            words.push(letter)?;
+        }
+    }
+    Ok(words)
 }
 
 fn place_words(alloc: Global, place: Place) -> Result<String, NoMemory> {
@@ -115,7 +134,8 @@ fn findings_detail(alloc: Global, seen: &Seen<'_>) -> Result<String, NoMemory> {
     };
     let code = first.code;
     let kind = first.kind.name();
-    let (key, field) = (first.key.as_str(), first.field.as_str());
+    let key = one_line(alloc, first.key.as_str())?;
+    let field = first.field.as_str();
     let gap = if key.is_empty() { "" } else { " " };
     Ok(format!(in alloc;
         "{count}, the first V{code} {kind}{gap}{key} {field}; see `restore report links`"

@@ -1,8 +1,8 @@
 //! Which declared tables have the fields by which links, statuses and dates go, and which look as
 //! if they had.
 
-ghost use Rattle.std.specs.Prelude.{◌≡◌, not, string_bytes};
-ghost use Rattle.std.specs.List.{list_all, list_any};
+ghost use Rattle.std.specs.Prelude.{◌≡◌, string_bytes};
+ghost use Rattle.std.specs.List.{list_any};
 ghost use Rattle.std.specs.Str.{bytes_eq};
 ghost use Rattle.esc_handover.specs.Guides.{
   guides,

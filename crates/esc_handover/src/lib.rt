@@ -11,11 +11,20 @@
 //! `passes` says of each [`Test`] of the acceptance whether it passes, by what was seen of a store
 //! ([`Seen`]): the chain's end, the line of each listed place, parked bodies, findings, orphans,
 //! counts, the tables that the chain's deposits declare, whether the held bodies are as listed and
-//! whether the tables are those that they make. `lines_of` gives a [`Line`] for each test, with what
-//! was found and what to do, and `is_accepted` says whether the registry may be taken over.
+//! whether the tables are those that they make. `lines_of` gives a [`Line`] for each test, with
+//! what was found and what to do, and `is_accepted` says whether the registry may be taken over.
 //!
 //! `apply_deposit` makes the tables of a chain once more, one deposit after the other, and
 //! `are_listed` compares them with objects that come one at a time, as those of a desk's walk.
+//!
+//! `page_of` makes a page of HTML (`esc_html`) of what was seen, with the receipts and the parked
+//! bodies: the lines, the release as a picture and as a table, the objects beside the declared
+//! numbers, the findings.
+//!
+//! `table_names_from` says which tables a kind has, `layouts_from` which columns these have, and
+//! `write_table` writes one of them as CSV: each from objects that come one at a time, and so with
+//! little memory. `text_in` gives the text of a field in a row, and `repeated` finds names that are
+//! the same but for case. `digest_of` is the SHA-256 of what a reader gives.
 //!
 //! ```text
 //! let tables = desk.tables(alloc)?;
@@ -25,43 +34,77 @@
 //!     // ok end: 2024-03-11T00:00:00Z DIFF
 //!     // wrong names: domain clID under another name, ..
 //! }
+//! let page = page_of(alloc, &seen, &receipts, &parked)?;         // HTML, for a browser
+//!
+//! let names = table_names_from(alloc, &mut desk.walk(alloc, None)?, Kind::Domain)?;
+//! for layout in &layouts_from(alloc, &mut desk.walk(alloc, None)?, names)? {
+//!     // domain with the columns name, clID; domainNs with domainName, hostName
+//!     write_table(alloc, &mut output, &mut desk.walk(alloc, None)?, layout)?;
+//! }
 //! ```
 //!
 //! # What the contracts mean
 //!
 //! `specs/FullBundle.antt` says which deposit a bundle is (`full_of`). How it is written has no
 //! contract: it is read again, and compared, before it is given. No clause says when there is none;
-//! that a refusal has its cause is tested. `full_bundle_restores_its_tables` is a law: the tables of
-//! such a Full are its objects, and so are those of a store whose manifest lists that bundle alone,
-//! once it is held (`specs/Restored.antt`, over the definitions of `esc_events`).
+//! that a refusal has its cause is tested. `full_bundle_restores_its_tables` is a law: the tables
+//! of such a Full are its objects, and so are those of a store whose manifest lists that bundle
+//! alone, once it is held (`specs/Restored.antt`, over the definitions of `esc_events`).
 //!
 //! `specs/Acceptance.antt` says what each test asks (`passes`), and `specs/Guides.antt` which
-//! fields links, statuses and dates go by, and what looks like one of them under another name. What
+//! fields have links, statuses and dates, and what looks like one of them under another name. What
 //! a line says beyond that has no contract. `specs/Rebuilt.antt` has the tables of deposits as
 //! entries: `apply_deposit` gives those of one deposit more, and `are_listed` is true only of a
 //! source that lists just these.
+//!
+//! `page_of` gives a page whose body is markup of a fixed list of elements around escaped texts
+//! (`IsPage` of `esc_html`): it loads nothing and runs nothing. `specs/Picture.antt` says where a
+//! moment stands on the time axis, that a later one stands no further left
+//! (`moments_stand_in_order`), and that each place is in one group of marks or rows (`groups_of`).
+//! What else a page shows has no contract, and is tested.
+//!
+//! `specs/Layouts.antt` says which tables a kind has (`table_names`: a table of child rows for each
+//! name that they have), which columns (`columns_of`: each field that a row has, once, in the order
+//! in which they first come) and the text of each (`table_text`). An absent field is an empty text,
+//! as one that is there and empty. `tables_are_read_back` is a law: the text reads as its heading
+//! and its rows.
 #![tactic(auto)]
 
 mod acceptance;
+mod apart;
 mod bundle;
 mod detail;
 mod draft;
+mod gathering;
 mod guide;
 mod guides;
 mod laws;
+mod layout;
 mod line;
+mod page;
 mod rebuild;
 mod refusal;
 mod same;
 mod seen;
+mod sums;
+mod table_name;
+mod table_text;
 mod test;
+mod writing_fault;
 
 pub use acceptance::{is_accepted, passes};
+pub use apart::repeated;
 pub use bundle::bundle_of;
 pub use guide::Guide;
-pub use laws::full_bundle_restores_its_tables;
+pub use laws::{full_bundle_restores_its_tables, moments_stand_in_order, tables_are_read_back};
+pub use layout::{Layout, layouts_from};
 pub use line::{Line, lines_of};
+pub use page::page_of;
 pub use rebuild::{apply_deposit, are_listed};
 pub use refusal::BundleRefusal;
 pub use seen::Seen;
+pub use sums::digest_of;
+pub use table_name::{TableName, table_names_from};
+pub use table_text::{text_in, write_table};
 pub use test::Test;
+pub use writing_fault::WritingFault;

@@ -22,7 +22,7 @@ pub struct Line {
 
 impl Line {
     /// `ok`; `told` where a registry may be taken over all the same; else `wrong`.
-    fn word(&self) -> &'static str {
+    pub(crate) fn word(&self) -> &'static str {
         if self.has_passed {
             "ok"
         } else if self.test.is_told_alone() {

@@ -14,8 +14,8 @@ use std::fmt;
 #[derive(Debug, Drop)]
 pub enum BundleRefusal {
     /// What was made is no deposit, by the refusal of this number from U1 to U11. 4: it would have
-    /// over 16,777,216 bytes, or over 63 tables. 6: the id or the watermark has another form. 11: it
-    /// would have over 100,000 rows.
+    /// over 16,777,216 bytes, or over 63 tables. 6: the id or the watermark has another form. 11:
+    /// it would have over 100,000 rows.
     Refused(u8),
     /// Two rows of this table can't be declared together: they have different fields, are of
     /// different kinds, or one is a parent row and the other isn't.

@@ -4,7 +4,7 @@ use Rattle.std.proofs.lemmas.Bool.Decides.{nat_tests}
 use Rattle.std.specs.Global.{Vec}
 use Rattle.std.specs.Io.KnownBytes.{Consumes, prepend_known}
 use Rattle.sqlite_trees.specs.declared.store.Store.{Ghosts}
-use Rattle.httparse.specs.Grammar.{RequestHead}
+use Rattle.httparse.specs.Grammar.{RequestHead, print_request}
 use Rattle.httparse.proofs.GrammarLemmas.{ReadsRequest-append}
 use Rattle.esc_store.specs.declared.fault.SFault.TheVariants.{S2}
 use Rattle.esc_store.specs.StandingLaws.{survives_same, was_clean}
@@ -12,15 +12,18 @@ use Rattle.esc_events.specs.ArrivalValue.{ArrivalValue}
 use Rattle.esc_events.specs.Events.{EventValue}
 use Rattle.esc_events.specs.Events.EventValue.{arrived}
 use Rattle.esc_desk.specs.declared.desk.Desk.{Desk}
-use Rattle.esc_desk.specs.Calls.{DeskLeaves, Stays}
+use Rattle.esc_desk.specs.Calls.{DeskLeaves, IsUnchangedDesk}
 use Rattle.esc_desk.specs.Crashes.{CrashLeaves}
 use Rattle.esc_request.specs.declared.refusal.Refusal.TheVariants.{BadRequest}
 use Rattle.esc_http.specs.declared.request_plan.RequestPlan.{RequestPlan}
 use Rattle.esc_http.specs.declared.request_plan.RequestPlan.TheVariants.{Put}
+use Rattle.esc_request.specs.Body.{IsShorter}
 use Rattle.esc_request.specs.Head.{HasHead, HasNoHead}
+use Rattle.esc_request.specs.Pieces.{Pieces, AreAwaited, ReadsWhile}
+use Rattle.esc_request.specs.PieceLaws.{awaited_after}
 use Rattle.esc_http.specs.RequestPlans.{plan_of_head}
 use Rattle.esc_request.specs.Response.{out_of_memory}
-use Rattle.esc_http.specs.Answering.{Request, refused, arrives, wants, with_body, Asks, IsAnswered, IsOrMemory, LeavesStill, LosesArrival, text_or_memory}
+use Rattle.esc_http.specs.Answering.{Request, refused, arrives, wants, with_body, Asks, IsAnswered, IsUndecided, IsOrMemory, LeavesStill, LosesArrival, text_or_memory}
 
 -- the text that was made, or the out-of-memory response
 pub text_is : (expected : List ℕ) (o : Option (Vec ℕ)) → IfSome o (λ text. text.items ≡ expected) → IsOrMemory expected (text_or_memory o)
@@ -76,13 +79,27 @@ pub some_request : (o : Option (List ℕ)) (plan : RequestPlan) → (request : R
 some_request None plan = (refused BadRequest, tt)
 some_request (Some rest) plan = (with_body plan rest, refl)
 
+-- what was read while the body was shorter was read while the whole made no request
+pub undecided : (a b : Pieces) (bytes front last : List ℕ) (h : RequestHead) (number : List ℕ) (size : ℕ) → HasHead bytes h front → plan_of_head h ≡ Put number size → ReadsWhile (IsShorter size) a b front last
+    → (end : List ℕ) × ReadsWhile IsUndecided a b bytes end
+undecided a b bytes front last h number size has asks read = (
+  _,
+  record {
+    pieces = read.pieces;
+    added = read.added;
+    awaited = subst (λ (l : List ℕ). AreAwaited IsUndecided l read.pieces) (sym has.reads.1)
+        (awaited_after (IsShorter size) IsUndecided (print_request h) (λ tail short. inr (record { head = h; rest = tail; number = number; size = size; begins = record { reads = (has.reads.0, refl); size = has.size; lines = has.lines }; asks = asks; short = short })) front read.pieces read.awaited);
+    came = refl;
+  },
+)
+
 -- what a crash leaves is among what it leaves with one more event in doubt
 doubted : {S : Type 0} (g : Ghosts S) (desk : Desk S) (e doubtful : List EventValue) (x : EventValue) → DeskLeaves g desk e doubtful → DeskLeaves g desk e (x ∷ doubtful)
 unfolding CrashLeaves
 doubted g desk e doubtful x left = λ clean trees may. inr (left clean trees may)
 
 -- where nothing changed a crash leaves what it might leave before
-pub leaves_still : {S : Type 0} (g : Ghosts S) (old new : Desk S) → Stays g old new → LeavesStill g old new
+pub leaves_still : {S : Type 0} (g : Ghosts S) (old new : Desk S) → IsUnchangedDesk g old new → LeavesStill g old new
 unfolding CrashLeaves
 leaves_still g old new stays e doubtful serves left clean trees may =
     elim (stays.same.survives.crash clean trees may) [
@@ -91,7 +108,7 @@ leaves_still g old new stays e doubtful serves left clean trees may =
     ]
 
 module _ {S : Type 0} (g : Ghosts S) (desk : Desk S) where
-  stays_itself : Stays g desk desk
+  stays_itself : IsUnchangedDesk g desk desk
   stays_itself = record { same = record { manifest = refl; writes = refl; survives = survives_same; stands = λ k h. h }; serves = λ e served. served }
 
   lost_by_memory : (a : ArrivalValue) → LosesArrival g desk desk a out_of_memory

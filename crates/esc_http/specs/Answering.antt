@@ -4,6 +4,7 @@ use Rattle.std.specs.Prelude.{
   ◌⊎◌,
   ℕ,
   List,
+  [],
   if◌then◌else◌,
   nat_le,
   length,
@@ -25,13 +26,13 @@ use Rattle.esc_store.specs.ReplyValue.{ReplyValue}
 use Rattle.esc_desk.specs.declared.desk.Desk.{Desk}
 use Rattle.esc_events.specs.ArrivalValue.{ArrivalValue, an_arrival}
 use Rattle.esc_desk.specs.Calls.{
-  After,
-  Over,
-  CrashAfter,
+  ForDeskEvents,
+  ForStoreEvents,
+  ForEventsInDoubt,
   DeskLeaves,
   DeskLeavesTaken,
-  ServesStill,
-  Stays,
+  StillReflects,
+  IsUnchangedDesk,
   Answers,
   IsCause,
 }
@@ -41,7 +42,9 @@ use Rattle.esc_request.specs.declared.refusal.Refusal.{Refusal}
 use Rattle.esc_request.specs.declared.refusal.Refusal.TheVariants.{BadRequest}
 use Rattle.esc_http.specs.declared.request_plan.RequestPlan.{RequestPlan}
 use Rattle.esc_http.specs.declared.request_plan.RequestPlan.TheVariants.{Refuse, Put, Get}
-use Rattle.esc_request.specs.Head.{HasHead, HasNoHead}
+use Rattle.esc_request.specs.Body.{IsShorter}
+use Rattle.esc_request.specs.Head.{HasHead, HasNoHead, IsUnfinished}
+use Rattle.esc_request.specs.Pieces.{Pieces, ReadsWhile}
 use Rattle.esc_http.specs.RequestPlans.{plan_of_head}
 use Rattle.esc_http.specs.Response.{fault_response, reply_response, report_response}
 use Rattle.esc_request.specs.Response.{out_of_memory, refusal_response}
@@ -70,6 +73,25 @@ Asks input request =
     × (request ≡ with_body (plan_of_head h) rest))
     ⊎ (HasNoHead input × (request ≡ refused BadRequest))
 
+-- these bytes begin with the head of an arrival, and less than its body follows
+pub record IsShortOfBody (bytes : List ℕ) : Type 0 where
+  pub head : RequestHead
+  pub rest : List ℕ
+  pub number : List ℕ
+  pub size : ℕ
+  pub begins : HasHead bytes head rest
+  pub asks : plan_of_head head ≡ Put number size
+  pub short : IsShorter size rest
+
+-- these bytes make no request yet: their head isn't whole, or its body isn't
+abbrev pub IsUndecided : List ℕ → Type 0
+IsUndecided bytes = IsUnfinished bytes ⊎ IsShortOfBody bytes
+
+-- nothing was read past the piece that ends the head, or the body: each piece was read while the
+-- bytes before it made no request
+abbrev pub ReadsNoMore : Pieces → Pieces → Type 0
+ReadsNoMore old new = (bytes : List ℕ) × ReadsWhile IsUndecided old new [] bytes
+
 -- ---- answers
 
 -- the text of a response; where there is none, memory was refused
@@ -91,41 +113,41 @@ pub record GivesFault (text : List ℕ) : Type 0 where
 module _ {S : Type 0} (g : Ghosts S) (old new : Desk S) where
   -- what a crash leaves after an arrival, by what came of it
   abbrev pub LeavesAfter : ArrivalValue → Result ReplyValue SFault → Type 0
-  LeavesAfter a result = CrashAfter g old (λ e doubtful. DeskLeavesTaken g new e doubtful a result)
+  LeavesAfter a result = ForEventsInDoubt g old (λ e doubtful. DeskLeavesTaken g new e doubtful a result)
 
   -- a crash leaves what it might leave before
   abbrev pub LeavesStill : Type 0
-  LeavesStill = CrashAfter g old (λ e doubtful. DeskLeaves g new e doubtful)
+  LeavesStill = ForEventsInDoubt g old (λ e doubtful. DeskLeaves g new e doubtful)
 
   -- the arrival was answered, with this reply, which the text gives
   pub record TakesArrival (a : ArrivalValue) (text : List ℕ) : Type 0 where
     pub reply : ReplyValue
     pub work : Work
-    pub answers : After g old new (λ e. Answers g new e a reply work)
+    pub answers : ForDeskEvents g old new (λ e. Answers g new e a reply work)
     pub left : LeavesAfter a (Ok reply)
     pub sends : IsOrMemory (reply_response reply) text
 
-  -- the arrival was lost by this fault, which the text gives: the desk serves what it served. The
-  -- fault is S4 only if the arrival is no duplicate and there is no room for its receipt, and S5
-  -- only if there is no place to park its body
+  -- the arrival was lost by this fault, which the text gives: the desk reflects what it reflected.
+  -- The fault is S4 only if the arrival is no duplicate and there is no room for its receipt, and
+  -- S5 only if there is no place to park its body
   pub record LosesArrival (a : ArrivalValue) (text : List ℕ) : Type 0 where
-    pub kept : ServesStill g old new
+    pub kept : StillReflects g old new
     pub fault : SFault
     pub is_one : IsS1OrS2OrS4OrS5 fault
-    pub cause : After g old new (λ e. IsCause e a fault)
+    pub cause : ForDeskEvents g old new (λ e. IsCause e a fault)
     pub left : LeavesAfter a (Err fault)
     pub sends : IsOrMemory (fault_response fault) text
 
   -- the report was made, of what the store stands for
   pub record GivesReport (report : Report) (text : List ℕ) : Type 0 where
     pub body : List ℕ
-    pub is : Over g old new (λ e. IsReport e report body)
+    pub is : ForStoreEvents g old new (λ e. IsReport e report body)
     pub sends : IsOrMemory (report_response report body) text
 
-  -- the text is the response to the request, and the desk serves what it served, with the arrival
-  -- that was taken
+  -- the text is the response to the request, and the desk reflects what it reflected, with the
+  -- arrival that was taken
   abbrev pub IsAnswered : Request → List ℕ → Type 0
   IsAnswered (refused refusal) text = (new ≡ old) × IsOrMemory (refusal_response refusal) text
   IsAnswered (arrives a) text = TakesArrival a text ⊎ LosesArrival a text
-  IsAnswered (wants report) text = Stays g old new × LeavesStill
+  IsAnswered (wants report) text = IsUnchangedDesk g old new × LeavesStill
       × (GivesReport report text ⊎ GivesFault text)

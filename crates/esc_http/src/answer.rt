@@ -1,13 +1,15 @@
 //! The response to a request. Each function here returns its text, or `None` if memory was refused.
 
-ghost use Rattle.std.specs.Prelude.{◌≡◌, drop, IfOk, IfSome, IsTrue, OnErr};
+ghost use Rattle.std.specs.Prelude.{◌≡◌, ℕ, List, drop, IfOk, IfSome, IsTrue, OnErr};
 ghost use Rattle.std.specs.Io.KnownBytes.{prepend_known};
 ghost use Rattle.httparse.specs.Grammar.{RequestHead};
 ghost use Rattle.httparse.specs.Spans.{IsRequestAt, IsRequestWithin};
 ghost use Rattle.esc_events.specs.ArrivalValue.{an_arrival};
 ghost use Rattle.esc_desk.specs.Calls.{WasHonest};
 ghost use Rattle.esc_http.specs.declared.request_plan.RequestPlan.TheVariants.{Put};
+ghost use Rattle.esc_request.specs.Body.{IsShorter};
 ghost use Rattle.esc_request.specs.Head.{ShowsHead};
+ghost use Rattle.esc_request.specs.Pieces.{ReadsWhile};
 ghost use Rattle.esc_http.specs.RequestPlans.{plan_of_head};
 ghost use Rattle.esc_http.specs.Answering.{
   Request,
@@ -16,6 +18,8 @@ ghost use Rattle.esc_http.specs.Answering.{
   with_body,
   Asks,
   IsAnswered,
+  IsUndecided,
+  ReadsNoMore,
   text_or_memory,
 };
 
@@ -42,6 +46,7 @@ pub(crate) fn answer_input<S: Alter, R: Source>(
         × IfSome (R.remaining source.old) (λ input. Asks input request)
         × IsAnswered S.Store desk.old desk.new request (text_or_memory text)) }
     ensures honest { WasHonest S.Store desk.old desk.new }
+    ensures unread { ReadsNoMore (R.pieces source.old) (R.pieces source.new) }
     ensures same { OnErr result (desk.new ≡ desk.old) }
     ensures err { OnErr result (IsTrue (R.failed source.new)) }
 {
@@ -74,6 +79,8 @@ fn answer_head<S: Alter, R: Source>(
         (λ rest. request ≡ with_body (plan_of_head h) rest)
         × IsAnswered S.Store desk.old desk.new request (text_or_memory text)) }
     ensures honest { WasHonest S.Store desk.old desk.new }
+    ensures unread { (last : List ℕ) × ReadsWhile IsUndecided (R.pieces source.old)
+        (R.pieces source.new) bytes.now last }
     ensures same { OnErr result (desk.new ≡ desk.old) }
     ensures err { OnErr result (IsTrue (R.failed source.new)) }
 {
@@ -105,6 +112,8 @@ fn answer_put<S: Alter, R: Source>(
         (λ rest. request ≡ with_body (Put number.now size) rest)
         × IsAnswered S.Store desk.old desk.new request (text_or_memory text)) }
     ensures honest { WasHonest S.Store desk.old desk.new }
+    ensures unread { (last : List ℕ) × ReadsWhile (IsShorter size) (R.pieces source.old)
+        (R.pieces source.new) front.now last }
     ensures same { OnErr result (desk.new ≡ desk.old) }
     ensures err { OnErr result (IsTrue (R.failed source.new)) }
 {

@@ -52,7 +52,9 @@
 //! The contract of [`serve_one`] speaks of readers and writers of std, whose contracts give their
 //! bytes, but not whether a call failed. [`serve_one`] is [`serve`] over these. [`serve`] takes a
 //! [`Source`] and a [`Sink`], which report failures too: it returns `Read` and `Write` only if a
-//! call has failed, and `Ok` only once the response was flushed.
+//! call has failed, and `Ok` only once the response was flushed. Of a source whose pieces are known
+//! it reads no more than the piece that ends the head, or the body (`ReadsNoMore`): a client is not
+//! waited for once its request has come.
 //!
 //! # Cost
 //!

@@ -7,7 +7,13 @@ ghost use Rattle.esc_http.specs.declared.serving.ServeFault.TheVariants.{
   Read as reading,
   Write as writing,
 };
-ghost use Rattle.esc_http.specs.Answering.{Request, Asks, IsAnswered, text_or_memory};
+ghost use Rattle.esc_http.specs.Answering.{
+  Request,
+  Asks,
+  IsAnswered,
+  ReadsNoMore,
+  text_or_memory,
+};
 ghost use Rattle.esc_http.specs.Response.{serve_fault_text};
 ghost use Rattle.esc_request.specs.Sent.{AppendsBeginning};
 
@@ -86,6 +92,7 @@ pub fn serve<S: Alter, R: Source, W: Sink>(
         × Appends (W.contents sink.old) (W.contents sink.new) text) }
     ensures flushed { OnOk result (IsTrue (W.flushed sink.new)) }
     ensures honest { WasHonest S.Store desk.old desk.new }
+    ensures unread { ReadsNoMore (R.pieces source.old) (R.pieces source.new) }
 
     // A read failed: nothing was written, and nothing arrived.
     ensures read_failed { result ≡ Err ServeFault.Read → IsTrue (R.failed source.new) }

@@ -5,7 +5,7 @@ use Rattle.esc_manifest.specs.declared.fault.MFault.{MFault}
 use Rattle.esc_manifest.specs.declared.fault.MFault.TheVariants.{Refused}
 use Rattle.esc_manifest.specs.Extension.{extended, blamed, union_or, extension}
 use Rattle.esc_manifest.specs.Accepted.{IsAccepted}
-use Rattle.esc_manifest.specs.LeastFault.{IsLeast, IsLeastInText, IsReportedAt, IsLeastOfUnion}
+use Rattle.esc_manifest.specs.LeastFault.{IsLeastManifestFault, IsLeastInText, IsReportedAt, IsLeastOfUnion}
 use Rattle.esc_manifest.specs.Manifest.{manifest_of}
 use Rattle.esc_manifest.specs.RowFaults.{rows_fault}
 use Rattle.esc_manifest.proofs.RowLeast.{rows_least, least_rows, numbers}
@@ -16,8 +16,8 @@ use Rattle.esc_manifest.proofs.UnionLeast.{reported_at, reported_once}
 pub record RowsAnswered (m : List MRow) (result : Result (List MRow) MFault) : Type 0 where
   pub accepted : rows_fault m ≡ None → result ≡ Ok m
   pub refused : (code row : ℕ) → rows_fault m ≡ Some (code, row) → result ≡ Err (Refused code row)
-  pub told : (code row : ℕ) → IsLeast m code row → result ≡ Err (Refused code row)
-  pub least : (code row : ℕ) → result ≡ Err (Refused code row) → IsLeast m code row
+  pub told : (code row : ℕ) → IsLeastManifestFault m code row → result ≡ Err (Refused code row)
+  pub least : (code row : ℕ) → result ≡ Err (Refused code row) → IsLeastManifestFault m code row
   pub numbers : (code row : ℕ) → result ≡ Err (Refused code row) → (1 ≤ code) × (code ≤ 13) × (row ≤ 4096)
 
 -- a fault as a result
@@ -67,7 +67,7 @@ union_fault m more listed added (Some f) is code row e =
     let number : f.0 ≡ code = ap (λ (r : Result (List MRow) (ℕ × ℕ)). (fault_in r).0) e in
     let at : blamed f.0 m more ≡ row = ap (λ (r : Result (List MRow) (ℕ × ℕ)). (fault_in r).1) e in
     let fault : rows_fault (extended m more) ≡ Some (code, f.1) = is ∙ ap (λ (c : ℕ). Some (c, f.1)) number in
-    let least : IsLeast (extended m more) code f.1 = rows_least (extended m more) code f.1 fault in
+    let least : IsLeastManifestFault (extended m more) code f.1 = rows_least (extended m more) code f.1 fault in
     let row_is : blamed code m more ≡ row = ap (λ (c : ℕ). blamed c m more) (sym number) ∙ at in
     ((f.1, least), subst (IsReportedAt m more code) row_is (reported_at m more listed added code f.1 least.0))
 

@@ -4,7 +4,7 @@ use Rattle.std.specs.Prelude.{◌==◌, nat_lt, position}
 use Rattle.std.proofs.lemmas.Bool.{cases_Bool, cases_lt}
 use Rattle.std.proofs.lemmas.Bool.Decides.{nat_tests}
 use Rattle.esc_manifest.specs.declared.row.MRow.{MRow}
-use Rattle.esc_manifest.specs.LeastFault.{has_fault, Stands, IsLeast}
+use Rattle.esc_manifest.specs.LeastFault.{has_fault, IsManifestFault, IsLeastManifestFault}
 use Rattle.esc_manifest.specs.RowFaults.{most_rows, has_bad_id, has_bad_watermark, lacks_prev, has_bad_resend, same_revision, moved_id, follows_later, same_digest, first_against_earlier, first_against_any, fault_or, rows_fault}
 use Rattle.esc_manifest.specs.ManifestRows.{no_row}
 use Rattle.esc_manifest.proofs.LeastFrom.{first_of_list, first_of_numbers, LeastFrom, AtLeastRow, up, found, step, lower, fault_or_is, at_row, least_of, is_least, IsFirst}
@@ -38,27 +38,27 @@ high_number m k r lt =
     let e13 : (k == 13) ≡ false = grind (arith, nat_tests) in
     rw (e4, e6, e7, e8, e10, e11, e12, e13) refl
 
-absent : (m : List MRow) (k s : ℕ) → (k ≡ 1 → ⊥) → ((r : ℕ) → has_fault m k r ≡ false) → Stands m k s → ⊥
+absent : (m : List MRow) (k s : ℕ) → (k ≡ 1 → ⊥) → ((r : ℕ) → has_fault m k r ≡ false) → IsManifestFault m k s → ⊥
 absent m k s other free (inl there) = other there.0
 absent m k s other free (inr (r, lt, is, holds)) = let fails = free r in absurd cc
 
-absent_five : (m : List MRow) (k s : ℕ) → k ≡ 5 → Stands m k s → ⊥
-absent_five m k s five there = absent m 5 s (λ e. absurd (omega arith)) (λ r. refl) (subst (λ (x : ℕ). Stands m x s) five there)
+absent_five : (m : List MRow) (k s : ℕ) → k ≡ 5 → IsManifestFault m k s → ⊥
+absent_five m k s five there = absent m 5 s (λ e. absurd (omega arith)) (λ r. refl) (subst (λ (x : ℕ). IsManifestFault m x s) five there)
 
-absent_nine : (m : List MRow) (k s : ℕ) → k ≡ 9 → Stands m k s → ⊥
-absent_nine m k s nine there = absent m 9 s (λ e. absurd (omega arith)) (λ r. refl) (subst (λ (x : ℕ). Stands m x s) nine there)
+absent_nine : (m : List MRow) (k s : ℕ) → k ≡ 9 → IsManifestFault m k s → ⊥
+absent_nine m k s nine there = absent m 9 s (λ e. absurd (omega arith)) (λ r. refl) (subst (λ (x : ℕ). IsManifestFault m x s) nine there)
 
-none_past : (m : List MRow) → LeastFrom (Stands m) 14 None
+none_past : (m : List MRow) → LeastFrom (IsManifestFault m) 14 None
 none_past m = record { none = λ e k s le. absent m k s (λ one. absurd (omega arith)) (λ r. high_number m k r (omega arith)); some = λ c r e. absurd cc }
 
 -- one number at its rows
-at : (m : List MRow) (code : ℕ) (o : Option ℕ) → (code ≡ 1 → ⊥) → IsFirst (has_fault m code) (length m) o → AtLeastRow (Stands m) code (up o)
+at : (m : List MRow) (code : ℕ) (o : Option ℕ) → (code ≡ 1 → ⊥) → IsFirst (has_fault m code) (length m) o → AtLeastRow (IsManifestFault m) code (up o)
 at m code o other first = at_row (above m) (has_fault m) (length m) code o (λ s there. other there.0) first
 
-next_number : (m : List MRow) (code high : ℕ) (o : Option ℕ) (next : Option (ℕ × ℕ)) → code < high → (code ≡ 1 → ⊥) → ((k s : ℕ) → code < k → k < high → Stands m k s → ⊥)
-    → IsFirst (has_fault m code) (length m) o → LeastFrom (Stands m) high next → LeastFrom (Stands m) code (fault_or code o next)
+next_number : (m : List MRow) (code high : ℕ) (o : Option ℕ) (next : Option (ℕ × ℕ)) → code < high → (code ≡ 1 → ⊥) → ((k s : ℕ) → code < k → k < high → IsManifestFault m k s → ⊥)
+    → IsFirst (has_fault m code) (length m) o → LeastFrom (IsManifestFault m) high next → LeastFrom (IsManifestFault m) code (fault_or code o next)
 next_number m code high o next lt other gap first later =
-    subst (LeastFrom (Stands m) code) (sym (fault_or_is code o next)) (step (Stands m) code high (up o) next lt gap (at m code o other first) later)
+    subst (LeastFrom (IsManifestFault m) code) (sym (fault_or_is code o next)) (step (IsManifestFault m) code high (up o) next lt gap (at m code o other first) later)
 
 -- M4 and on
 abbrev pub chain : List MRow → Option (ℕ × ℕ)
@@ -72,7 +72,7 @@ chain m =
     (fault_or 12 (first_against_any follows_later m)
     (fault_or 13 (first_against_earlier same_digest m) None)))))))
 
-last_numbers : (m : List MRow) → LeastFrom (Stands m) 10
+last_numbers : (m : List MRow) → LeastFrom (IsManifestFault m) 10
     (fault_or 10 (first_against_earlier same_revision m) (fault_or 11 (first_against_earlier moved_id m)
     (fault_or 12 (first_against_any follows_later m) (fault_or 13 (first_against_earlier same_digest m) None))))
 last_numbers m =
@@ -81,7 +81,7 @@ last_numbers m =
     let n11 = next_number m 11 12 (first_against_earlier moved_id m) _ (omega arith) (λ e. absurd (omega arith)) (λ k s over below. absurd (omega arith)) (first_of_numbers (has_fault m 11) (length m)) n12 in
     next_number m 10 11 (first_against_earlier same_revision m) _ (omega arith) (λ e. absurd (omega arith)) (λ k s over below. absurd (omega arith)) (first_of_numbers (has_fault m 10) (length m)) n11
 
-all_numbers : (m : List MRow) → LeastFrom (Stands m) 4 (chain m)
+all_numbers : (m : List MRow) → LeastFrom (IsManifestFault m) 4 (chain m)
 all_numbers m =
     let n8 = next_number m 8 10 (position has_bad_resend m) _ (omega arith) (λ e. absurd (omega arith)) (λ k s over below. absent_nine m k s (omega arith)) (first_of_list has_bad_resend m no_row) (last_numbers m) in
     let n7 = next_number m 7 8 (position lacks_prev m) _ (omega arith) (λ e. absurd (omega arith)) (λ k s over below. absurd (omega arith)) (first_of_list lacks_prev m no_row) n8 in
@@ -89,7 +89,7 @@ all_numbers m =
     next_number m 4 6 (position has_bad_id m) _ (omega arith) (λ e. absurd (omega arith)) (λ k s over below. absent_five m k s (omega arith)) (first_of_list has_bad_id m no_row) n6
 
 -- M1 first
-from_one : (m : List MRow) (k s : ℕ) → Stands m k s → (1 < k) ⊎ ((1 ≡ k) × (0 ≤ s))
+from_one : (m : List MRow) (k s : ℕ) → IsManifestFault m k s → (1 < k) ⊎ ((1 ≡ k) × (0 ≤ s))
 from_one m k s there = elim (cases_lt 1 k) [
   | inl over ↦ inl over
   | inr low ↦ elim (cases_lt 0 k) [
@@ -98,26 +98,26 @@ from_one m k s there = elim (cases_lt 1 k) [
   ]
 ]
 
-few_low : (m : List MRow) → length m ≤ most_rows → (k s : ℕ) → k < 4 → Stands m k s → ⊥
+few_low : (m : List MRow) → length m ≤ most_rows → (k s : ℕ) → k < 4 → IsManifestFault m k s → ⊥
 few_low m few k s lt (inl there) = absurd (omega (arith, there.2))
 few_low m few k s lt (inr (r, below, is, holds)) = let fails = low_number m k r lt in absurd cc
 
-pub least_from : (m : List MRow) → LeastFrom (Stands m) 0 (rows_fault m)
+pub least_from : (m : List MRow) → LeastFrom (IsManifestFault m) 0 (rows_fault m)
 unfolding rows_fault
 least_from m = elim (cases_Bool (nat_lt most_rows (length m))) [
-  | inl many ↦ let over : most_rows < length m = grind (arith, nat_tests) in rw many (found (Stands m) 0 1 0 (inl (refl, refl, over)) (λ k s le there. from_one m k s there))
-  | inr few ↦ let within : length m ≤ most_rows = grind (arith, nat_tests) in rw few (lower (Stands m) 0 4 (chain m) (λ k s le lt. few_low m within k s lt) (all_numbers m))
+  | inl many ↦ let over : most_rows < length m = grind (arith, nat_tests) in rw many (found (IsManifestFault m) 0 1 0 (inl (refl, refl, over)) (λ k s le there. from_one m k s there))
+  | inr few ↦ let within : length m ≤ most_rows = grind (arith, nat_tests) in rw few (lower (IsManifestFault m) 0 4 (chain m) (λ k s le lt. few_low m within k s lt) (all_numbers m))
 ]
 
-pub rows_least : (m : List MRow) (code row : ℕ) → rows_fault m ≡ Some (code, row) → IsLeast m code row
-rows_least m = least_of (Stands m) (rows_fault m) (least_from m)
+pub rows_least : (m : List MRow) (code row : ℕ) → rows_fault m ≡ Some (code, row) → IsLeastManifestFault m code row
+rows_least m = least_of (IsManifestFault m) (rows_fault m) (least_from m)
 
-pub least_rows : (m : List MRow) (code row : ℕ) → IsLeast m code row → rows_fault m ≡ Some (code, row)
-least_rows m = is_least (Stands m) (rows_fault m) (least_from m)
+pub least_rows : (m : List MRow) (code row : ℕ) → IsLeastManifestFault m code row → rows_fault m ≡ Some (code, row)
+least_rows m = is_least (IsManifestFault m) (rows_fault m) (least_from m)
 
 -- ---- numbers and rows
 
-pub numbers : (m : List MRow) (code row : ℕ) → IsLeast m code row → (1 ≤ code) × (code ≤ 13) × (row ≤ 4096)
+pub numbers : (m : List MRow) (code row : ℕ) → IsLeastManifestFault m code row → (1 ≤ code) × (code ≤ 13) × (row ≤ 4096)
 numbers m code row (inl there, least) = (omega (arith, there.0), omega (arith, there.0), omega (arith, there.1))
 numbers m code row (inr (r, lt, is, holds), least) =
     let low : 4 ≤ code = elim (cases_lt code 4) [ inl below ↦ let fails = low_number m code r below in absurd cc | inr over ↦ over ] in

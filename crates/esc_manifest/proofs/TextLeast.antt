@@ -6,7 +6,7 @@ use Rattle.std.proofs.lemmas.Bool.Decides.{nat_tests}
 use Rattle.std.proofs.lemmas.List.{length-drop}
 use Rattle.esc_manifest.specs.declared.row.MRow.{MRow}
 use Rattle.esc_csv.specs.Records.{records_of}
-use Rattle.esc_manifest.specs.LeastFault.{IsLeastOf, IsLeast, records_below, record_at, is_faulty, StandsAbove, StandsInText, IsLeastInText}
+use Rattle.esc_manifest.specs.LeastFault.{IsLeastOf, IsLeastManifestFault, records_below, record_at, is_faulty, IsFaultAbove, IsFaultInText, IsLeastInText}
 use Rattle.esc_manifest.specs.Manifest.{most_bytes, has_other_length, lacks_heading, lacks_id, lacks_type, lacks_watermark, is_diff_alone, lacks_resend, lacks_digest, records_fault, typed_rows, fault_then, text_fault, unless, manifest_of}
 use Rattle.esc_manifest.specs.RowFaults.{most_rows, fault_or, rows_fault}
 use Rattle.esc_manifest.proofs.LeastFrom.{first_of_list, LeastFrom, AtLeastRow, up, found, step, lower, fault_or_is, at_row, least_of, is_least, IsFirst}
@@ -36,30 +36,30 @@ high_number fields k lt =
     rw (e4, e5, e6, e7, e8, e9) refl
 
 -- M4 and on are at records below the heading alone
-not_above : (text : List ℕ) (code s : ℕ) → 3 < code → StandsAbove text code s → ⊥
+not_above : (text : List ℕ) (code s : ℕ) → 3 < code → IsFaultAbove text code s → ⊥
 not_above text code s over (inl one) = absurd (omega (arith, one.0))
 not_above text code s over (inr (inl two)) = absurd (omega (arith, two.0))
 not_above text code s over (inr (inr three)) = absurd (omega (arith, three.0))
 
 -- and M1 to M3 at none of those
-not_below : (text : List ℕ) (code s : ℕ) → code < 4 → StandsInText text code s → StandsAbove text code s
+not_below : (text : List ℕ) (code s : ℕ) → code < 4 → IsFaultInText text code s → IsFaultAbove text code s
 not_below text code s lt (inl there) = there
 not_below text code s lt (inr (r, below, is, holds)) = let fails = low_number (record_at (records_below text) r) code lt in absurd cc
 
-none_past : (text : List ℕ) → LeastFrom (StandsInText text) 10 None
+none_past : (text : List ℕ) → LeastFrom (IsFaultInText text) 10 None
 none_past text = record { none = λ e k s le there. past k s le there; some = λ c r e. absurd cc }
   where
-    past : (k s : ℕ) → 10 ≤ k → StandsInText text k s → ⊥
+    past : (k s : ℕ) → 10 ≤ k → IsFaultInText text k s → ⊥
     past k s le (inl there) = not_above text k s (omega arith) there
     past k s le (inr (r, below, is, holds)) = let fails = high_number (record_at (records_below text) r) k (omega arith) in absurd cc
 
 next_number : (text : List ℕ) (code : ℕ) (o : Option ℕ) (next : Option (ℕ × ℕ)) → 3 < code
     → IsFirst (λ r. is_faulty (record_at (records_below text) r) code) (length (records_below text)) o
-    → LeastFrom (StandsInText text) (code + 1) next → LeastFrom (StandsInText text) code (fault_or code o next)
+    → LeastFrom (IsFaultInText text) (code + 1) next → LeastFrom (IsFaultInText text) code (fault_or code o next)
 next_number text code o next over first later =
-    subst (LeastFrom (StandsInText text) code) (sym (fault_or_is code o next))
-    (step (StandsInText text) code (code + 1) (up o) next (omega arith) (λ k s more less. absurd (omega arith))
-    (at_row (StandsAbove text) (λ c r. is_faulty (record_at (records_below text) r) c) (length (records_below text)) code o (λ s. not_above text code s over) first) later)
+    subst (LeastFrom (IsFaultInText text) code) (sym (fault_or_is code o next))
+    (step (IsFaultInText text) code (code + 1) (up o) next (omega arith) (λ k s more less. absurd (omega arith))
+    (at_row (IsFaultAbove text) (λ c r. is_faulty (record_at (records_below text) r) c) (length (records_below text)) code o (λ s. not_above text code s over) first) later)
 
 abbrev pub below_chain : List ℕ → Option (ℕ × ℕ)
 below_chain text =
@@ -70,7 +70,7 @@ below_chain text =
     (fault_or 8 (position lacks_resend (records_below text))
     (fault_or 9 (position lacks_digest (records_below text)) None)))))
 
-below : (text : List ℕ) → LeastFrom (StandsInText text) 4 (below_chain text)
+below : (text : List ℕ) → LeastFrom (IsFaultInText text) 4 (below_chain text)
 below text =
     let n9 = next_number text 9 (position lacks_digest (records_below text)) None (omega arith) (first_of_list lacks_digest (records_below text) []) (none_past text) in
     let n8 = next_number text 8 (position lacks_resend (records_below text)) _ (omega arith) (first_of_list lacks_resend (records_below text) []) n9 in
@@ -83,20 +83,20 @@ below text =
 abbrev heading_or : Bool → Option (ℕ × ℕ) → Option (ℕ × ℕ)
 heading_or lacks next = if lacks then Some (3, 0) else next
 
-heading : (text : List ℕ) (lacks : Bool) → lacks_heading (records_of text) ≡ lacks → LeastFrom (StandsInText text) 3 (heading_or lacks (below_chain text))
-heading text true is = found (StandsInText text) 3 3 0 (inl (inr (inr (refl, refl, is)))) (λ k s le there. elim (cases_lt 3 k) [
+heading : (text : List ℕ) (lacks : Bool) → lacks_heading (records_of text) ≡ lacks → LeastFrom (IsFaultInText text) 3 (heading_or lacks (below_chain text))
+heading text true is = found (IsFaultInText text) 3 3 0 (inl (inr (inr (refl, refl, is)))) (λ k s le there. elim (cases_lt 3 k) [
   | inl over ↦ inl over
   | inr even ↦ inr (omega arith, omega arith)
 ])
-heading text false is = lower (StandsInText text) 3 4 (below_chain text) (λ k s le lt there. other k s lt (not_below text k s lt there) le) (below text)
+heading text false is = lower (IsFaultInText text) 3 4 (below_chain text) (λ k s le lt there. other k s lt (not_below text k s lt there) le) (below text)
   where
-    other : (k s : ℕ) → k < 4 → StandsAbove text k s → 3 ≤ k → ⊥
+    other : (k s : ℕ) → k < 4 → IsFaultAbove text k s → 3 ≤ k → ⊥
     other k s lt (inl one) le = absurd (omega (arith, one.0))
     other k s lt (inr (inl two)) le = absurd (omega (arith, two.0))
     other k s lt (inr (inr three)) le = let holds = three.2 in absurd cc
 
 -- M2
-shape : (text : List ℕ) → AtLeastRow (StandsInText text) 2 (position has_other_length (records_of text))
+shape : (text : List ℕ) → AtLeastRow (IsFaultInText text) 2 (position has_other_length (records_of text))
 shape text = let first = first_of_list has_other_length (records_of text) [] in record {
   none = λ e s there. elim (not_below text 2 s (omega arith) there) [
     | inl one ↦ absurd (omega (arith, one.0))
@@ -117,14 +117,14 @@ shape text = let first = first_of_list has_other_length (records_of text) [] in 
 }
 
 -- M1
-few_low : (text : List ℕ) → length text ≤ most_bytes → length (records_of text) ≤ most_rows + 1 → (k s : ℕ) → k < 2 → StandsInText text k s → ⊥
+few_low : (text : List ℕ) → length text ≤ most_bytes → length (records_of text) ≤ most_rows + 1 → (k s : ℕ) → k < 2 → IsFaultInText text k s → ⊥
 few_low text bytes rows k s lt there = elim (not_below text k s (omega arith) there) [
   | inl one ↦ elim one.2 [ inl long ↦ absurd (omega arith) | inr many ↦ absurd (omega arith) ]
   | inr (inl two) ↦ absurd (omega (arith, two.0))
   | inr (inr three) ↦ absurd (omega (arith, three.0))
 ]
 
-from_one : (text : List ℕ) (k s : ℕ) → StandsInText text k s → (1 < k) ⊎ ((1 ≡ k) × (0 ≤ s))
+from_one : (text : List ℕ) (k s : ℕ) → IsFaultInText text k s → (1 < k) ⊎ ((1 ≡ k) × (0 ≤ s))
 from_one text k s there = elim (cases_lt 1 k) [
   | inl over ↦ inl over
   | inr low ↦ elim (not_below text k s (omega arith) there) [
@@ -134,17 +134,17 @@ from_one text k s there = elim (cases_lt 1 k) [
   ]
 ]
 
-many : (text : List ℕ) → ((most_bytes < length text) ⊎ (most_rows + 1 < length (records_of text))) → LeastFrom (StandsInText text) 0 (Some (1, 0))
-many text over = found (StandsInText text) 0 1 0 (inl (inl (refl, refl, over))) (λ k s le there. from_one text k s there)
+many : (text : List ℕ) → ((most_bytes < length text) ⊎ (most_rows + 1 < length (records_of text))) → LeastFrom (IsFaultInText text) 0 (Some (1, 0))
+many text over = found (IsFaultInText text) 0 1 0 (inl (inl (refl, refl, over))) (λ k s le there. from_one text k s there)
 
-records_least : (text : List ℕ) → length text ≤ most_bytes → LeastFrom (StandsInText text) 0 (records_fault (records_of text))
+records_least : (text : List ℕ) → length text ≤ most_bytes → LeastFrom (IsFaultInText text) 0 (records_fault (records_of text))
 unfolding records_fault
 records_least text bytes = elim (cases_Bool (nat_lt (most_rows + 1) (length (records_of text)))) [
   | inl over ↦ let long : most_rows + 1 < length (records_of text) = grind (arith, nat_tests) in rw over (many text (inr long))
   | inr few ↦
       let within : length (records_of text) ≤ most_rows + 1 = grind (arith, nat_tests) in
-      rw few (lower (StandsInText text) 0 2 _ (λ k s le lt. few_low text bytes within k s lt)
-      (step (StandsInText text) 2 3 (position has_other_length (records_of text)) (heading_or (lacks_heading (records_of text)) (below_chain text)) (omega arith) (λ k s more less. absurd (omega arith)) (shape text) (heading text (lacks_heading (records_of text)) refl)))
+      rw few (lower (IsFaultInText text) 0 2 _ (λ k s le lt. few_low text bytes within k s lt)
+      (step (IsFaultInText text) 2 3 (position has_other_length (records_of text)) (heading_or (lacks_heading (records_of text)) (below_chain text)) (omega arith) (λ k s more less. absurd (omega arith)) (shape text) (heading text (lacks_heading (records_of text)) refl)))
 ]
 
 -- ---- the whole
@@ -153,7 +153,7 @@ records_least text bytes = elim (cases_Bool (nat_lt (most_rows + 1) (length (rec
 abbrev pub first_fault : List ℕ → Option (ℕ × ℕ)
 first_fault text = if nat_lt most_bytes (length text) then Some (1, 0) else records_fault (records_of text)
 
-first_least : (text : List ℕ) → LeastFrom (StandsInText text) 0 (first_fault text)
+first_least : (text : List ℕ) → LeastFrom (IsFaultInText text) 0 (first_fault text)
 first_least text = elim (cases_Bool (nat_lt most_bytes (length text))) [
   | inl over ↦ let long : most_bytes < length text = grind (arith, nat_tests) in rw over (many text (inl long))
   | inr few ↦ let within : length text ≤ most_bytes = grind (arith, nat_tests) in rw few (records_least text within)
@@ -185,7 +185,7 @@ unfolding manifest_of
 text_least text code row e =
     let fault = sym (text_fault_is text) ∙ refused (text_fault text) (typed_rows (records_of text)) code row e in
     elim (or_next (first_fault text) (rows_fault (typed_rows (records_of text))) (code, row) fault) [
-      | inl here ↦ inl (least_of (StandsInText text) (first_fault text) (first_least text) code row here)
+      | inl here ↦ inl (least_of (IsFaultInText text) (first_fault text) (first_least text) code row here)
       | inr (none, next) ↦ inr (
         λ k s. (first_least text).none none k s (omega arith),
         typed_rows (records_of text),
@@ -207,35 +207,35 @@ refused_by : (text : List ℕ) (code row : ℕ) → fault_then (first_fault text
 unfolding manifest_of
 refused_by text code row fault = ap (λ (o : Option (ℕ × ℕ)). unless o (typed_rows (records_of text))) (text_fault_is text ∙ fault)
 
-nothing_first : (text : List ℕ) (o : Option (ℕ × ℕ)) → LeastFrom (StandsInText text) 0 o → ((k s : ℕ) → StandsInText text k s → ⊥) → o ≡ None
+nothing_first : (text : List ℕ) (o : Option (ℕ × ℕ)) → LeastFrom (IsFaultInText text) 0 o → ((k s : ℕ) → IsFaultInText text k s → ⊥) → o ≡ None
 nothing_first text None all none = refl
-nothing_first text (Some f) all none = absurd (none f.0 f.1 (least_of (StandsInText text) (Some f) all f.0 f.1 refl).0)
+nothing_first text (Some f) all none = absurd (none f.0 f.1 (least_of (IsFaultInText text) (Some f) all f.0 f.1 refl).0)
 
 pub least_text : (text : List ℕ) (code row : ℕ) → IsLeastInText text code row → manifest_of text ≡ Err (code, row)
 least_text text code row (inl least) =
-    let first = is_least (StandsInText text) (first_fault text) (first_least text) code row least in
+    let first = is_least (IsFaultInText text) (first_fault text) (first_least text) code row least in
     refused_by text code row (rw first refl)
 least_text text code row (inr (none, m, whole, least)) =
     let first = nothing_first text (first_fault text) (first_least text) none in
     let all = whole_list (records_below text) (are_whole (records_of text) (no_records_fault text first)) in
     let same : m ≡ typed_rows (records_of text) = some_map m (typed_rows (records_of text)) (sym whole ∙ all) in
-    let next = least_rows (typed_rows (records_of text)) code row (subst (λ (x : List MRow). IsLeast x code row) same least) in
+    let next = least_rows (typed_rows (records_of text)) code row (subst (λ (x : List MRow). IsLeastManifestFault x code row) same least) in
     refused_by text code row (rw first next)
 
 -- ---- numbers and rows
 
-few_records : (text : List ℕ) (code row : ℕ) → 1 < code → IsLeastOf (StandsInText text) code row → length (records_of text) ≤ 4097
+few_records : (text : List ℕ) (code row : ℕ) → 1 < code → IsLeastOf (IsFaultInText text) code row → length (records_of text) ≤ 4097
 few_records text code row over least = elim (cases_lt 4097 (length (records_of text))) [
   | inl more ↦ elim (least.1 1 0 (inl (inl (refl, refl, inr more)))) [ inl lt ↦ absurd (omega arith) | inr same ↦ absurd (omega (arith, same.0)) ]
   | inr within ↦ within
 ]
 
-above_numbers : (text : List ℕ) (code row : ℕ) → IsLeastOf (StandsInText text) code row → StandsAbove text code row → (1 ≤ code) × (code ≤ 13) × (row ≤ 4096)
+above_numbers : (text : List ℕ) (code row : ℕ) → IsLeastOf (IsFaultInText text) code row → IsFaultAbove text code row → (1 ≤ code) × (code ≤ 13) × (row ≤ 4096)
 above_numbers text code row least (inl one) = (omega (arith, one.0), omega (arith, one.0), omega (arith, one.1))
 above_numbers text code row least (inr (inl two)) = let few = few_records text code row (omega (arith, two.0)) least in let lt = two.1 in (omega (arith, two.0), omega (arith, two.0), omega arith)
 above_numbers text code row least (inr (inr three)) = (omega (arith, three.0), omega (arith, three.0), omega (arith, three.1))
 
-below_numbers : (text : List ℕ) (code row r : ℕ) → IsLeastOf (StandsInText text) code row → r < length (records_below text) → row ≡ suc r → is_faulty (record_at (records_below text) r) code ≡ true → (1 ≤ code) × (code ≤ 13) × (row ≤ 4096)
+below_numbers : (text : List ℕ) (code row r : ℕ) → IsLeastOf (IsFaultInText text) code row → r < length (records_below text) → row ≡ suc r → is_faulty (record_at (records_below text) r) code ≡ true → (1 ≤ code) × (code ≤ 13) × (row ≤ 4096)
 below_numbers text code row r least lt is holds =
     let low : 4 ≤ code = elim (cases_lt code 4) [ inl under ↦ let fails = low_number (record_at (records_below text) r) code under in absurd cc | inr over ↦ over ] in
     let high : code ≤ 9 = elim (cases_lt 9 code) [ inl over ↦ let fails = high_number (record_at (records_below text) r) code over in absurd cc | inr under ↦ under ] in

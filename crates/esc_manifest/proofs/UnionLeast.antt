@@ -11,7 +11,7 @@ use Rattle.std.proofs.lemmas.List.Quantifiers.{position-Some}
 use Rattle.esc_manifest.specs.declared.row.MRow.{MRow}
 use Rattle.esc_manifest.specs.Accepted.{IsAccepted}
 use Rattle.esc_manifest.specs.Extension.{is_listed, new_rows, extended, is_blamed, row_or_whole, blamed}
-use Rattle.esc_manifest.specs.LeastFault.{has_fault, Stands, Contradict, IsBlamed, IsReportedAt}
+use Rattle.esc_manifest.specs.LeastFault.{has_fault, IsManifestFault, Contradict, IsBlamed, IsReportedAt}
 use Rattle.esc_manifest.specs.ManifestRows.{no_row, row_at}
 use Rattle.esc_manifest.specs.PositionLaws.{no_first}
 use Rattle.esc_manifest.specs.RowFaults.{has_bad_id, has_bad_watermark, lacks_prev, has_bad_resend, same_revision, moved_id, follows_later, same_digest}
@@ -267,7 +267,7 @@ module _ (m more : List MRow) (listed : IsAccepted m) (added : IsAccepted more) 
       never true = refl
       never false = refl
 
-  pub reported_at : (code s : ℕ) → Stands (extended m more) code s → IsReportedAt m more code (blamed code m more)
+  pub reported_at : (code s : ℕ) → IsManifestFault (extended m more) code s → IsReportedAt m more code (blamed code m more)
   reported_at code s (inl (one, whole, many)) = inl (one, subst (λ (n : ℕ). blamed n m more ≡ 0) (sym one) of_whole)
   reported_at code s (inr (r, lt, is, holds)) = at_row code r lt holds (position (test code m) more) refl
 

@@ -72,14 +72,14 @@ has_fault m code r =
     else false
 
 -- rows have this fault: M1 of the whole, at row 0, or another one at a row counted from 1
-abbrev pub Stands : List MRow → ℕ → ℕ → Type 0
-Stands m code row =
+abbrev pub IsManifestFault : List MRow → ℕ → ℕ → Type 0
+IsManifestFault m code row =
     ((code ≡ 1) × (row ≡ 0) × (most_rows < length m))
     ⊎ ((r : ℕ) × (r < length m) × (row ≡ suc r) × (has_fault m code r ≡ true))
 
 -- the least fault of rows
-abbrev pub IsLeast : List MRow → ℕ → ℕ → Type 0
-IsLeast m = IsLeastOf (Stands m)
+abbrev pub IsLeastManifestFault : List MRow → ℕ → ℕ → Type 0
+IsLeastManifestFault m = IsLeastOf (IsManifestFault m)
 
 -- the records of a text below the heading
 abbrev pub records_below : List ℕ → List (List (List ℕ))
@@ -102,8 +102,8 @@ is_faulty fields code =
 
 -- a text has this fault of its own: M1 of its length, M3 of its heading, or M2 of a record, where
 -- the heading is row 0
-abbrev pub StandsAbove : List ℕ → ℕ → ℕ → Type 0
-StandsAbove text code row =
+abbrev pub IsFaultAbove : List ℕ → ℕ → ℕ → Type 0
+IsFaultAbove text code row =
     ((code ≡ 1) × (row ≡ 0)
     × ((most_bytes < length text) ⊎ (most_rows + 1 < length (records_of text))))
     ⊎ ((code ≡ 2) × (row < length (records_of text))
@@ -112,9 +112,9 @@ StandsAbove text code row =
 
 -- a text's bytes or records have this fault: one of those above, or one of a record below the
 -- heading, counted from 1
-abbrev pub StandsInText : List ℕ → ℕ → ℕ → Type 0
-StandsInText text code row =
-    StandsAbove text code row
+abbrev pub IsFaultInText : List ℕ → ℕ → ℕ → Type 0
+IsFaultInText text code row =
+    IsFaultAbove text code row
     ⊎ ((r : ℕ) × (r < length (records_below text)) × (row ≡ suc r)
     × (is_faulty (record_at (records_below text) r) code ≡ true))
 
@@ -122,9 +122,10 @@ StandsInText text code row =
 -- record below the heading writes a row, the least fault of these rows
 abbrev pub IsLeastInText : List ℕ → ℕ → ℕ → Type 0
 IsLeastInText text code row =
-    IsLeastOf (StandsInText text) code row
-    ⊎ (((k s : ℕ) → StandsInText text k s → ⊥)
-    × (m : List MRow) × (map row_of (records_below text) ≡ map Some m) × IsLeast m code row)
+    IsLeastOf (IsFaultInText text) code row
+    ⊎ (((k s : ℕ) → IsFaultInText text k s → ⊥)
+    × (m : List MRow) × (map row_of (records_below text) ≡ map Some m)
+    × IsLeastManifestFault m code row)
 
 -- two rows of a union have the fault of this number: the same place and resend (M10), one id at two
 -- places (M11), or the same digest (M13); for M12 one of them is a Differential that names the
@@ -154,4 +155,4 @@ IsReportedAt m more code row =
 -- the least fault of the union of m and more, and where it is reported
 abbrev pub IsLeastOfUnion : List MRow → List MRow → ℕ → ℕ → Type 0
 IsLeastOfUnion m more code row =
-    ((s : ℕ) × IsLeast (extended m more) code s) × IsReportedAt m more code row
+    ((s : ℕ) × IsLeastManifestFault (extended m more) code s) × IsReportedAt m more code row

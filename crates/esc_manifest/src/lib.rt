@@ -40,7 +40,7 @@
 //!
 //! `specs/Manifest.antt` and `specs/RowFaults.antt` say for each number which records and rows have
 //! that fault, and `specs/LeastFault.antt` which fault is the least: no other fault of the text has
-//! a lesser number, nor the same number at a lesser row (`IsLeastInText`, `IsLeast`).
+//! a lesser number, nor the same number at a lesser row (`IsLeastInText`, `IsLeastManifestFault`).
 //! `read_manifest` and `from_rows` refuse with exactly that one. Out of memory, `read_manifest` and
 //! `Manifest::extend` return `MFault::NoMemory`; `from_rows` never does.
 //! `manifest_of` and `rows_fault` are the same as functions; by a law they give the least fault.
@@ -71,6 +71,6 @@ mod rows;
 pub use fault::MFault;
 pub use laws::{accepted_texts_are_read_whole, faults_are_least, rows_without_fault_are_accepted};
 pub use manifest::Manifest;
-pub use reading::{MOST_BYTES, read_manifest};
+pub use reading::{MOST_MANIFEST_BYTES, read_manifest};
 pub use row::{MRow, copy_rows};
-pub use rows::{MOST_ROWS, from_rows};
+pub use rows::{MOST_LISTED_ROWS, from_rows};

@@ -17,7 +17,7 @@ ghost use Rattle.esc_manifest.specs.declared.fault.MFault.TheVariants as MFault;
 ghost use Rattle.esc_manifest.specs.RowFaults.{most_rows};
 
 use crate::fault::MFault;
-use crate::rows::MOST_ROWS;
+use crate::rows::MOST_LISTED_ROWS;
 use esc_csv::{Record, Records};
 use std::alloc::Global;
 
@@ -36,7 +36,7 @@ fn push_all(
 {
     let mut fields = Record::new(alloc);
     while unread.next(&mut fields)? {
-        if records.len() > MOST_ROWS {
+        if records.len() > MOST_LISTED_ROWS {
             return Err(MFault::Refused { code: 1, row: 0 });
         }
         records.push(fields)?;

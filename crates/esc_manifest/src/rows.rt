@@ -16,7 +16,7 @@ ghost use Rattle.std.specs.Prelude.{
 ghost use Rattle.std.specs.List.{list_any};
 ghost use Rattle.esc_envelope.specs.Id.{is_id};
 ghost use Rattle.esc_manifest.specs.declared.fault.MFault.TheVariants as MFault;
-ghost use Rattle.esc_manifest.specs.LeastFault.{IsLeast};
+ghost use Rattle.esc_manifest.specs.LeastFault.{IsLeastManifestFault};
 ghost use Rattle.esc_manifest.specs.RowFaults.{
   has_bad_id,
   has_bad_watermark,
@@ -42,7 +42,7 @@ use esc_envelope::{DepositType, END_OF_YEARS, MOST_RESEND, Place, is_id};
 use std::alloc::Global;
 
 /// The most rows of a manifest.
-pub const MOST_ROWS: usize = 4_096;
+pub const MOST_LISTED_ROWS: usize = 4_096;
 
 fn has_bad_id(row: &MRow) -> bool
     ensures { result ≡ has_bad_id row.now }
@@ -221,7 +221,7 @@ pub(crate) fn first_repeated_digest(rows: &[MRow]) -> Option<usize>
 pub(crate) fn rows_fault(alloc: Global, rows: &[MRow]) -> Option<(u8, u32)>
     ensures { result ≡ rows_fault rows.now }
 {
-    if rows.len() > MOST_ROWS {
+    if rows.len() > MOST_LISTED_ROWS {
         return Some((1, 0));
     }
     if let Some(row) = first_bad_id(rows) {
@@ -275,10 +275,10 @@ pub fn from_rows(alloc: Global, rows: Vec<MRow>) -> Result<Manifest, MFault>
     ensures accepted { rows_fault rows.items ≡ None → result ≡ Ok rows.items }
     ensures refused { (code row : ℕ) → rows_fault rows.items ≡ Some (code, row) →
         result ≡ Err (MFault.Refused code row) }
-    ensures told { (code row : ℕ) → IsLeast rows.items code row →
+    ensures told { (code row : ℕ) → IsLeastManifestFault rows.items code row →
         result ≡ Err (MFault.Refused code row) }
     ensures least { (code row : ℕ) → result ≡ Err (MFault.Refused code row) →
-        IsLeast rows.items code row }
+        IsLeastManifestFault rows.items code row }
     ensures numbers { (code row : ℕ) → result ≡ Err (MFault.Refused code row) →
         (1 ≤ code) × (code ≤ 13) × (row ≤ 4096) }
 {

@@ -1,6 +1,6 @@
 -- The sections of tables, and what is read of them.
 use Rattle.std.proofs.Common.{◌≡◌, ◌≢◌, ◌∙◌, ℕ, zero, suc, ◌+◌, ◌<◌, ◌≤◌, false, ◌++◌, get_or, Result, Err, Option, Bor, refl, sym, ap, subst, arith}
-use Rattle.std.specs.Prelude.{Bool, true, List, [], ◌∷◌, length, map, take, drop, Ok, Some, All, AllPairs, nat_lt, ◌==◌}
+use Rattle.std.specs.Prelude.{Bool, true, List, [], ◌∷◌, length, map, take, drop, Ok, Some, All, AllPairs, nat_lt, ◌==◌, if◌then◌else◌}
 use Rattle.std.specs.List.{zip, list_all, flat_map, find}
 use Rattle.std.specs.Str.{bytes_eq}
 use Rattle.std.proofs.lemmas.Bool.Decides.{nat_tests}
@@ -34,6 +34,18 @@ unmarked [] other = refl
 unmarked (a ∷ []) other = refl
 unmarked (a ∷ b ∷ []) other = refl
 unmarked (a ∷ b ∷ c ∷ rest) other = rw (other (omega arith)) refl
+
+-- a text that begins with them
+pub marked : (text : List ℕ) → 3 ≤ length text
+    → is_bom (get_or text 0 0) (get_or text 1 0) (get_or text 2 0) ≡ true → IsUnmarked text → ⊥
+unfolding strip_bom
+marked [] le is same = omega (arith, le)
+marked (a ∷ []) le is same = omega (arith, le)
+marked (a ∷ b ∷ []) le is same = omega (arith, le)
+marked (a ∷ b ∷ c ∷ rest) le is same =
+    let text = a ∷ b ∷ c ∷ rest in
+    let all : rest ≡ text = ap (λ (t : Bool). if t then rest else text) (sym is) ∙ same in
+    let long = ap length all in omega (arith, long)
 
 -- rows that have fields are read as they are written
 pub fields_back : (n : ℕ) (rows : List Line) → list_all (has_width n) rows ≡ true → map read_back rows ≡ rows
@@ -83,7 +95,6 @@ file_at {given} {heading} {items} {slice} {i} d view same lt =
 abbrev rows_before : GivenTable → ℕ → List Line
 rows_before given i = flat_map (file_rows given.has_heading) (take i given.files)
 
--- the rows of one more file
 -- all files of a table were taken
 pub all_taken : {given : GivenTable} {heading : Bool} {items slice : List (Bor (List ℕ))} {i : ℕ}
     → record { has_heading = heading; files = map (λ f. f.now) items } ≡ given → slice ≡ items → length slice ≤ i
@@ -93,6 +104,7 @@ all_taken {given} {heading} {items} {slice} {i} view same le =
     let mapped : length (map (λ (f : Bor (List ℕ)). f.now) items) ≤ i = omega (arith, among, length-map items (λ f. f.now)) in
     take_all i given.files (subst (λ (g : GivenTable). length g.files ≤ i) view mapped)
 
+-- the rows of one more file
 more_rows : {given : GivenTable} {i : ℕ} {heading : Bool} {text : List ℕ} → IsFile given i heading text
     → rows_before given (i + 1) ≡ rows_before given i ++ file_rows heading text
 more_rows {given} {i} {heading} {text} file =

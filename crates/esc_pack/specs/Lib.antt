@@ -1,5 +1,7 @@
+pub mod BundleRefusals
 pub mod Bundling
 pub mod Describing
+pub mod Forecasts
 pub mod GivenRows
 pub mod KnownFields
 pub mod KnownTables

@@ -1,6 +1,24 @@
 //! The bundle of an agent's files.
 
-ghost use Rattle.std.specs.Prelude.{◌≡◌, ◌++◌, ◌∷◌, [], List, All, map, length, Ok, IfOk, OnOk};
+ghost use Rattle.std.specs.Prelude.{
+  ◌≡◌,
+  ◌+◌,
+  ◌^◌,
+  ◌<◌,
+  ◌++◌,
+  ◌∷◌,
+  [],
+  ℕ,
+  List,
+  All,
+  map,
+  length,
+  Ok,
+  Err,
+  IfOk,
+  IfErr,
+  OnOk,
+};
 ghost use Rattle.std.specs.List.{zip};
 ghost use Rattle.esc_bundle.specs.Bundle.{Named, IsBundle};
 ghost use Rattle.esc_bundle.specs.Writing.{named};
@@ -9,6 +27,13 @@ ghost use Rattle.esc_tables.specs.Reading.{tables_of, reading};
 ghost use Rattle.esc_pack.specs.GivenRows.{IsReadBack};
 ghost use Rattle.esc_pack.specs.Bundling.{sections_of, description_section, AreHeaded};
 ghost use Rattle.esc_pack.specs.Bundling.{AreSectionsOf, IsBundleOf};
+ghost use Rattle.esc_pack.specs.BundleRefusals.{
+  OrNoMemory,
+  IsTablesRefusal,
+  IsGivenRefusal,
+  IsSectionsRefusal,
+  IsBundleRefusal,
+};
 
 use crate::bundle_fault::BundleFault;
 use crate::given::TableFiles;
@@ -29,14 +54,17 @@ fn push_sections(
     given: &[TableFiles<'_>],
     first: usize,
 ) -> Result<(), BundleFault>
-    requires { length given.now ≡ length tables.now }
+    requires same { length given.now ≡ length tables.now }
+    requires few { first + length tables.now < 2 ^ 64 }
     ensures pushed { OnOk result (map named sections.new.items
         ≡ map named sections.old.items ++ sections_of tables.now given.now) }
     ensures read { OnOk result (All IsReadBack given.now) }
     ensures headed { OnOk result (All AreHeaded (zip tables.now given.now)) }
+    ensures refused { IfErr result
+        (OrNoMemory (IsTablesRefusal (zip tables.now given.now) first)) }
 {
     for (at, table) in tables.iter().enumerate() {
-        let text = table_text(alloc, table, &given[at], first.saturating_add(at))?;
+        let text = table_text(alloc, table, &given[at], first + at)?;
         sections.push((table.file.clone()?, text))?;
     }
     Ok(())
@@ -70,6 +98,7 @@ fn push_described(
         ∷ sections_of (tables_of envelope.now) given.now) }
     ensures read { OnOk result (All IsReadBack given.now) }
     ensures headed { OnOk result (All AreHeaded (zip (tables_of envelope.now) given.now)) }
+    ensures refused { IfErr result (OrNoMemory (IsGivenRefusal envelope.now given.now)) }
 {
     let contents = envelope.contents.as_slice();
     let deletes = envelope.deletes.as_slice();
@@ -89,8 +118,10 @@ fn described_sections(
     description: &[u8],
     given: &[TableFiles<'_>],
 ) -> Result<Vec<(String, Vec<u8>)>, BundleFault>
-    ensures { IfOk result (λ sections.
+    ensures are { IfOk result (λ sections.
         AreSectionsOf description.now given.now (map named sections.items)) }
+    ensures refused { IfErr result
+        (OrNoMemory (IsSectionsRefusal description.now given.now)) }
 {
     let envelope = read_envelope(alloc, description)?;
     let mut sections = Vec::new(alloc);
@@ -104,8 +135,9 @@ fn described_bundle(
     description: &[u8],
     given: &[TableFiles<'_>],
 ) -> Result<Vec<u8>, BundleFault>
-    ensures { IfOk result (λ body. (sections : List Named)
+    ensures bundle { IfOk result (λ body. (sections : List Named)
         × AreSectionsOf description.now given.now sections × IsBundle body.items sections) }
+    ensures refused { IfErr result (OrNoMemory (IsBundleRefusal description.now given.now)) }
 {
     let sections = described_sections(alloc, description, given)?;
     Ok(write_bundle(alloc, &sections)?)
@@ -113,7 +145,9 @@ fn described_bundle(
 
 // Reads a body as a deposit.
 fn check_deposit(alloc: Global, body: &[u8]) -> Result<(), Fault>
-    ensures { OnOk result ((d : DepositValue) × (reading body.now ≡ Ok d)) }
+    ensures read { OnOk result ((d : DepositValue) × (reading body.now ≡ Ok d)) }
+    ensures refused { IfErr result (λ e. (n : ℕ) → e ≡ Fault.Refused n
+        → reading body.now ≡ Err n) }
 {
     read_deposit(alloc, body)?;
     Ok(())
@@ -125,14 +159,16 @@ fn check_deposit(alloc: Global, body: &[u8]) -> Result<(), Fault>
 ///
 /// # Errors
 ///
-/// `Refused`: no bundle or no deposit has these sections, or the description is no envelope.
-/// `Unmatched`, `Heading`, `Row`, `Marked`: the files aren't as the description says.
+/// One that applies, or memory was refused. `Refused`: no bundle or no deposit has these sections,
+/// or the description is no envelope. `Unmatched`, `Heading`, `Row`, `Marked`: the files aren't as
+/// the description says.
 pub fn bundle_of_files(
     alloc: Global,
     description: &[u8],
     given: &[TableFiles<'_>],
 ) -> Result<Vec<u8>, BundleFault>
     ensures bundled { IfOk result (λ body. IsBundleOf description.now given.now body.items) }
+    ensures refused { IfErr result (OrNoMemory (IsBundleRefusal description.now given.now)) }
 {
     let body = described_bundle(alloc, description, given)?;
     check_deposit(alloc, &body)?;

@@ -4,6 +4,7 @@ ghost use Rattle.std.specs.Prelude.{◌≡◌};
 ghost use Rattle.esc_pack.specs.declared.bundle_fault.BundleFault.TheVariants.{
   NoMemory as no_memory,
 };
+ghost use Rattle.esc_pack.specs.BundleRefusals.{of_fault};
 
 use esc_bundle::{Fault, NoMemory};
 use std::alloc::{AllocError, AllocFailed};
@@ -85,6 +86,8 @@ impl<T: Drop> From<AllocFailed<T>> for BundleFault {
 }
 
 impl From<Fault> for BundleFault {
+    ghost from_gives = { λ fault e. e ≡ of_fault fault };
+
     fn from(fault: Fault) -> BundleFault {
         match fault {
             Fault::Refused(code) => BundleFault::Refused { code },

@@ -2,7 +2,6 @@
 
 ghost use Rattle.std.specs.Prelude.{◌≡◌, IfOk, OnOk, Ok, true, filter_map, option_map};
 ghost use Rattle.std.specs.List.{find};
-ghost use Rattle.esc_envelope.specs.Envelope.{envelope_of};
 ghost use Rattle.esc_pack.specs.KnownTables.{
   known_tables,
   contents_tables,

@@ -55,11 +55,27 @@
 //! begin with a heading (`Sources`): so a caller knows which bytes `bundle_of_files` is to be given.
 //! It gives `None` where the members `from` and `heading` of a table have another form.
 //!
+//! `forecast_of` takes a manifest and the bytes of a file, and says what the desk would find of it
+//! (`Forecast`): which row lists its SHA-256, whether it is a deposit, and whether it is the one that
+//! the row says; `differs` says in which values (`Member`) it is another. Of the files so far,
+//! `is_held` says whether one is the deposit of a row, so that one more is `again`, and `is_there`
+//! whether a row lists one. Where a file is no deposit, `fault_spot` says in which section, row and
+//! column, in words:
+//!
+//! ```text
+//! match forecast_of(alloc, &manifest, body)? {
+//!     Forecast::Unreadable(row, 9) => ..   // U9, and fault_spot(alloc, body)? is, say,
+//!                                          // "section 2 c.csv, row 3, column clID: no UTF-8"
+//! }
+//! ```
+//!
 //! # What the contracts mean
 //!
 //! `specs/GivenRows.antt` says which rows files have, and `specs/Bundling.antt` what their bundle
 //! is (`IsBundleOf`): its sections, and that `read_deposit` reads each table as just these rows,
-//! and the bundle as the deposit that they make.
+//! and the bundle as the deposit that they make. `specs/BundleRefusals.antt` says why there is none
+//! (`IsBundleRefusal`): a refusal applies, at the table, file and row that it names. Which one is
+//! told where several apply, and when memory is refused, no clause says.
 //!
 //! `specs/Release.antt` says which row a bundle adds (`Adds`) and in which order rows are,
 //! `specs/Written.antt` what their text is, and `specs/Listing.antt` puts them together: a text that
@@ -75,20 +91,30 @@
 //! of which a file has a heading, with the fields of the first such file, and the names of all files
 //! that have just these, in their order. The unknown files are exactly the others, each with its
 //! reason.
+//!
+//! `specs/Forecasts.antt` says what is found of a body (`forecast`), by the definitions of the
+//! desk's own verdict: `reading` of `esc_tables`, `row_of` and `as_listed` of `esc_manifest`. No
+//! clause says that what `fault_spot` tells is right; it is tested against a plain model.
 #![tactic(auto)]
 
 mod bundle;
 mod bundle_fault;
 mod describe;
 mod draft;
+mod envelope_spot;
 mod fault;
+mod file_spot;
+mod forecast;
+mod frame_spot;
 mod given;
 mod heading;
 mod known_field;
 mod known_table;
+mod member;
 mod proposal;
 mod release;
 mod sources;
+mod spot;
 mod table_text;
 mod text;
 mod written;
@@ -97,9 +123,12 @@ pub use bundle::bundle_of_files;
 pub use bundle_fault::BundleFault;
 pub use describe::{describe_files, table_named};
 pub use fault::ReleaseFault;
+pub use forecast::{Forecast, differs, forecast_of, is_held, is_there};
 pub use given::TableFiles;
 pub use known_field::KnownField;
 pub use known_table::KnownTable;
+pub use member::Member;
 pub use proposal::{FolderFile, Proposal, Unknown, Why};
 pub use release::Release;
 pub use sources::{Source, Sources, read_sources};
+pub use spot::fault_spot;

@@ -11,7 +11,7 @@ use crate::fault::ReleaseFault;
 use crate::written::manifest_text;
 use esc_bundle::{Fault, NoMemory};
 use esc_csv::written_lines_read_back;
-use esc_manifest::{MFault, MOST_BYTES, MRow, Manifest, copy_rows, from_rows};
+use esc_manifest::{MFault, MOST_MANIFEST_BYTES, MRow, Manifest, copy_rows, from_rows};
 use esc_tables::read_deposit;
 use sha2::{Digest, Sha256};
 use std::alloc::Global;
@@ -80,7 +80,7 @@ impl Release {
         let manifest = accepted(alloc, rows)?;
         let text = manifest_text(alloc, &manifest)?;
         written_lines_read_back();
-        if text.len() > MOST_BYTES {
+        if text.len() > MOST_MANIFEST_BYTES {
             return Err(ReleaseFault::Unlisted { code: 1, row: 0 });
         }
         Ok(text)

@@ -12,7 +12,10 @@ ghost use Rattle.std.specs.Prelude.{
   true,
   false,
   IfOk,
+  IfErr,
   OnOk,
+  [],
+  take,
   string_bytes,
 };
 ghost use Rattle.std.specs.List.{list_all, zip};
@@ -23,6 +26,13 @@ ghost use Rattle.esc_pack.specs.GivenRows.{file_rows, given_rows, has_width};
 ghost use Rattle.esc_pack.specs.GivenRows.{is_heading, IsHeaded, IsReadBack};
 ghost use Rattle.esc_pack.specs.KnownFields.{is_named};
 ghost use Rattle.esc_pack.specs.Bundling.{AreHeaded};
+ghost use Rattle.esc_pack.specs.BundleRefusals.{
+  OrNoMemory,
+  is_row,
+  IsRowRefusal,
+  IsFileRefusal,
+  IsTableRefusal,
+};
 
 use crate::bundle_fault::BundleFault;
 use crate::given::TableFiles;
@@ -58,7 +68,15 @@ fn write_record(alloc: Global, lines: &mut Lines, line: &Record) -> Result<(), N
     lines.write(&fields)
 }
 
-// Writes the rows that are left, each of which has so many fields, all of them UTF-8.
+// Whether a record has so many fields, all of them UTF-8.
+fn is_row(record: &Record, width: usize) -> bool
+    ensures { result ≡ is_row width record.now }
+{
+    record.len() == width && record.is_text()
+}
+
+// Writes the rows that are left, each of which has so many fields, all of them UTF-8. There are
+// fewer than can be counted, of which the contract of `Records` says nothing.
 fn write_rows(
     alloc: Global,
     lines: &mut Lines,
@@ -69,13 +87,18 @@ fn write_rows(
     requires { 0 < width }
     ensures written { OnOk result (lines.new ≡ lines.old ++ text_of rows.old) }
     ensures whole { OnOk result (list_all (has_width width) rows.old ≡ true) }
+    ensures refused { IfErr result
+        (OrNoMemory (IsRowRefusal width rows.old place.table place.file)) }
 {
     let FilePlace { table, file } = place;
     let mut record = Record::new(alloc);
     let mut row: usize = 0;
     while rows.next(&mut record)? {
-        row = row.saturating_add(1);
-        if record.len() != width || !record.is_text() {
+        let Some(number) = row.checked_add(1) else {
+            return Err(BundleFault::NoMemory);
+        };
+        row = number;
+        if !is_row(&record, width) {
             return Err(BundleFault::Row { table, file, row });
         }
         write_record(alloc, lines, &record)?;
@@ -113,8 +136,10 @@ fn is_heading(alloc: Global, table: &Table, line: &Record) -> Result<bool, NoMem
 
 // Reads a heading of a table, and returns whether there was one.
 fn skip_heading(alloc: Global, rows: &mut Records<'_>, table: &Table) -> Result<bool, NoMemory>
-    ensures { IfOk result (λ is. is ≡ true → (row : Line)
+    ensures read { IfOk result (λ is. is ≡ true → (row : Line)
         × (rows.old ≡ row ∷ rows.new) × (is_heading table.now row ≡ true)) }
+    ensures other { IfOk result (λ is. is ≡ false → (row : Line) → take 1 rows.old ≡ row ∷ []
+        → is_heading table.now row ≡ true → ⊥) }
 {
     let mut record = Record::new(alloc);
     if !rows.next(&mut record)? {
@@ -138,6 +163,8 @@ fn write_file(
         (file_rows has_heading file.now) ≡ true) }
     ensures headed { OnOk result (has_heading ≡ true
         → IsHeaded table.now file.now) }
+    ensures refused { IfErr result (OrNoMemory
+        (IsFileRefusal table.now has_heading file.now place.table place.file)) }
 {
     let mut rows = Records::of(alloc, file);
     if has_heading && !skip_heading(alloc, &mut rows, table)? {
@@ -161,6 +188,8 @@ fn write_files(
     ensures whole { OnOk result (list_all (has_width (length table.now.fields))
         (given_rows given.now) ≡ true) }
     ensures headed { OnOk result (AreHeaded (table.now, given.now)) }
+    ensures refused { IfErr result
+        (OrNoMemory (IsTableRefusal (table.now, given.now) number)) }
 {
     for (at, file) in given.files.iter().enumerate() {
         let place = FilePlace {
@@ -181,7 +210,8 @@ fn is_mark(first: u8, second: u8, third: u8) -> bool
 
 // Whether a text begins with a byte order mark.
 fn is_marked(text: &[u8]) -> bool
-    ensures { result ≡ false → IsUnmarked text.now }
+    ensures none { result ≡ false → IsUnmarked text.now }
+    ensures one { result ≡ true → IsUnmarked text.now → ⊥ }
 {
     if text.len() < 3 {
         return false;
@@ -199,6 +229,8 @@ pub(crate) fn table_text(
     ensures text { IfOk result (λ text. text.items ≡ text_of (given_rows given.now)) }
     ensures read { OnOk result (IsReadBack given.now) }
     ensures headed { OnOk result (AreHeaded (table.now, given.now)) }
+    ensures refused { IfErr result
+        (OrNoMemory (IsTableRefusal (table.now, given.now) number)) }
 {
     written_lines_read_back();
     let mut lines = Lines::new(alloc);

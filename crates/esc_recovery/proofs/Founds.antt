@@ -20,22 +20,23 @@ use Rattle.sqlite.specs.State.{State, HasCleanDisk, Survives, IsLive, Opens}
 use Rattle.sqlite.specs.Files.{over_files, image_of, HoldsDatabase}
 use Rattle.sqlite.specs.Closing.{IsCopied, HoldsAlone}
 use Rattle.sqlite.proofs.Theorems.{opens_again}
-use Rattle.esc_store.specs.Kept.{Kept}
+use Rattle.esc_store.specs.StoreState.{StoreState}
+use Rattle.esc_store.specs.FirstVersion.{IsOfFirstVersion}
 use Rattle.esc_store.specs.StoreTables.{IsStore, IsBlank, IsOfVersion}
-use Rattle.esc_store.specs.Standing.{HoldsKept, LeavesOr}
+use Rattle.esc_store.specs.Representation.{HoldsKept, LeavesOr}
 use Rattle.esc_store.specs.StandingLaws.{was_clean}
-use Rattle.esc_rows.specs.Schema.{no_schema}
+use Rattle.esc_sql.specs.Schema.{no_schema}
 use Rattle.sqlite.specs.Effect.{Database}
 use Rattle.sqlite_catalog.specs.Listing.{IsSound}
 use Rattle.esc_recovery.specs.Blank.{LeavesBlankOr}
 use Rattle.esc_events.specs.Events.{EventValue}
 use Rattle.esc_desk.specs.declared.desk.Desk.{Desk}
 use Rattle.esc_desk.specs.Calls.{DeskLeaves, IsHonestDesk}
-use Rattle.esc_desk.specs.Serving.{DeskServes}
+use Rattle.esc_desk.specs.Reflection.{DeskReflects}
 use Rattle.esc_desk.specs.Crashes.{CrashLeaves, IsStoreForOneOf, IsStoreFor}
 use Rattle.esc_recovery.specs.Rest.{RestsFor}
-use Rattle.esc_recovery.specs.FileImages.{Holds, HoldsStoreFor, HoldsOneOf, IsOneOf, IsOpenedFrom, ServesOneOf}
-use Rattle.esc_recovery.specs.Opened.{IsOpenedOn}
+use Rattle.esc_recovery.specs.FileImages.{Holds, HoldsStoreFor, HoldsOneOf, IsMigratedFrom, IsOneOf, IsOpenedFrom, ServesOneOf}
+use Rattle.esc_recovery.specs.Opened.{IsFirstStoreFor, IsMigratedOn, IsOpenedOn}
 
 -- whatever a crash leaves of the files of a store is one of those that it may leave of the store
 pub images_of : {D : Type 0} (g : Ghosts D) (conn : Held (FileStore D g)) (it : FileStore D g) (e doubtful : List EventValue) (log db : D) → (log, db) ≡ files it
@@ -49,17 +50,17 @@ images_of {D = D} g conn it e doubtful log db are quiet numbered sound clean lef
     (λ found. (found.0, found.2, left (omega (arith, quiet.clean)) found.0 (quiet.outcomes found.0 found.1)))
 
 -- what a connection at rest holds is a store
-pub kept_trees : {S : Type 0} (g : store.Ghosts S) (conn : Held S) (k : Kept) → HoldsKept g conn k → HasCleanDisk (state g conn) → IsTrue (state g conn).is_open → IsStore (state g conn).committed.trees k
+pub kept_trees : {S : Type 0} (g : store.Ghosts S) (conn : Held S) (k : StoreState) → HoldsKept g conn k → HasCleanDisk (state g conn) → IsTrue (state g conn).is_open → IsStore (state g conn).committed.trees k
 unfolding HoldsKept IsStore
 kept_trees g conn k holds clean up = (holds clean up).kept.kept
 
 -- a disk that is clean once a store was made was clean before
-pub clean_before : {S : Type 0} (g : store.Ghosts S) (old new : Held S) (k : Kept) → LeavesOr g old new k → HasCleanDisk (state g new) → HasCleanDisk (state g old)
+pub clean_before : {S : Type 0} (g : store.Ghosts S) (old new : Held S) (k : StoreState) → LeavesOr g old new k → HasCleanDisk (state g new) → HasCleanDisk (state g old)
 unfolding LeavesOr
 clean_before g old new k survives clean = was_clean survives clean
 
 -- a connection that was just opened on a blank database is made a store, or not
-pub blank_or : {S : Type 0} (g : store.Ghosts S) (settled : (s : S) (trees : Trees) → IsTrue (g.view s).is_open → g.recovers s trees → trees ≡ (g.view s).committed) (old new : Held S) (k : Kept) → LeavesOr g old new k → LeavesBlankOr g old new k
+pub blank_or : {S : Type 0} (g : store.Ghosts S) (settled : (s : S) (trees : Trees) → IsTrue (g.view s).is_open → g.recovers s trees → trees ≡ (g.view s).committed) (old new : Held S) (k : StoreState) → LeavesOr g old new k → LeavesBlankOr g old new k
 unfolding LeavesOr
 blank_or g settled old new k survives opens live blank clean trees may = elim (survives.crash clean trees may) [
   | inl was ↦ inl (
@@ -76,8 +77,8 @@ pick trees e (y ∷ doubtful) (inl it) = (e ++ y ∷ [], inl refl, it)
 pick trees e (y ∷ doubtful) (inr more) = let found = pick trees e doubtful more in (found.0, inr found.1, found.2)
 
 -- what two files hold is what a connection over them has committed
-pub held_store : (committed : Trees) (image : Image) → ((trees : Trees) → HoldsDatabase image trees → committed ≡ trees) → (e : List EventValue) → HoldsStoreFor image e → IsStoreFor committed e
-held_store committed image holds e it = subst (λ t. IsStoreFor t e) (sym (∥∥₁_elim it.1 (Trees-set _ _) (holds it.0))) it.2
+held_is : (Is : Trees → Type 0) (committed : Trees) (image : Image) → ((trees : Trees) → HoldsDatabase image trees → committed ≡ trees) → (trees : Trees) × ∥ HoldsDatabase image trees ∥₁ × Is trees → Is committed
+held_is Is committed image holds it = subst Is (sym (∥∥₁_elim it.1 (Trees-set _ _) (holds it.0))) it.2
 
 -- what a connection that was just opened sees is what the files hold
 holds_what_is : {S : Type 0} (g : store.Ghosts S) (conn : Held S) (image : Image) (Is : Database → Type 0) → ((trees : Trees) → HoldsDatabase image trees → (state g conn).committed.trees ≡ trees)
@@ -91,7 +92,7 @@ holds_blank g conn image holds opens live is = holds_what_is g conn image IsBlan
 
 -- a desk over what two files hold serves one of the lists, where it serves each list whose store was committed
 pub serves_one : {S : Type 0} (g : store.Ghosts S) (desk : Desk S) (committed : Trees) (image : Image) → ((trees : Trees) → HoldsDatabase image trees → committed ≡ trees)
-    → ((x : List EventValue) → IsStoreFor committed x → DeskServes g desk x × DeskLeaves g desk x []) → (e doubtful : List EventValue) → HoldsOneOf image e doubtful → ServesOneOf g desk e doubtful
+    → ((x : List EventValue) → IsStoreFor committed x → DeskReflects g desk x × DeskLeaves g desk x []) → (e doubtful : List EventValue) → HoldsOneOf image e doubtful → ServesOneOf g desk e doubtful
 serves_one g desk committed image holds serves e doubtful one = ∥∥₁_map one (λ it.
     let found = pick it.0 e doubtful it.2 in
     let both = serves found.0 (subst (λ t. IsStoreFor t found.0) (sym (holds it.0 it.1)) found.2) in
@@ -101,12 +102,20 @@ serves_one g desk committed image holds serves e doubtful one = ∥∥₁_map on
 pub opened_from : {S : Type 0} (g : store.Ghosts S) (conn : Held S) (image : Image) (desk : Desk S) → IsOpenedOn g (state g conn) desk → IsHonestDesk g desk
     → ((trees : Trees) → HoldsDatabase image trees → (state g conn).committed.trees ≡ trees) → Opens (state g conn) → IsLive (state g conn) → IsOpenedFrom g image desk
 opened_from g conn image desk on honest holds opens live =
-    let both : (x : List EventValue) → IsStoreFor (state g conn).committed.trees x → DeskServes g desk x × DeskLeaves g desk x [] = λ x it. (on.serves honest x it, on.left x it) in
+    let both : (x : List EventValue) → IsStoreFor (state g conn).committed.trees x → DeskReflects g desk x × DeskLeaves g desk x [] = λ x it. (on.serves honest x it, on.left x it) in
     record {
-      serves = λ e it. both e (held_store _ image holds e it);
+      serves = λ e it. both e (held_is (λ t. IsStoreFor t e) _ image holds it);
       found = serves_one g desk _ image holds both;
       version = holds_what_is g conn image IsOfVersion holds opens live (on.version honest);
     }
+
+-- a desk that was migrated on a connection over two files is migrated from these
+pub migrated_from : {S : Type 0} (g : store.Ghosts S) (conn : Held S) (image : Image) (desk : Desk S) → IsMigratedOn g (state g conn) desk → IsHonestDesk g desk
+    → ((trees : Trees) → HoldsDatabase image trees → (state g conn).committed.trees ≡ trees) → Opens (state g conn) → IsLive (state g conn) → IsMigratedFrom g image desk
+migrated_from g conn image desk on honest holds opens live = record {
+  serves = λ m l it. let was = held_is (λ t. IsFirstStoreFor t m l) _ image holds it in (on.serves honest m l was, on.left m l was);
+  version = holds_what_is g conn image IsOfFirstVersion holds opens live (on.version honest);
+}
 
 -- files that hold what a connection had as it was closed hold the store of the events for which that held one
 pub closed_store : {D : Type 0} {g : Ghosts D} (conn : Held (FileStore D g)) (files : Files D) → IsCopied conn files → (e : List EventValue) → RestsFor over_files conn e

@@ -9,9 +9,9 @@ ghost use Rattle.sqlite_wal.specs.Reads.{AreClean};
 ghost use Rattle.sqlite_wal.specs.Recovery.{Image};
 ghost use Rattle.sqlite.specs.Files.{over_files, image_of};
 ghost use Rattle.esc_store.specs.Faults.{IsS1OrS2, IsS1ToS3};
-ghost use Rattle.esc_desk.specs.Calls.{After, DeskLeaves, IsHonestDesk};
+ghost use Rattle.esc_desk.specs.Calls.{ForDeskEvents, DeskLeaves, IsHonestDesk};
 ghost use Rattle.esc_events.specs.Events.{EventValue};
-ghost use Rattle.esc_desk.specs.Serving.{DeskServes};
+ghost use Rattle.esc_desk.specs.Reflection.{DeskReflects};
 ghost use Rattle.esc_recovery.specs.FileImages.{HoldsStoreFor, HoldsOneOf, IsOpenedFrom};
 
 use crate::leaving::{connection_of, store_below};
@@ -55,17 +55,17 @@ pub fn desk_of_files<D: Disk + Drop>(
     desk_or_fault(alloc, connection)
 }
 
-/// Closes a desk: what is still in its log is copied into its database. Then, and after a crash, the
-/// two files hold a store of the events that the desk served. At `Err`, which is `S1` or `S2`, the
-/// files are as a crash may leave those of the desk.
+/// Closes a desk: what is still in its log is copied into its database. Then, and after a crash,
+/// the two files hold a store of the events that the desk reflected. At `Err`, which is `S1` or
+/// `S2`, the files are as a crash may leave those of the desk.
 pub fn close_desk<D: Disk + Drop>(desk: Desk<FileStore<D>>) -> Result<Files<D>, SFault>
     ensures usable { IfOk result
         (λ files. IsTrue (D.Disk.is_usable files.log) × IsTrue (D.Disk.is_usable files.db)) }
     ensures holds { IfOk result (λ files. AreClean D.Disk files.log files.db
-        → (e : List EventValue) → DeskServes over_files desk e
+        → (e : List EventValue) → DeskReflects over_files desk e
         → HoldsStoreFor (image_of D.Disk files) e) }
     ensures left { IfOk result (λ files. AreClean D.Disk files.log files.db
-        → (e : List EventValue) → DeskServes over_files desk e
+        → (e : List EventValue) → DeskReflects over_files desk e
         → (image : Image) → outcomes D.Disk files.log files.db image → HoldsStoreFor image e) }
     ensures cause { IfErr result IsS1OrS2 }
 {
@@ -79,16 +79,16 @@ pub fn close_desk<D: Disk + Drop>(desk: Desk<FileStore<D>>) -> Result<Files<D>, 
 }
 
 /// The desk over the files of another, which is closed first: what is still in the log is copied
-/// into the database. It serves what the other served, and no event is in doubt any more. `S1`,
-/// `S2`, or `S3` where what is read back is no store.
+/// into the database. It reflects what the other reflected, and no event is in doubt any more.
+/// `S1`, `S2`, or `S3` where what is read back is no store.
 pub fn reopen_desk<D: Disk + Drop>(
     alloc: Global,
     desk: Desk<FileStore<D>>,
     options: Options,
 ) -> Result<Desk<FileStore<D>>, SFault>
-    ensures serves { IfOk result (λ again. After over_files desk again
-        (λ e. DeskServes over_files again e)) }
-    ensures left { IfOk result (λ again. After over_files desk again
+    ensures serves { IfOk result (λ again. ForDeskEvents over_files desk again
+        (λ e. DeskReflects over_files again e)) }
+    ensures left { IfOk result (λ again. ForDeskEvents over_files desk again
         (λ e. DeskLeaves over_files again e [])) }
     ensures cause { IfErr result IsS1ToS3 }
 {

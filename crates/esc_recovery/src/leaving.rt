@@ -3,9 +3,9 @@
 ghost use Rattle.std.specs.Prelude.{◌≡◌, List, IsTrue};
 ghost use Rattle.sqlite_trees.specs.View.{IsClean, IsQuiet};
 ghost use Rattle.sqlite.specs.Held.{AreDatabases};
-ghost use Rattle.esc_store.specs.Standing.{connection_of as held_by};
+ghost use Rattle.esc_store.specs.Representation.{connection_of as held_by};
 ghost use Rattle.esc_desk.specs.Calls.{store_of};
-ghost use Rattle.esc_desk.specs.Serving.{DeskServes};
+ghost use Rattle.esc_desk.specs.Reflection.{DeskReflects};
 ghost use Rattle.esc_events.specs.Events.{EventValue};
 ghost use Rattle.esc_recovery.specs.Rest.{RestsFor};
 
@@ -15,7 +15,7 @@ use sqlite::{Alter, Connection};
 /// The connection of a desk's store, whose database stays as it is.
 pub(crate) fn connection_of<S: Alter>(desk: Desk<S>) -> Connection<S>
     ensures same { result ≡ held_by (store_of desk) }
-    ensures rests { (e : List EventValue) → DeskServes S.Store desk e
+    ensures rests { (e : List EventValue) → DeskReflects S.Store desk e
         → RestsFor S.Store result e }
 {
     desk.into_store().into_connection()

@@ -7,22 +7,22 @@
 //!
 //! A program is given a path, and its disk is the system's:
 //!
-//! - [`new_desk_at`] makes a store of a manifest in the files at a path, [`open_desk_at`] opens that
-//!   of the files at a path, and [`migrated_desk_at`] one of version 1; each gives the desk over it,
-//!   or the [`PathFault`]. The last two make no file.
+//! - [`new_desk_at`] makes a store of a manifest in the files at a path, [`open_desk_at`] opens
+//!   that of the files at a path, and [`migrated_desk_at`] one of version 1; each gives the desk
+//!   over it, or the [`PathFault`]. The last two make no file.
 //! - [`close_desk`] copies what is still in the log into the database, and gives the files.
 //!
 //! Over any connection or disk, for instance one that fails from some call on:
 //!
 //! - [`new_desk`], [`open_desk`] and [`migrated_desk`] do the same with a connection's database.
-//! - [`desk_of_files`] gives the desk over the store in two files, and [`reopen_desk`] closes a desk
-//!   and opens it again.
+//! - [`desk_of_files`] gives the desk over the store in two files, and [`reopen_desk`] closes a
+//!   desk and opens it again.
 //! - [`files_of`] gives the files of a desk as they are, as a crash would find them: nothing is
 //!   written.
 //!
 //! What goes in are paths, connections (`sqlite`) or files, and manifests; what comes out are desks
-//! ([`Desk`](esc_desk::Desk)) and files. Where the database fails, or is no store, the result is the
-//! `SFault`.
+//! ([`Desk`](esc_desk::Desk)) and files. Where the database fails, or is no store, the result is
+//! the `SFault`.
 //!
 //! # Example
 //!
@@ -49,19 +49,20 @@
 //! of those in doubt; the contracts of `Desk::run_events`, `Desk::arrive`, `Desk::amend` and
 //! `Desk::as_of` carry it from call to call, and those here carry it on:
 //!
-//! 1. `new_desk` begins it (`IsNewOn`): the desk serves the manifest alone, and no event is in
+//! 1. `new_desk` begins it (`IsNewOn`): the desk reflects the manifest alone, and no event is in
 //!    doubt. A crash while the store is made leaves a database without tables, or the new store. A
 //!    desk is given only where the database had no table, index or view, and `S3` only where it has
 //!    one. `migrated_desk` goes on from a store of version 1 (`IsMigratedOn`).
 //! 2. `files_of`: each pair of files that a crash may leave holds a store of the events so far, or
 //!    of them and one of those in doubt (`HoldsOneOf`). That it writes nothing, no clause says.
 //!    `close_desk`: the files hold a store of the events so far, and so they do after a crash.
-//! 3. `open_desk_at` and `desk_of_files` (`IsOpenedFrom`): where the files hold a store of a list of
-//!    events (`HoldsStoreFor`), as files do that were closed, the desk serves this list, and none is
-//!    in doubt. Where they are what a crash left, it serves the events so far, or them and one of
-//!    those in doubt, and none is in doubt any more (`ServesOneOf`). What is opened has the nine
-//!    tables and version 2. `reopen_desk`: the desk serves what it served before, and none is in
-//!    doubt.
+//! 3. `open_desk_at` and `desk_of_files` (`IsOpenedFrom`): where the files hold a store of a list
+//!    of events (`HoldsStoreFor`), as files do that were closed, the desk reflects this list, and
+//!    none is in doubt. Where they are what a crash left, it reflects the events so far, or them
+//!    and one of those in doubt, and none is in doubt any more (`ServesOneOf`). What is opened has
+//!    the nine tables and version 2. `migrated_desk_at` says the same of files that hold a store of
+//!    version 1 (`IsMigratedFrom`). `reopen_desk`: the desk reflects what it reflected before, and
+//!    none is in doubt.
 //!
 //! From there on `Desk::arrive` promises that a duplicate of an earlier arrival has the first one's
 //! reply. So an arrival that was answered before the crash has the same reply after it, and one in
@@ -69,12 +70,12 @@
 //!
 //! Each of these clauses has the premise that the disk gave back what was written to it, and what a
 //! crash may leave of two files is `sqlite`'s promise over its disk. That an open succeeds is not
-//! promised: memory or the disk may be refused. `Store::open` never returns `S3` on a store. No clause
-//! ties files to a path, or says whether there is a file: that each program gives one path, and that
-//! nothing is made where there was no file, is tested. Of a migration at a path no clause says what
-//! the files hold: that is said of its connection.
+//! promised: memory or the disk may be refused. `Store::open` never returns `S3` on a store. No
+//! clause ties files to a path, or says whether there is a file: that each program gives one path,
+//! and that nothing is made where there was no file, is tested.
 #![tactic(auto)]
 
+mod connecting;
 mod files;
 mod leaving;
 mod opening;

@@ -6,7 +6,7 @@ ghost use Rattle.sqlite.specs.State.{HasCleanDisk};
 ghost use Rattle.esc_manifest.specs.declared.row.MRow.{MRow};
 ghost use Rattle.esc_store.specs.Faults.{IsS1ToS3};
 ghost use Rattle.esc_store.specs.FirstVersion.{IsFirstStore, LeavesFirstOr};
-ghost use Rattle.esc_store.specs.Kept.{Kept, fresh};
+ghost use Rattle.esc_store.specs.StoreState.{StoreState, fresh};
 ghost use Rattle.esc_store.specs.Opening.{IsAsItWas};
 ghost use Rattle.esc_store.specs.StoreTables.{IsBlank};
 ghost use Rattle.esc_desk.specs.Crashes.{IsStoreFor};
@@ -54,8 +54,8 @@ pub fn new_desk<S: Alter>(
 }
 
 /// The desk over the store in a connection's database, as last committed. At `Err` the connection
-/// is given back: `S3` where the database is no store of this version, and never where it serves a
-/// list of events; `S1`, `S2`.
+/// is given back: `S3` where the database is no store of this version, and never where it reflects
+/// a list of events; `S1`, `S2`.
 pub fn open_desk<S: Alter>(
     alloc: Global,
     connection: Connection<S>,
@@ -86,9 +86,9 @@ pub(crate) fn desk_or_fault<S: Alter + Drop>(
 }
 
 /// The desk over the store of version 1 in a connection's database, which is made one of this
-/// version. At `Err` the connection is given back: `S3` where the database is no store of version 1,
-/// and never where it is one that stood for some arrivals; `S1`, `S2`. A crash in the middle leaves
-/// the store of version 1, or that of this version.
+/// version. At `Err` the connection is given back: `S3` where the database is no store of version
+/// 1, and never where it is one that stood for some arrivals; `S1`, `S2`. A crash in the middle
+/// leaves the store of version 1, or that of this version.
 pub fn migrated_desk<S: Alter>(
     alloc: Global,
     connection: Connection<S>,
@@ -97,7 +97,7 @@ pub fn migrated_desk<S: Alter>(
     ensures never { IfErr result (λ e. e.0 ≡ SFault.S3 → HasCleanDisk (state S.Store e.1)
         → IsTrue (state S.Store e.1).is_open → (m : List MRow) (l : List ArrivalValue)
         → IsFirstStoreFor (state S.Store connection).committed.trees m l → ⊥) }
-    ensures crash { (k : Kept) → IsFirstStore (state S.Store connection).committed.trees k
+    ensures crash { (k : StoreState) → IsFirstStore (state S.Store connection).committed.trees k
         → MatchResult result
         (λ desk. DeskLeavesFirstOr S.Store connection desk k)
         (λ e. LeavesFirstOr S.Store connection e.1 k) }

@@ -6,23 +6,24 @@ ghost use Rattle.sqlite.specs.Files.{over_files};
 ghost use Rattle.esc_store.specs.Faults.{IsS1ToS3};
 ghost use Rattle.esc_store.specs.StoreTables.{IsBlank};
 ghost use Rattle.esc_desk.specs.Calls.{DeskLeaves, IsHonestDesk};
-ghost use Rattle.esc_desk.specs.Serving.{DeskServes};
+ghost use Rattle.esc_desk.specs.Reflection.{DeskReflects};
 ghost use Rattle.esc_events.specs.Events.EventValue.{listed};
-ghost use Rattle.esc_recovery.specs.FileImages.{Holds, IsOpenedFrom};
+ghost use Rattle.esc_recovery.specs.FileImages.{Holds, IsMigratedFrom, IsOpenedFrom};
 ghost use Rattle.esc_recovery.specs.PathFaults.{IsUnopenedOr, path_fault_of, of_store};
 
+use crate::connecting::connection_at;
 use crate::opening::{desk_or_fault, migrated_desk, new_desk};
 use esc_desk::{Desk, SFault};
 use esc_manifest::Manifest;
-use sqlite::{Connection, Error, ErrorCode, FileFrom, FileStore, Start};
+use sqlite::{Error, ErrorCode, FileFrom, FileStore, Start};
 use std::fs;
 use std::io::ErrorKind;
 
 /// Why there is no desk over the files at a path.
 #[derive(Clone, Copy, Debug, PartialEq, Eq)]
 pub enum PathFault {
-    /// The files can't be opened: the system doesn't let them be read and written, or the path means
-    /// something else to SQLite than a file of that name (`:memory:`, a URI).
+    /// The files can't be opened: the system doesn't let them be read and written, or the path
+    /// means something else to SQLite than a file of that name (`:memory:`, a URI).
     Unopened,
     /// `S1` to `S3` of the store.
     Store(SFault),
@@ -62,10 +63,7 @@ pub fn open_desk_at<S: Start>(
     if is_missing(rt, path) {
         return Err(PathFault::Store(SFault::S3));
     }
-    let connection = match Connection::open_from(rt, path, false, start) {
-        Ok(connection) => connection,
-        Err((error, _)) => return Err(PathFault::from(error)),
-    };
+    let connection = connection_at(rt, path, start)?;
     Ok(desk_or_fault(rt.alloc(), connection)?)
 }
 
@@ -77,16 +75,13 @@ pub fn new_desk_at<S: Start>(
     start: S,
     manifest: &Manifest,
 ) -> Result<Desk<FileStore<FileFrom<S>>>, PathFault>
-    ensures serves { IfOk result (λ desk. DeskServes over_files desk (listed manifest.now ∷ [])) }
+    ensures serves { IfOk result (λ desk. DeskReflects over_files desk (listed manifest.now ∷ [])) }
     ensures left { IfOk result (λ desk. DeskLeaves over_files desk (listed manifest.now ∷ []) []) }
     ensures blank { IfOk result (λ desk. IsHonestDesk over_files desk
         → Holds IsBlank (image_at S.Start)) }
     ensures cause { IfErr result (IsUnopenedOr IsS1ToS3) }
 {
-    let connection = match Connection::open_from(rt, path, false, start) {
-        Ok(connection) => connection,
-        Err((error, _)) => return Err(PathFault::from(error)),
-    };
+    let connection = connection_at(rt, path, start)?;
     match new_desk(rt.alloc(), connection, manifest) {
         Ok(desk) => Ok(desk),
         Err((fault, _)) => Err(PathFault::Store(fault)),
@@ -94,24 +89,23 @@ pub fn new_desk_at<S: Start>(
 }
 
 /// The desk over the store of version 1 that the files at a path hold, which is made one of this
-/// version: [`migrated_desk`] says what it serves. `S3` where there is no file, which makes none, or
-/// where the files hold no store of version 1; `S1`, `S2`.
+/// version. `start` says in the contract what they hold. `S3` where there is no file, which makes
+/// none, or where the files hold no store of version 1; `S1`, `S2`.
 pub fn migrated_desk_at<S: Start>(
     rt: &HostRuntime,
     path: &str,
     start: S,
 ) -> Result<Desk<FileStore<FileFrom<S>>>, PathFault>
+    ensures migrated { IfOk result (λ desk. IsHonestDesk over_files desk
+        → IsMigratedFrom over_files (image_at S.Start) desk) }
     ensures cause { IfErr result (IsUnopenedOr IsS1ToS3) }
 {
     if is_missing(rt, path) {
         return Err(PathFault::Store(SFault::S3));
     }
-    let connection = match Connection::open_from(rt, path, false, start) {
-        Ok(connection) => connection,
-        Err((error, _)) => return Err(PathFault::from(error)),
-    };
+    let connection = connection_at(rt, path, start)?;
     match migrated_desk(rt.alloc(), connection) {
-        Ok(desk) => Ok(desk),
+        Ok(migrated) => Ok(migrated),
         Err((fault, _)) => Err(PathFault::Store(fault)),
     }
 }

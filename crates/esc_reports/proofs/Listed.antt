@@ -15,8 +15,8 @@ use Rattle.esc_store.specs.declared.store.Store.{Store}
 use Rattle.esc_events.specs.Events.{EventValue}
 use Rattle.esc_events.specs.LatestTables.{AreEntries}
 use Rattle.esc_desk.specs.Laws.{TablesAreOfEvents}
-use Rattle.esc_desk.specs.Serving.{Serves}
-use Rattle.esc_events.specs.Stands.{IsApart, deposits_of, held_body}
+use Rattle.esc_desk.specs.Reflection.{StoreReflects}
+use Rattle.esc_events.specs.StateAfter.{IsApart, deposits_of, held_body}
 
 -- the tables of any deposits have a listing by key
 abbrev pub AreListed : Type 0
@@ -24,7 +24,7 @@ AreListed = (ds : List DepositValue) → (es : List Entry) × InOrder es × IsEn
 
 -- so have those of what a store stands for
 pub listing : {S : Type 0} (g : Ghosts S) (store : Store S) (e : List EventValue) → AreListed → TablesAreOfEvents
-    → Serves g store e → IsApart sha256 reading e → (es : List Entry) × AreEntries e es × InOrder es
+    → StoreReflects g store e → IsApart sha256 reading e → (es : List Entry) × AreEntries e es × InOrder es
 listing g store e listed of_events serves apart =
     let entries = listed (deposits_of reading (held_body sha256 reading e) serves.kept.steps) in
     let latest = (of_events e serves.kept serves.stands_for apart).latest in

@@ -1,4 +1,4 @@
--- The texts of the reports of a desk that serves a list of events.
+-- The texts of the reports of a desk that reflects a list of events.
 use Rattle.std.specs.Prelude.{◌≡◌, ◌↔◌, ℕ, List, [], Option, Some, None}
 use Rattle.std.specs.FinSet as set
 use Rattle.std.specs.List.{Contains}
@@ -15,16 +15,16 @@ use Rattle.esc_check.specs.Export.{export_text}
 use Rattle.esc_check.specs.FindingValue.{FindingValue, listing_cmp}
 use Rattle.esc_check.specs.Findings.{IsFinding}
 use Rattle.esc_check.specs.TableMap.{tables_of}
-use Rattle.esc_store.specs.Kept.{AreHeld}
+use Rattle.esc_store.specs.StoreState.{AreHeld}
 use Rattle.esc_desk.specs.declared.status.End.{End}
 use Rattle.esc_desk.specs.declared.status.Status.{Status as Numbers}
 use Rattle.esc_events.specs.declared.parked.ParkedBody.{ParkedBody}
 use Rattle.esc_events.specs.Apart.{WhereApart}
-use Rattle.esc_events.specs.Events.{EventValue, union, moment_of}
+use Rattle.esc_events.specs.Events.{EventValue, union, last_moment}
 use Rattle.esc_events.specs.Parks.{AreParkedBodies}
 use Rattle.esc_events.specs.LatestTables.{AreEntries}
 use Rattle.esc_desk.specs.Reads.{replies_of, IsEndOfChain, IsStatus}
-use Rattle.esc_events.specs.Stands.{held_body, parked_body}
+use Rattle.esc_events.specs.StateAfter.{held_body, parked_body}
 use Rattle.esc_reports.specs.declared.catalog.Report.{Report}
 use Rattle.esc_reports.specs.declared.catalog.Report.TheVariants.{
   Status,
@@ -82,7 +82,7 @@ module _ (e : List EventValue) where
     pub rows : List ℕ
     pub are_held : AreHeld (held_body sha256 reading e) rows
     pub lines : List GapLine
-    pub gaps : AreGapLinesAt (union e) (set.from_list rows) (moment_of e) lines
+    pub gaps : AreGapLinesAt (union e) (set.from_list rows) (last_moment e) lines
     pub is : text ≡ gaps_text lines
 
   -- the report of a line for each body that no row lists
@@ -99,5 +99,5 @@ module _ (e : List EventValue) where
   IsReport Links text = WhereApart e (IsLinksText text)
   IsReport Receipts text = text ≡ receipts_text (replies_of e)
   IsReport Parked text = WhereApart e (IsParkedText text)
-  IsReport Moment text = text ≡ moment_line (moment_of e)
+  IsReport Moment text = text ≡ moment_line (last_moment e)
   IsReport (Export kind) text = WhereApart e (IsExport kind text)

@@ -7,11 +7,11 @@
 //! | [`receipts_heading`], [`receipt_line`] | the heading of the receipts, and the line of one reply |
 //! | [`end_line`] | the line of the status that says where a chain ends |
 //!
-//! What goes in is a desk (`esc_desk`), or a reply or an end that it gave; what comes out is a text.
-//! The status and the moment are plain lines. The other reports are CSV as `csv` writes it (RFC
-//! 4180, except that lines end with a line feed alone): a heading, and a line for each listed place
-//! (gaps), each finding (links), each reply (receipts), each parked body, or each cell of each
-//! object of a kind (an export). A value that isn't there is empty.
+//! What goes in is a desk (`esc_desk`), or a reply or an end that it gave; what comes out is a
+//! text. The status and the moment are plain lines. The other reports are CSV as `csv` writes it
+//! (RFC 4180, except that lines end with a line feed alone): a heading, and a line for each listed
+//! place (gaps), each finding (links), each reply (receipts), each parked body, or each cell of
+//! each object of a kind (an export). A value that isn't there is empty.
 //!
 //! # Example
 //!
@@ -24,17 +24,17 @@
 //! # What is promised
 //!
 //! [`report`] gives exactly the text that `specs/Reports.antt` (`IsReport`) has for the events that
-//! the desk's store stands for, or `S1`, `S2`; the desk is as it was, and serves what it served.
-//! What a report says of bodies has the premise that no two different ones have the same digest.
-//! The lines are defined in `StatusText.antt`, `GapsText.antt`, `LinksText.antt`,
-//! `ReceiptsText.antt`, `ParkedText.antt`, `MomentText.antt` and `ReplyText.antt`, with the words of
-//! `Words.antt`. `S1` also stands for a watermark without a text: no manifest has such a place, and
-//! no word sets such a moment.
+//! the desk's store stands for, or `S1`, `S2`; the desk is as it was, and reflects what it
+//! reflected. What a report says of bodies has the premise that no two different ones have the same
+//! digest. The lines are defined in `StatusText.antt`, `GapsText.antt`, `LinksText.antt`,
+//! `ReceiptsText.antt`, `ParkedText.antt`, `MomentText.antt` and `ReplyText.antt`, with the words
+//! of `Words.antt`. `S1` also stands for a watermark without a text: no manifest has such a place,
+//! and no word sets such a moment.
 //!
 //! # Cost
 //!
-//! The links and an export walk the desk's objects one at a time, and hold no map of them. A text is
-//! whole in memory before it is returned.
+//! The links and an export walk the desk's objects one at a time, and hold no map of them. A text
+//! is whole in memory before it is returned.
 #![tactic(auto)]
 
 mod catalog;

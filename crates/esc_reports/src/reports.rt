@@ -3,7 +3,7 @@
 ghost use Rattle.std.specs.Prelude.{◌≡◌, Some, IfOk, IfErr};
 ghost use Rattle.esc_check.specs.ObjectReports.{OfSource};
 ghost use Rattle.esc_store.specs.Faults.{IsS1OrS2};
-ghost use Rattle.esc_desk.specs.Calls.{OkOver, Stays};
+ghost use Rattle.esc_desk.specs.Calls.{OkForStoreEvents, IsUnchangedDesk};
 ghost use Rattle.esc_reports.specs.declared.catalog.Report.TheVariants as what;
 ghost use Rattle.esc_reports.specs.Reports.{IsReport};
 ghost use Rattle.esc_reports.specs.Walked.{AreFoundAt, walk_fault};
@@ -29,8 +29,8 @@ pub fn report<S: Alter>(
     desk: &mut Desk<S>,
     report: Report,
 ) -> Result<Vec<u8>, SFault>
-    ensures stays { Stays S.Store desk.old desk.new }
-    ensures text { OkOver S.Store desk.old desk.new result
+    ensures stays { IsUnchangedDesk S.Store desk.old desk.new }
+    ensures text { OkForStoreEvents S.Store desk.old desk.new result
         (λ e text. IsReport e report text.items) }
     ensures cause { IfErr result IsS1OrS2 }
 {
@@ -47,8 +47,8 @@ pub fn report<S: Alter>(
 
 #[tactic(auto, using(crate::proofs::StoreFacts::stays_then))]
 fn report_gaps<S: Alter>(alloc: Global, desk: &mut Desk<S>) -> Result<Vec<u8>, SFault>
-    ensures stays { Stays S.Store desk.old desk.new }
-    ensures text { OkOver S.Store desk.old desk.new result
+    ensures stays { IsUnchangedDesk S.Store desk.old desk.new }
+    ensures text { OkForStoreEvents S.Store desk.old desk.new result
         (λ e text. IsReport e what.Gaps text.items) }
     ensures cause { IfErr result IsS1OrS2 }
 {
@@ -61,8 +61,8 @@ fn report_gaps<S: Alter>(alloc: Global, desk: &mut Desk<S>) -> Result<Vec<u8>, S
 }
 
 fn report_status<S: Alter>(alloc: Global, desk: &mut Desk<S>) -> Result<Vec<u8>, SFault>
-    ensures stays { Stays S.Store desk.old desk.new }
-    ensures text { OkOver S.Store desk.old desk.new result
+    ensures stays { IsUnchangedDesk S.Store desk.old desk.new }
+    ensures text { OkForStoreEvents S.Store desk.old desk.new result
         (λ e text. IsReport e what.Status text.items) }
     ensures cause { IfErr result IsS1OrS2 }
 {
@@ -72,8 +72,8 @@ fn report_status<S: Alter>(alloc: Global, desk: &mut Desk<S>) -> Result<Vec<u8>,
 
 #[tactic(auto, using(crate::proofs::StoreFacts::stays_then))]
 fn report_links<S: Alter>(alloc: Global, desk: &mut Desk<S>) -> Result<Vec<u8>, SFault>
-    ensures stays { Stays S.Store desk.old desk.new }
-    ensures text { OkOver S.Store desk.old desk.new result
+    ensures stays { IsUnchangedDesk S.Store desk.old desk.new }
+    ensures text { OkForStoreEvents S.Store desk.old desk.new result
         (λ e text. IsReport e what.Links text.items) }
     ensures cause { IfErr result IsS1OrS2 }
 {
@@ -88,8 +88,8 @@ fn findings_at<S: Alter>(
     desk: &mut Desk<S>,
     end: &Option<End>,
 ) -> Result<Vec<Finding>, SFault>
-    ensures stays { Stays S.Store desk.old desk.new }
-    ensures findings { OkOver S.Store desk.old desk.new result
+    ensures stays { IsUnchangedDesk S.Store desk.old desk.new }
+    ensures findings { OkForStoreEvents S.Store desk.old desk.new result
         (λ e findings. AreFoundAt e end.now findings.items) }
     ensures cause { IfErr result IsS1OrS2 }
 {
@@ -104,8 +104,8 @@ fn findings_at<S: Alter>(
 // The findings in the tables, by what the last deposit of their chain says.
 #[tactic(auto, using(crate::proofs::StoreFacts::walked))]
 fn findings<S: Alter>(alloc: Global, desk: &mut Desk<S>, end: &End) -> Result<Vec<Finding>, SFault>
-    ensures stays { Stays S.Store desk.old desk.new }
-    ensures findings { OkOver S.Store desk.old desk.new result
+    ensures stays { IsUnchangedDesk S.Store desk.old desk.new }
+    ensures findings { OkForStoreEvents S.Store desk.old desk.new result
         (λ e findings. AreFoundAt e (Some end.now) findings.items) }
     ensures cause { IfErr result IsS1OrS2 }
 {
@@ -131,8 +131,8 @@ fn walk_fault(fault: StreamFault<SFault>) -> SFault
 }
 
 fn report_receipts<S: Alter>(alloc: Global, desk: &mut Desk<S>) -> Result<Vec<u8>, SFault>
-    ensures stays { Stays S.Store desk.old desk.new }
-    ensures text { OkOver S.Store desk.old desk.new result
+    ensures stays { IsUnchangedDesk S.Store desk.old desk.new }
+    ensures text { OkForStoreEvents S.Store desk.old desk.new result
         (λ e text. IsReport e what.Receipts text.items) }
     ensures cause { IfErr result IsS1OrS2 }
 {
@@ -141,8 +141,8 @@ fn report_receipts<S: Alter>(alloc: Global, desk: &mut Desk<S>) -> Result<Vec<u8
 }
 
 fn report_parked<S: Alter>(alloc: Global, desk: &mut Desk<S>) -> Result<Vec<u8>, SFault>
-    ensures stays { Stays S.Store desk.old desk.new }
-    ensures text { OkOver S.Store desk.old desk.new result
+    ensures stays { IsUnchangedDesk S.Store desk.old desk.new }
+    ensures text { OkForStoreEvents S.Store desk.old desk.new result
         (λ e text. IsReport e what.Parked text.items) }
     ensures cause { IfErr result IsS1OrS2 }
 {
@@ -151,8 +151,8 @@ fn report_parked<S: Alter>(alloc: Global, desk: &mut Desk<S>) -> Result<Vec<u8>,
 }
 
 fn report_moment<S: Alter>(alloc: Global, desk: &mut Desk<S>) -> Result<Vec<u8>, SFault>
-    ensures stays { Stays S.Store desk.old desk.new }
-    ensures text { OkOver S.Store desk.old desk.new result
+    ensures stays { IsUnchangedDesk S.Store desk.old desk.new }
+    ensures text { OkForStoreEvents S.Store desk.old desk.new result
         (λ e text. IsReport e what.Moment text.items) }
     ensures cause { IfErr result IsS1OrS2 }
 {
@@ -162,8 +162,8 @@ fn report_moment<S: Alter>(alloc: Global, desk: &mut Desk<S>) -> Result<Vec<u8>,
 
 #[tactic(auto, using(crate::proofs::StoreFacts::walked))]
 fn report_export<S: Alter>(alloc: Global, desk: &mut Desk<S>, kind: Kind) -> Result<Vec<u8>, SFault>
-    ensures stays { Stays S.Store desk.old desk.new }
-    ensures text { OkOver S.Store desk.old desk.new result
+    ensures stays { IsUnchangedDesk S.Store desk.old desk.new }
+    ensures text { OkForStoreEvents S.Store desk.old desk.new result
         (λ e text. IsReport e (what.Export kind) text.items) }
     ensures cause { IfErr result IsS1OrS2 }
 {

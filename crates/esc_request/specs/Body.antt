@@ -9,3 +9,7 @@ abbrev pub IsBody : ℕ → List ℕ → Body → Type 0
 IsBody size input (Whole body) = (size ≤ length input) × (body.items ≡ take size input)
 IsBody size input Cut = length input < size
 IsBody size input NoMemory = Unit {0}
+
+-- a body of `size` bytes isn't whole yet
+abbrev pub IsShorter : ℕ → List ℕ → Type 0
+IsShorter size bytes = length bytes < size

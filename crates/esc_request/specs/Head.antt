@@ -1,6 +1,12 @@
 -- The head of a request: RFC 9112's, in the grammar of httparse, within this project's limits.
 use Rattle.std.specs.Prelude.{ℕ, ◌≤◌, List, length, drop}
-use Rattle.httparse.specs.Grammar.{RequestHead, ReadsRequest, print_request}
+use Rattle.httparse.specs.Grammar.{
+  RequestHead,
+  ReadsRequest,
+  HasNoRequest,
+  MayBecomeRequest,
+  print_request,
+}
 use Rattle.httparse.specs.Spans.{IsRequestAt}
 use Rattle.httparse.specs.declared.spans.HeaderSpan.{HeaderSpan}
 use Rattle.httparse.specs.declared.spans.RequestSpans.{RequestSpans}
@@ -19,3 +25,7 @@ HasNoHead input = (h : RequestHead) (rest : List ℕ) → HasHead input h rest �
 abbrev pub ShowsHead : List ℕ → List HeaderSpan → RequestSpans → Type 0
 ShowsHead bytes lines spans = (h : RequestHead) × IsRequestAt bytes lines spans h
     × HasHead bytes h (drop spans.len bytes)
+
+-- no head is whole in these bytes, and more may follow that make one
+abbrev pub IsUnfinished : List ℕ → Type 0
+IsUnfinished bytes = HasNoRequest bytes × MayBecomeRequest bytes

@@ -1,9 +1,22 @@
 //! The body of a request, in one buffer of its length.
 
-ghost use Rattle.std.specs.Prelude.{◌≡◌, ◌≤◌, ◌<◌, length, take, IfOk, IfSome, IsTrue, OnErr};
+ghost use Rattle.std.specs.Prelude.{
+  ◌≡◌,
+  ℕ,
+  ◌≤◌,
+  ◌<◌,
+  List,
+  length,
+  take,
+  IfOk,
+  IfSome,
+  IsTrue,
+  OnErr,
+};
 ghost use Rattle.std.specs.Bool.{OnTrue, OnFalse};
 ghost use Rattle.std.specs.Io.KnownBytes.{Consumes, prepend_known};
-ghost use Rattle.esc_request.specs.Body.{IsBody};
+ghost use Rattle.esc_request.specs.Body.{IsBody, IsShorter};
+ghost use Rattle.esc_request.specs.Pieces.{ReadsWhile};
 
 use crate::streams::{ReadFailed, Source};
 use std::alloc::{AllocError, Global};
@@ -31,6 +44,8 @@ pub fn read_body<R: Source>(
     ensures body { IfOk result
         (λ body. IfSome (prepend_known front.now (R.remaining source.old))
         (λ input. IsBody size input body)) }
+    ensures awaited { (bytes : List ℕ) × ReadsWhile (IsShorter size) (R.pieces source.old)
+        (R.pieces source.new) front.now bytes }
     ensures err { OnErr result (IsTrue (R.failed source.new)) }
 {
     let here = front.len().min(size);
@@ -72,6 +87,8 @@ fn fill_body<R: Source>(
     ensures cut { IfOk result (λ whole.
         OnFalse whole (IfSome (prepend_known (take filled body.old.items) (R.remaining source.old))
         (λ input. length input < length body.new.items))) }
+    ensures awaited { (bytes : List ℕ) × ReadsWhile (IsShorter (length body.old.items))
+        (R.pieces source.old) (R.pieces source.new) (take filled body.old.items) bytes }
     ensures err { OnErr result (IsTrue (R.failed source.new)) }
 {
     fill(source, body, filled)
@@ -87,6 +104,8 @@ fn fill<R: Source>(source: &mut R, buffer: &mut [u8], filled: usize) -> Result<b
     ensures cut { IfOk result (λ whole.
         OnFalse whole (IfSome (prepend_known (take filled buffer.old) (R.remaining source.old))
         (λ input. length input < length buffer.new))) }
+    ensures awaited { (bytes : List ℕ) × ReadsWhile (IsShorter (length buffer.old))
+        (R.pieces source.old) (R.pieces source.new) (take filled buffer.old) bytes }
     ensures err { OnErr result (IsTrue (R.failed source.new)) }
 {
     let mut at = filled;

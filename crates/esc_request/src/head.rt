@@ -1,9 +1,23 @@
 //! The head of a request, from a reader that returns it in any pieces.
 
-ghost use Rattle.std.specs.Prelude.{◌≡◌, ◌≤◌, length, take, IfOk, IfSome, IfNone, IsTrue, OnErr};
+ghost use Rattle.std.specs.Prelude.{
+  ◌≡◌,
+  ℕ,
+  ◌≤◌,
+  List,
+  [],
+  length,
+  take,
+  IfOk,
+  IfSome,
+  IfNone,
+  IsTrue,
+  OnErr,
+};
 ghost use Rattle.std.specs.Io.KnownBytes.{Consumes};
 ghost use Rattle.httparse.specs.Spans.{IsRequestWithin};
-ghost use Rattle.esc_request.specs.Head.{HasNoHead, ShowsHead};
+ghost use Rattle.esc_request.specs.Head.{HasNoHead, IsUnfinished, ShowsHead};
+ghost use Rattle.esc_request.specs.Pieces.{ReadsWhile};
 
 use crate::streams::{ReadFailed, Source};
 use httparse::Status;
@@ -44,6 +58,9 @@ pub fn read_head<R: Source>(
         (λ found. IfSome found
         (λ f. Consumes (R.remaining source.old) (R.remaining source.new)
         (take f.filled buffer.new))) }
+    ensures awaited { (bytes : List ℕ) × ReadsWhile IsUnfinished (R.pieces source.old)
+        (R.pieces source.new) [] bytes × IfOk result
+        (λ found. IfSome found (λ f. bytes ≡ take f.filled buffer.new)) }
     ensures none { IfOk result
         (λ found. IfNone found (IfSome (R.remaining source.old) HasNoHead)) }
     ensures err { OnErr result (IsTrue (R.failed source.new)) }

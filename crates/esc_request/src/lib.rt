@@ -31,7 +31,9 @@
 //! (`specs/BodyLength.antt`), and a body is the bytes after the head, or it is cut
 //! (`specs/Body.antt`). A response is one text (`specs/Response.antt`). Where a write failed a
 //! beginning of the text was written (`specs/Sent.antt`). A failure is returned only where a call of
-//! the source or the sink has failed; out of memory only where a call allocates.
+//! the source or the sink has failed; out of memory only where a call allocates. A head is read on
+//! only while it may become whole, a body only while it is shorter than its length
+//! (`specs/Pieces.antt`).
 //!
 //! # Cost
 //!

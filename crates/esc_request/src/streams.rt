@@ -11,6 +11,7 @@ ghost use Rattle.std.specs.Prelude.{
   List,
   length,
   Option,
+  None,
   Bool,
   true,
   IfOk,
@@ -19,6 +20,7 @@ ghost use Rattle.std.specs.Prelude.{
   OnErr,
 };
 ghost use Rattle.std.specs.Io.KnownBytes.{ReadConsumes, WriteAppends, Keeps};
+ghost use Rattle.esc_request.specs.Pieces.{Pieces, AddsPiece};
 
 use std::io::{Read, Write};
 
@@ -34,6 +36,8 @@ pub struct WriteFailed;
 pub trait Source {
     // the bytes that are still to be read, where they are known
     ghost remaining: { Self → Option (List ℕ) };
+    // the pieces in which bytes came so far, one for each read, where they are known
+    ghost pieces: { Self → Pieces };
     // whether a read has failed
     ghost failed: { Self → Bool };
 
@@ -42,6 +46,7 @@ pub trait Source {
     fn read_some(&mut self, buffer: &mut [u8]) -> Result<usize, ReadFailed>
         ensures bound { IfOk result (λ n. n ≤ length buffer.new) }
         ensures bytes { ReadConsumes (remaining self.old) (remaining self.new) result buffer.new }
+        ensures piece { AddsPiece (pieces self.old) (pieces self.new) result buffer.new }
         ensures err { OnErr result (IsTrue (failed self.new)) };
 }
 
@@ -69,9 +74,11 @@ pub trait Sink {
         ensures err { OnErr result (IsTrue (failed self.new)) };
 }
 
-// A reader of std doesn't report whether a read has failed.
+// A reader of std doesn't report whether a read has failed, or in which pieces its bytes came.
 impl<R: Read> Source for R {
     ghost remaining = { λ r. R.remaining r };
+
+    ghost pieces = { λ _. None };
 
     ghost failed = { λ _. true };
 

@@ -29,7 +29,7 @@ pub use Rattle.esc_apply.specs.Changes.{with_object, CanBePut}
 pub use Rattle.esc_apply.specs.ObjectStreams.{Entry}
 pub use Rattle.esc_apply.specs.Registry.{State, written, empty, Befores, noted}
 pub use Rattle.esc_apply.specs.declared.front.Step.{Step}
-pub use Rattle.esc_apply.specs.declared.registry.Targets.{Targets}
+pub use Rattle.esc_apply.specs.declared.registry.Keys.{Keys}
 pub use Rattle.esc_envelope.specs.KindLaws.{one_kind}
 pub use Rattle.esc_envelope.specs.Kinds.{kind_rank}
 pub use Rattle.esc_envelope.specs.declared.kind.Kind.{Kind}
@@ -37,33 +37,34 @@ pub use Rattle.esc_envelope.specs.declared.kind.Kind.TheVariants.{Registrar, Con
 pub use Rattle.esc_manifest.specs.ManifestRows.{no_row}
 pub use Rattle.esc_manifest.specs.declared.row.MRow.{MRow}
 pub use Rattle.esc_record.specs.Record.{record_of}
-pub use Rattle.esc_rows.specs.Changes.{receipt_of, ObjectEntry, ImageEntry, is_entry_at, entry_at, Tells, last_number, ListsRows, Becomes, verdict_digests, GainsImages, GainsObjects, body_of}
-pub use Rattle.esc_rows.specs.Content.{Content, object_at, content_in, image_at, HoldsContent, parked_at}
-pub use Rattle.esc_rows.specs.ContentIs.{content_is}
-pub use Rattle.esc_rows.specs.Creation.{TellsVersion}
-pub use Rattle.esc_rows.specs.Entries.{step_row, new_entry, new_image, image_of, object_of, receipt_row, listed_row as stored_listed}
-pub use Rattle.esc_rows.specs.Part.{IsPart, IsRead}
-pub use Rattle.esc_rows.specs.ResultLaws.{if_goes}
-pub use Rattle.esc_rows.specs.Rows.{ObjectRow, ReceiptRow, StepRow, ListedRow, listed_number}
-pub use Rattle.esc_rows.specs.Schema.{info_tree}
-pub use Rattle.esc_rows.specs.declared.object.NewObject.{NewObject}
-pub use Rattle.esc_rows.specs.declared.receipt.Receipt.{Receipt}
-pub use Rattle.esc_rows.specs.declared.step.ChainStep.{ChainStep}
+pub use Rattle.esc_sql.specs.Changes.{receipt_of, ObjectEntry, ImageEntry, is_entry_at, entry_at, Tells, last_number, ListsRows, Becomes, verdict_digests, GainsImages, GainsObjects, body_of}
+pub use Rattle.esc_sql.specs.Content.{Content, object_at, content_in, image_at, HoldsContent, parked_at}
+pub use Rattle.esc_sql.specs.ContentIs.{content_is}
+pub use Rattle.esc_sql.specs.Creation.{TellsVersion}
+pub use Rattle.esc_sql.specs.Entries.{step_row, new_entry, new_image, image_of, object_of, receipt_row, listed_row as stored_listed}
+pub use Rattle.esc_sql.specs.Part.{IsPart, IsRead}
+pub use Rattle.esc_sql.specs.ResultLaws.{if_goes}
+pub use Rattle.esc_sql.specs.Rows.{ObjectRow, ReceiptRow, StepRow, ListedRow, listed_number}
+pub use Rattle.esc_sql.specs.Schema.{info_tree}
+pub use Rattle.esc_sql.specs.declared.object.NewObject.{NewObject}
+pub use Rattle.esc_sql.specs.declared.receipt.Receipt.{Receipt}
+pub use Rattle.esc_sql.specs.declared.step.ChainStep.{ChainStep}
 pub use Rattle.esc_store.specs.ChangeParts.{ContinuesSteps}
 pub use Rattle.esc_store.specs.Decoded.{tallies, AreObjectsOf, AreImagesOf, AreOnce}
 pub use Rattle.esc_store.specs.Filling.{after_filling, after_noting, image_now, AreFree}
 pub use Rattle.esc_store.specs.FirstVersion.{IsFirstDatabase}
-pub use Rattle.esc_store.specs.Kept.{AreCounts, step_at, Kept, fresh, with_listed, with_parked, AreParked, with_body}
+pub use Rattle.esc_store.specs.StoreState.{AreCounts, step_at, StoreState, fresh, with_listed, with_parked, AreParked, with_body}
 pub use Rattle.esc_store.specs.ListLaws.{any_weaker}
 pub use Rattle.esc_store.specs.Opening.{IsSettled}
 pub use Rattle.esc_store.specs.Pages.{entry_row, stored_row, AreRowsOf}
+pub use Rattle.esc_store.specs.Remembered.{IsRemembered, nothing_read}
 pub use Rattle.esc_store.specs.ReplyValue.{ReceiptValue, ReplyValue, replies_from, reply_alike}
 pub use Rattle.esc_store.specs.ResultLaws.{if_ok}
-pub use Rattle.esc_store.specs.Standing.{IsAtRest, RestsAt, AreCountsOf, IsStanding, IsBegun, IsMade, IsUnderWay, ChangeOf, Follows, IsStep, IsUncommitted, IsChangePart, listed_by, IsLook, IsStoreRead, IsTold, IsHonest, HoldsNow, store_in, Settles}
+pub use Rattle.esc_store.specs.Representation.{IsAtRest, IsAtRestIfClean, IsStanding, IsBegun, IsMade, IsUnderWay, ChangeOf, Follows, IsStep, IsUncommitted, IsChangePart, listed_by, IsLook, IsStoreRead, IsTold, IsHonest, HasMadeTables, store_in, Settles}
 pub use Rattle.esc_store.specs.StandingLaws.{was_clean, goes_then, survives_same}
 pub use Rattle.esc_store.specs.StoreTables.{IsStoreDatabase, HoldsTables}
 pub use Rattle.esc_store.specs.TypedRows.{record_at, IsRegistry, receipts_from, steps_from, IsBooks, kind_at, image_kept, listed_from, listed_row, verdict_number}
-pub use Rattle.esc_store.specs.declared.counts.KindCounts.{KindCounts}
+pub use Rattle.esc_store.specs.declared.remembered.Remembered.{Remembered}
 pub use Rattle.esc_store.specs.declared.fault.SFault.{SFault}
 pub use Rattle.esc_store.specs.declared.reply.Verdict.{Verdict}
 pub use Rattle.esc_store.specs.declared.reply.Verdict.TheVariants.{A2}
@@ -74,7 +75,7 @@ pub use Rattle.esc_tables.specs.ObjectValue.{ObjectValue}
 pub use Rattle.std.proofs.Common.{IfOk}
 pub use Rattle.std.proofs.lemmas.Option.{same_Some}
 pub use Rattle.sqlite.specs.State.{State as ConnState}
-pub use Rattle.esc_rows.specs.StoreTable.{Objects, Undo}
-pub use Rattle.esc_rows.specs.Entries.{listed_row as stored_listed}
-unfoldable pub use Rattle.esc_store.specs.Standing.{Stands, BeganIn, RestIn, HoldsIn, HoldsKept, LeavesOr, LeavesOnly}
+pub use Rattle.esc_sql.specs.StoreTable.{Objects, Undo}
+pub use Rattle.esc_sql.specs.Entries.{listed_row as stored_listed}
+unfoldable pub use Rattle.esc_store.specs.Representation.{Represents, BeganIn, HasMadeBooksIn, HasMadeTablesIn, HoldsKept, LeavesOr, LeavesOnly}
 unfoldable pub use Rattle.esc_store.specs.StoreTables.{IsStore}

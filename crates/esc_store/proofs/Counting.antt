@@ -10,10 +10,10 @@ use Rattle.sqlite_keyed.proofs.ListLemmas.{map_back, all_map, all_both, ascendin
 use Rattle.sqlite_keyed.proofs.SliceLemmas.{any_is_found, is_some-map}
 use Rattle.esc_apply.specs.Registry.{HasSize}
 use Rattle.esc_bundle.specs.ListLaws.{list_any_map}
-use Rattle.esc_rows.specs.Content.{is_object_at}
-use Rattle.esc_rows.specs.Changes.{HaveOwnKeys, ListsKinds}
+use Rattle.esc_sql.specs.Content.{is_object_at}
+use Rattle.esc_sql.specs.Changes.{HaveOwnKeys, ListsKinds}
 use Rattle.esc_store.specs.Decoded.{times}
-use Rattle.esc_store.specs.Kept.{of_kind}
+use Rattle.esc_store.specs.StoreState.{of_kind}
 use Rattle.esc_tables.specs.KeyLaws.{one_key}
 use Rattle.esc_store.proofs.Gathering.{record_here}
 use Rattle.esc_store.proofs.Registries.{same_tests}

@@ -2,7 +2,7 @@
 use Rattle.esc_store.proofs.Common.{◌≡◌, ℕ, suc, ◌+◌, ◌<◌, List, [], ◌∷◌, ◌++◌, length, take, get_or, map, Option, None, Some, refl, sym, ap, ◌∙◌, arith, inl, inr, cases_Bool, ap₂, map_more}
 use Rattle.esc_store.proofs.Common.{MRow, Step, ReceiptRow, StepRow, receipt_of, Receipt, ChainStep, step_row, A2, step_at, ReceiptValue, ReplyValue, replies_from, reply_alike, receipts_from, steps_from}
 use Rattle.std.specs.Option.{MatchOption}
-use Rattle.esc_rows.specs.Entries.{receipt_row as stored_row}
+use Rattle.esc_sql.specs.Entries.{receipt_row as stored_row}
 use Rattle.esc_store.specs.ReplyValue.{reply_kept, is_alike}
 use Rattle.esc_store.specs.TypedRows.{receipt_row}
 use Rattle.esc_store.proofs.RowSteps.{step_nth, same_length}

@@ -1,14 +1,14 @@
 -- Rows of objects that are put many at a time, after what their keys had is noted.
 use Rattle.esc_store.proofs.Common.{◌≡◌, ℕ, Bool, true, false, cond, ◌&&◌, List, [], ◌∷◌, ◌++◌, map, Option, None, Some, is_some, refl, sym, ap, subst, ◌∙◌, arith, ◌<◌, ◌+◌, length, drop, get_or, ◌==◌, same_key}
 use Rattle.esc_store.proofs.Common.{IsSome, IfSome, cases_Bool, inl, inr, option_or, unwrap_or, AllByRecursion, All-from_recursion, get_or-map, length-map, lookup, keys_of, append-nil, map-append, kind_rank, option_and_then}
-use Rattle.esc_store.proofs.Common.{KeyName, key_eq, keys_alike, ObjectValue, record_of, Entry, State, Targets, with_object, CanBePut, Content, NewObject, new_entry, ObjectEntry, drop_more, Ghosts}
+use Rattle.esc_store.proofs.Common.{KeyName, key_eq, keys_alike, ObjectValue, record_of, Entry, State, Keys, with_object, CanBePut, Content, NewObject, new_entry, ObjectEntry, drop_more, Ghosts}
 use Rattle.esc_store.proofs.Common.{ImageEntry, is_entry_at, entry_at, entry_row, stored_row, AreRowsOf, kind_at, record_at, IsRegistry, after_filling, after_noting, image_now, ChangeOf, Follows, goes_then, map_push, GainsObjects, GainsImages, AreFree, Objects, Undo}
 use Rattle.std.proofs.Common.{append_assoc, All}
 use Rattle.esc_apply.specs.Changes.{Change, AreNew}
 pub use Rattle.esc_apply.specs.ChangeLaws.{Fills, fills_more, fills_last, Returns, returns_last, written_by-noted}
 use Rattle.esc_apply.specs.ChangeLaws.{content-changed_by, undo-new}
-use Rattle.esc_rows.specs.Changes.{image_entry_at}
-use Rattle.esc_apply.specs.declared.registry.Targets.TheVariants.{Free, Any}
+use Rattle.esc_sql.specs.Changes.{image_entry_at}
+use Rattle.esc_apply.specs.declared.registry.Keys.TheVariants.{Vacant, Unknown}
 use Rattle.std.proofs.lemmas.List.Elements.{All-head, All-get_or}
 pub use Rattle.esc_store.proofs.Parking.{follows_same}
 use Rattle.esc_store.proofs.Gathering.{tests_alike}
@@ -71,20 +71,20 @@ free_each s (e ∷ es) (r ∷ rows) are free =
     (rw (kinds, texts) (record_here s.content e.0 ∙ ap (option_and_then record_of) free.0), free_each s es rows others free.1)
 free_each s [] (r ∷ rows) are free = let no = are.same in absurd cc
 
-pub free_rows : (targets : Targets) (s : State) (step : ℕ) {es : List Entry} {rows : List ObjectEntry} → AreRowsOf es rows → CanBePut targets s step (map with_object es) → AreFree targets s rows
-free_rows Free s step {es} {rows} are can is = All-from_recursion (HasNone s) rows (free_each s es rows are can.free)
-free_rows Any s step are can is = absurd cc
+pub free_rows : (targets : Keys) (s : State) (step : ℕ) {es : List Entry} {rows : List ObjectEntry} → AreRowsOf es rows → CanBePut targets s step (map with_object es) → AreFree targets s rows
+free_rows Vacant s step {es} {rows} are can is = All-from_recursion (HasNone s) rows (free_each s es rows are can.free)
+free_rows Unknown s step are can is = absurd cc
 
-pub one_free : (targets : Targets) (s : State) (step : ℕ) (e : Entry) (r : ObjectEntry) → entry_row e ≡ stored_row r → CanBePut targets s step (with_object e ∷ []) → targets ≡ Free → HasNone s r
+pub one_free : (targets : Keys) (s : State) (step : ℕ) (e : Entry) (r : ObjectEntry) → entry_row e ≡ stored_row r → CanBePut targets s step (with_object e ∷ []) → targets ≡ Vacant → HasNone s r
 one_free targets s step e r same can is = All-head (HasNone s) r [] (free_rows targets s step {es = e ∷ []} {rows = r ∷ []} (record { same = ap (λ (t : RowOf). t ∷ []) same }) can is)
 
 pub row_free : (s : State) (rows : List NewObject) (at : ℕ) (r : NewObject) → at < length rows → r ≡ get_or rows at r → All (HasNone s) (map new_entry rows) → HasNone s (new_entry r)
 row_free s rows at r lt is all = subst (HasNone s) (get_or-map new_entry rows at r (new_entry r) lt ∙ ap new_entry (sym is))
     (All-get_or (HasNone s) (map new_entry rows) at (new_entry r) (omega (arith, lt, length-map rows new_entry)) all)
 
-pub is_new : (targets : Targets) (s : State) (step : ℕ) (es : List Entry) → CanBePut targets s step (map with_object es) → AreNew s step (map with_object es)
-is_new Free s step es can = can.new
-is_new Any s step es can = can
+pub is_new : (targets : Keys) (s : State) (step : ℕ) (es : List Entry) → CanBePut targets s step (map with_object es) → AreNew s step (map with_object es)
+is_new Vacant s step es can = can.new
+is_new Unknown s step es can = can
 
 -- ---- rows put at once
 
@@ -153,7 +153,7 @@ module _ {L : List Change → Type 0} where
     last (e ∷ es) are left = let no = are.same in absurd cc
 
 -- all rows are put
-pub filling_all : (Before After : State → Type 0) {targets : Targets} {end : State} {step : ℕ} {rows all left : List NewObject} {after : List Entry} → all ≡ rows → left ≡ [] → Pending (Fills Before targets end step) (map new_entry rows) after
+pub filling_all : (Before After : State → Type 0) {targets : Keys} {end : State} {step : ℕ} {rows all left : List NewObject} {after : List Entry} → all ≡ rows → left ≡ [] → Pending (Fills Before targets end step) (map new_entry rows) after
     → ((t : State) (es : List Entry) → AreRowsOf es (map new_entry all) → CanBePut targets t step (map with_object es) → Before t → After (after_filling t step es)) → Pending (Fills After targets end step) (map new_entry left) after
 filling_all Before After {targets} {end} {step} {after = after} same none going put = pending_none none refl
     (fills_more Before After targets end step (map with_object going.entries) (map with_object after) (map with_object (going.entries ++ after)) (map-append with_object going.entries after) going.left

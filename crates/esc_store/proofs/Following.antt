@@ -1,5 +1,5 @@
 -- What a call within a change keeps of the change, what it makes of it, and what a read says.
-use Rattle.esc_store.proofs.Common.{◌≡◌, true, false, List, Option, Some, refl, sym, ap, subst, ◌∙◌, IsTrue, Result, Ok, Err, OnOk, both_ways, unwrap_or, Ghosts, Database, Held, state, HasCleanDisk, Survives, KeepsCommit, MRow, Content, IsPart, SFault, Store, Kept, BeganIn, RestIn, HoldsIn}
+use Rattle.esc_store.proofs.Common.{◌≡◌, true, false, List, Option, Some, refl, sym, ap, subst, ◌∙◌, IsTrue, Result, Ok, Err, OnOk, both_ways, unwrap_or, Ghosts, Database, Held, state, HasCleanDisk, Survives, KeepsCommit, MRow, Content, IsPart, SFault, Store, StoreState, BeganIn, HasMadeBooksIn, HasMadeTablesIn}
 use Rattle.esc_store.proofs.Common.{IsBooks, IsRegistry, ChangeOf, IsStoreDatabase, IsStep, IsUncommitted, IsChangePart, listed_by, on_ok_weaker, Follows, IfOk-at_ok, was_clean, if_ok, State as Tables, content_in, Tells, IsLook, IsStoreRead}
 use Rattle.sqlite.specs.State.{State}
 use Rattle.esc_store.proofs.Ends.{begun_committed}
@@ -55,7 +55,7 @@ module _ {S : Type 0} {g : Ghosts S} {X E : Type 0} {old new : Store S} {R : Con
   clean_before : HasCleanDisk (state g new.conn) → HasCleanDisk (state g old.conn)
   clean_before = was_clean move.pass.survives
 
-  begun_step : (k : Kept) → BeganIn g old k → BeganIn g new k
+  begun_step : (k : StoreState) → BeganIn g old k → BeganIn g new k
   unfolding BeganIn
   begun_step k begun = record {
     listed = move.manifest ∙ begun.listed;
@@ -68,9 +68,9 @@ module _ {S : Type 0} {g : Ghosts S} {X E : Type 0} {old new : Store S} {R : Con
   }
 
   -- what is made of what was kept, where the rows that are listed are those of it
-  made_as : (l l' : Option (List MRow)) {k k' : Kept} → (unwrap_or l old.manifest ≡ k.listed → unwrap_or l' new.manifest ≡ k'.listed) → ((c c' : Content) → R c c' → IsBooks c k → IsBooks c' k')
-      → (before : Kept) → RestIn g old l before k → RestIn g new l' before k'
-  unfolding RestIn BeganIn
+  made_as : (l l' : Option (List MRow)) {k k' : StoreState} → (unwrap_or l old.manifest ≡ k.listed → unwrap_or l' new.manifest ≡ k'.listed) → ((c c' : Content) → R c c' → IsBooks c k → IsBooks c' k')
+      → (before : StoreState) → HasMadeBooksIn g old l before k → HasMadeBooksIn g new l' before k'
+  unfolding HasMadeBooksIn BeganIn
   made_as l l' listed turn before made = record {
     begun = begun_step before made.begun;
     listed = listed made.listed;
@@ -78,19 +78,19 @@ module _ {S : Type 0} {g : Ghosts S} {X E : Type 0} {old new : Store S} {R : Con
         turn _ _ (turns.by (made.begun.on (clean_before clean) was_on).2).1 (made.books (clean_before clean) was_on);
   }
 
-  pub made_then : (l : Option (List MRow)) {k k' : Kept} → k'.listed ≡ k.listed → ((c c' : Content) → R c c' → IsBooks c k → IsBooks c' k') → (before : Kept) → RestIn g old l before k → RestIn g new l before k'
+  pub made_then : (l : Option (List MRow)) {k k' : StoreState} → k'.listed ≡ k.listed → ((c c' : Content) → R c c' → IsBooks c k → IsBooks c' k') → (before : StoreState) → HasMadeBooksIn g old l before k → HasMadeBooksIn g new l before k'
   made_then l same = made_as l l (λ h. ap (unwrap_or l) move.manifest ∙ h ∙ sym same)
 
-  pub made_all : {F : Kept → Kept} (l : Option (List MRow)) → ((k : Kept) → (F k).listed ≡ k.listed) → ((k : Kept) (c c' : Content) → R c c' → IsBooks c k → IsBooks c' (F k))
-      → OnOk r ((before k : Kept) → RestIn g old l before k → RestIn g new l before (F k))
+  pub made_all : {F : StoreState → StoreState} (l : Option (List MRow)) → ((k : StoreState) → (F k).listed ≡ k.listed) → ((k : StoreState) (c c' : Content) → R c c' → IsBooks c k → IsBooks c' (F k))
+      → OnOk r ((before k : StoreState) → HasMadeBooksIn g old l before k → HasMadeBooksIn g new l before (F k))
   made_all l same turn = if_ok r _ (λ x is before k. made_then l (same k) (turn k) before)
 
   -- of a step that lists rows
-  pub listed_step : {k k' : Kept} → ((c c' : Content) → R c c' → IsBooks c k → IsBooks c' k') → (before : Kept) → RestIn g old (Some k.listed) before k → RestIn g new (Some k'.listed) before k'
+  pub listed_step : {k k' : StoreState} → ((c c' : Content) → R c c' → IsBooks c k → IsBooks c' k') → (before : StoreState) → HasMadeBooksIn g old (Some k.listed) before k → HasMadeBooksIn g new (Some k'.listed) before k'
   listed_step {k} {k'} = made_as (Some k.listed) (Some k'.listed) (λ _. refl)
 
-  pub holds_step : {s s' : Tables} {x : X} → r ≡ Ok x → ((c c' : Content) → R c c' → IsRegistry c s → IsRegistry c' s') → HoldsIn g old s → HoldsIn g new s'
-  unfolding HoldsIn
+  pub holds_step : {s s' : Tables} {x : X} → r ≡ Ok x → ((c c' : Content) → R c c' → IsRegistry c s → IsRegistry c' s') → HasMadeTablesIn g old s → HasMadeTablesIn g new s'
+  unfolding HasMadeTablesIn
   holds_step is turn goes clean =
       let was = goes (clean_before clean) in
       let on = IfOk-at_ok _ is (move.pass.stays clean) was.in_transaction in
@@ -98,7 +98,7 @@ module _ {S : Type 0} {g : Ghosts S} {X E : Type 0} {old new : Store S} {R : Con
       let now = turns.by was.tables_are in
       record { is_open = up; in_transaction = on; tables_are = now.0; registry = turn _ _ now.1 was.registry }
 
-  pub holds_all : {F : Tables → Tables} → ((s : Tables) (c c' : Content) → R c c' → IsRegistry c s → IsRegistry c' (F s)) → OnOk r ((s : Tables) → HoldsIn g old s → HoldsIn g new (F s))
+  pub holds_all : {F : Tables → Tables} → ((s : Tables) (c c' : Content) → R c c' → IsRegistry c s → IsRegistry c' (F s)) → OnOk r ((s : Tables) → HasMadeTablesIn g old s → HasMadeTablesIn g new (F s))
   holds_all turn = if_ok r _ (λ x is s. holds_step is (turn s))
 
 -- a part lists what was listed
@@ -111,7 +111,7 @@ module _ {S : Type 0} {g : Ghosts S} {X E : Type 0} {old : ChangeOf S} {new : St
   goes_step = record { same_reference = refl; manifest = move.manifest; writes = move.writes; survives = move.pass.survives; began = begun_step move }
 
   -- a part that lists no rows, and leaves the tables as they were
-  pub part_step : {F : Kept → Kept} → ((k : Kept) → (F k).listed ≡ k.listed) → ((k : Kept) (c c' : Content) → R c c' → IsBooks c k → IsBooks c' (F k)) → ((s : Tables) (c c' : Content) → R c c' → IsRegistry c s → IsRegistry c' s)
+  pub part_step : {F : StoreState → StoreState} → ((k : StoreState) → (F k).listed ≡ k.listed) → ((k : StoreState) (c c' : Content) → R c c' → IsBooks c k → IsBooks c' (F k)) → ((s : Tables) (c c' : Content) → R c c' → IsRegistry c s → IsRegistry c' s)
       → IsChangePart g old (record old { store = record old.store { now = new } }) r F
   part_step listed books tables = record {
     goes_on = goes_step;
@@ -120,7 +120,7 @@ module _ {S : Type 0} {g : Ghosts S} {X E : Type 0} {old : ChangeOf S} {new : St
     holds = holds_all move {F = λ s. s} tables;
   }
 
-  pub follows_step : ((k : Kept) (c c' : Content) → R c c' → IsBooks c k → IsBooks c' k) → Follows g old (record old { store = record old.store { now = new } })
+  pub follows_step : ((k : StoreState) (c c' : Content) → R c c' → IsBooks c k → IsBooks c' k) → Follows g old (record old { store = record old.store { now = new } })
   follows_step turn = record { goes_on = goes_step; listed = lists_same old move; rest = λ before k. made_then move old.listing refl (turn k) before }
 
 -- ---- reads
@@ -141,11 +141,11 @@ module _ {S : Type 0} {g : Ghosts S} {X E : Type 0} {old new : Store S} {P : Con
   moves_look : Moves g old new (Becoming (λ c. c)) r
   moves_look = record { manifest = read.manifest; writes = read.writes; pass = passes_look read.look }
 
-  pub holds_look : {x : X} → r ≡ Ok x → (s : Tables) → HoldsIn g old s → HoldsIn g new s
+  pub holds_look : {x : X} → r ≡ Ok x → (s : Tables) → HasMadeTablesIn g old s → HasMadeTablesIn g new s
   holds_look is s = holds_step moves_look is (λ _ _ turn. registry_same turn.is refl refl)
 
-  pub says_look : {s : Tables} {x : X} → r ≡ Ok x → HasCleanDisk (state g new.conn) → HoldsIn g old s → (c : Content) × IsRegistry c s × P c x × HoldsIn g new s
-  unfolding HoldsIn
+  pub says_look : {s : Tables} {x : X} → r ≡ Ok x → HasCleanDisk (state g new.conn) → HasMadeTablesIn g old s → (c : Content) × IsRegistry c s × P c x × HasMadeTablesIn g new s
+  unfolding HasMadeTablesIn
   says_look {s} is clean goes =
       let was = goes (was_clean read.look.survives clean) in
       let c = content_in (state g old.conn).now.trees in

@@ -5,7 +5,7 @@ use Rattle.sqlite.proofs.StateLemmas.{at_each}
 use Rattle.std.specs.List.{IsDistinct}
 use Rattle.std.proofs.lemmas.List.Folds.{find-append}
 use Rattle.esc_apply.specs.Registry.{IsEntriesOf}
-use Rattle.esc_rows.specs.Changes.{ListsObjects}
+use Rattle.esc_sql.specs.Changes.{ListsObjects}
 pub use Rattle.esc_store.proofs.Registries.{record_here}
 use Rattle.esc_store.proofs.Registries.{same_tests, AreAlone, one_object}
 

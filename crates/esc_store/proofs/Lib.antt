@@ -17,4 +17,6 @@ pub mod ReceiptRows
 pub mod Parking
 pub mod Lists
 pub mod Filled
+pub mod FoundRows
+pub mod RisingRows
 pub mod Survival

@@ -3,7 +3,7 @@ use Rattle.esc_store.proofs.Common.{◌≡◌, ℕ, suc, ◌+◌, ◌<◌, List,
 use Rattle.esc_store.proofs.Common.{◌≤◌, ap₂, take_more, map-append, IsKeyedBy, MRow, no_row, ListedRow, listed_number, listed_row, listed_from}
 use Rattle.esc_manifest.specs.declared.fault.MFault.{MFault}
 use Rattle.esc_manifest.specs.declared.fault.MFault.TheVariants.{Refused}
-use Rattle.esc_rows.specs.declared.listed.Listed.{Listed}
+use Rattle.esc_sql.specs.declared.listed.Listed.{Listed}
 use Rattle.esc_store.proofs.Numbered.{from_next, from_size, from_nth}
 
 -- what was accepted is what was given

@@ -1,23 +1,23 @@
 -- Databases that are found to be a store, or none.
 use Rattle.esc_store.proofs.Common.{◌≡◌, Bool, true, false, true≢false, not, List, [], ◌∷◌, slice_get, Option, Some, None, option_map, option_eq, int_eq, refl, sym, ap, subst, ◌∙◌, arith, IsTrue, ℤ, Row, column, Trees, Database, HasCleanDisk, Survives}
-use Rattle.esc_store.proofs.Common.{IsUnchanged, MRow, info_tree, Content, TellsVersion, Kept, IsStoreDatabase, IsSettled, IsStore, IsFirstDatabase, IsStanding, RestsAt, was_clean, ConnState as State}
+use Rattle.esc_store.proofs.Common.{IsUnchanged, MRow, info_tree, Content, TellsVersion, StoreState, IsStoreDatabase, nothing_read, IsSettled, IsStore, IsFirstDatabase, IsStanding, IsAtRestIfClean, was_clean, ConnState as State}
 use Rattle.std.proofs.lemmas.Bool.Decides.{Decides-int_eq}
 use Rattle.std.proofs.Common.{rules}
 use Rattle.sqlite_value.specs.declared.value.Value.TheVariants.{Int}
-use Rattle.esc_rows.specs.Schema.{IsOfSomeVersion}
+use Rattle.esc_sql.specs.Schema.{IsOfSomeVersion}
 use Rattle.esc_store.specs.FirstVersion.{IsFirstAtRest, IsFirstStore, IsOfFirstVersion, SeesFirst, LeavesFirstOr}
 use Rattle.esc_store.specs.StoreTables.{IsOfVersion}
-use Rattle.esc_store.proofs.Ends.{still_stands, unchanged_settled}
+use Rattle.esc_store.proofs.Ends.{none_remembered, still_stands, unchanged_settled}
 use Rattle.std.proofs.Common.{inl, inr, Result, Err, IfErr}
 use Rattle.sqlite_schema.specs.declared.schema.Schema.{Schema}
 use Rattle.sqlite_trees.specs.declared.store.Store.{Ghosts}
 use Rattle.sqlite.specs.Held.{Held, state}
-use Rattle.esc_rows.specs.Schema.{no_schema}
+use Rattle.esc_sql.specs.Schema.{no_schema}
 use Rattle.esc_store.specs.declared.fault.SFault.{SFault}
 use Rattle.esc_store.specs.declared.fault.SFault.TheVariants.{S1, S3}
 use Rattle.esc_store.specs.Faults.{IsS1OrS2, IsS1ToS3}
 use Rattle.esc_store.specs.Opening.{IsOpeningFault, IsFoundingFault}
-use Rattle.esc_store.specs.Standing.{LeavesOr}
+use Rattle.esc_store.specs.Representation.{LeavesOr}
 
 -- a database whose last commit is a store of a version has its tables
 pub tables_refused : (Has : Trees → Content → Type 0) (content : Trees → Content) {Holds : Content → Type 0} {Up : Type 0} {now committed : Database} {has : Bool} → (Up → (c : Content) → Has now.trees c → IsTrue has × Holds c)
@@ -41,30 +41,30 @@ pub at_rest : {b on : Bool} {P : Type 0} → b ≡ not on → (IsTrue b → P) �
 at_rest value settled t = (grind arith, settled t)
 
 -- what was read is what the store was
-pub opened : {old new : State} {m : List MRow} {k : Kept} → Survives old new (λ trees. ⊥) → IsUnchanged old new → (IsStoreDatabase old.now k → m ≡ k.listed) → RestsAt old k → HasCleanDisk new → IsStanding new m None k
+pub opened : {old new : State} {m : List MRow} {k : StoreState} → Survives old new (λ trees. ⊥) → IsUnchanged old new → (IsStoreDatabase old.now k → m ≡ k.listed) → IsAtRestIfClean old k → HasCleanDisk new → IsStanding new m nothing_read k
 opened {k = k} survives unchanged told rests clean =
     let was = rests (was_clean survives clean) unchanged.0.was_open in
-    still_stands {a = None} survives (λ _. record { was_open = λ _. unchanged.0.was_open; committed = λ _. unchanged.0.committed_is }) (λ _ _. unchanged_settled unchanged was)
-    (told (subst (λ db. IsStoreDatabase db k) (sym was.same) was.kept)) (λ clean up. (rests clean up).kept) refl (λ _. tt)
+    still_stands {a = nothing_read} survives (λ _. record { was_open = λ _. unchanged.0.was_open; committed = λ _. unchanged.0.committed_is }) (λ _ _. unchanged_settled unchanged was)
+    (told (subst (λ db. IsStoreDatabase db k) (sym was.same) was.kept)) (λ clean up. (rests clean up).kept) refl (λ _. none_remembered k)
 
 -- the store that the last commit is
-pub found : {old new : State} {m : List MRow} {k : Kept} → Survives old new (λ trees. ⊥) → IsUnchanged old new × IsOfVersion old.now → IsSettled old → (IsStoreDatabase old.now k → m ≡ k.listed)
-    → IsStore old.committed.trees k → HasCleanDisk new → IsStanding new m None k
+pub found : {old new : State} {m : List MRow} {k : StoreState} → Survives old new (λ trees. ⊥) → IsUnchanged old new × IsOfVersion old.now → IsSettled old → (IsStoreDatabase old.now k → m ≡ k.listed)
+    → IsStore old.committed.trees k → HasCleanDisk new → IsStanding new m nothing_read k
 unfolding IsStore
 found survives version settled told stored = opened survives version.0 told (λ clean up. let same = settled.1 up in search rules)
 
 -- ---- stores of version 1
 
 -- what a connection sees of a version 1 store that is at rest, or committed
-pub sees_rest : (s : State) {k : Kept} → (HasCleanDisk s → IsTrue s.is_open → IsFirstAtRest s k) → SeesFirst s k
+pub sees_rest : (s : State) {k : StoreState} → (HasCleanDisk s → IsTrue s.is_open → IsFirstAtRest s k) → SeesFirst s k
 sees_rest s rests clean up = let it = rests clean up in rw it.same it.kept.kept
 
-pub sees_committed : (s : State) {k : Kept} → IsSettled s → IsFirstStore s.committed.trees k → SeesFirst s k
+pub sees_committed : (s : State) {k : StoreState} → IsSettled s → IsFirstStore s.committed.trees k → SeesFirst s k
 unfolding IsFirstStore
 sees_committed s settled stored clean up = rw (settled.1 up) stored
 
 -- with its schema, once that was found
-pub tested : {old mid : State} {k : Kept} → Survives old mid (λ _. ⊥) → (HasCleanDisk mid → IsUnchanged old mid × IsOfFirstVersion old.now) → SeesFirst old k → HasCleanDisk mid → IsFirstDatabase mid.now k
+pub tested : {old mid : State} {k : StoreState} → Survives old mid (λ _. ⊥) → (HasCleanDisk mid → IsUnchanged old mid × IsOfFirstVersion old.now) → SeesFirst old k → HasCleanDisk mid → IsFirstDatabase mid.now k
 tested survives version sees clean = let it = version clean in rw it.0.0.now_is (record { schema = it.1.schema; kept = sees (was_clean survives clean) it.0.0.was_open })
 
 -- ---- why a database is not opened or made a store
@@ -86,7 +86,7 @@ pub used_fault : {db : Database} → (db.schema ≡ no_schema → ⊥) → IsFou
 used_fault used = record { kinds = inl refl; unused = λ is. cc; used = λ _. used }
 
 -- what a crash leaves of a store of version 1 that was just opened
-pub first_or : {S : Type 0} (g : Ghosts S) → ((s : S) (trees : Trees) → IsTrue (g.view s).is_open → g.recovers s trees → trees ≡ (g.view s).committed) → (old new : Held S) (k : Kept)
+pub first_or : {S : Type 0} (g : Ghosts S) → ((s : S) (trees : Trees) → IsTrue (g.view s).is_open → g.recovers s trees → trees ≡ (g.view s).committed) → (old new : Held S) (k : StoreState)
     → IsFirstStore (state g old).committed.trees k → LeavesOr g old new k → LeavesFirstOr g old new k
 unfolding LeavesOr
 first_or g settled old new k first survives = record {

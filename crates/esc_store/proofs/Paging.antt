@@ -9,7 +9,7 @@ use Rattle.std.proofs.lemmas.List.{length-take}
 use Rattle.sqlite_keyed.specs.Lists.{sort_by}
 use Rattle.sqlite_keyed.proofs.ListLemmas.{ascending-map, all_map, all_unmap}
 use Rattle.esc_apply.specs.ObjectStreams.{InOrder}
-use Rattle.esc_rows.specs.Changes.{object_entry, by_key, is_from, is_kind_from, is_up_to, last_key, ListsFrom}
+use Rattle.esc_sql.specs.Changes.{object_entry, by_key, is_from, is_kind_from, is_up_to, last_key, ListsFrom}
 use Rattle.esc_store.specs.declared.reads.TheConstants.{MOST_ON_PAGE}
 use Rattle.esc_store.specs.Pages.{IsPage, last_text, is_on_page}
 use Rattle.esc_store.proofs.Gathering.{tests_alike, same_records, record_here}

@@ -1,11 +1,11 @@
 -- What parts of a change do to parked bodies and to the moment.
 use Rattle.esc_store.proofs.Common.{◌≡◌, ℕ, ℤ, true, List, [], ◌∷◌, Option, None, Some, refl, sym, ap, subst, ◌∙◌, Result, Ok, IsSome, ◌↔◌, if◌then◌else◌, bytes_eq, Contains, nat_cmp, Less, slice_cmp, All-from_recursion, IfOk-at_ok, Ghosts}
-use Rattle.esc_store.proofs.Common.{IsAscending, Database, state, HasCleanDisk, MRow, Content, content_in, Store, Kept, with_parked, AreParked, IsBooks, ChangeOf, IsStep, IsStoreRead, Follows, survives_same}
-use Rattle.esc_store.proofs.Common.{was_clean, parked_at, RestIn}
-use Rattle.esc_rows.specs.Content.{moment_of}
-use Rattle.esc_rows.specs.Rows.{MomentRow}
-use Rattle.esc_rows.specs.Parked.{PutsParked, RemovesParked, ListsParked, SetsMoment, moment_row}
-use Rattle.esc_store.specs.Kept.{with_moment, AreRisingTexts}
+use Rattle.esc_store.proofs.Common.{IsAscending, Database, state, HasCleanDisk, MRow, Content, content_in, Store, StoreState, with_parked, AreParked, IsBooks, ChangeOf, IsStep, IsStoreRead, Follows, survives_same}
+use Rattle.esc_store.proofs.Common.{was_clean, parked_at, HasMadeBooksIn}
+use Rattle.esc_sql.specs.Content.{moment_of}
+use Rattle.esc_sql.specs.Rows.{MomentRow}
+use Rattle.esc_sql.specs.Parked.{PutsParked, RemovesParked, ListsParked, SetsMoment, moment_row}
+use Rattle.esc_store.specs.StoreState.{with_moment, AreRisingTexts}
 use Rattle.esc_store.proofs.Parts.{Turns, turning, Becoming, become_turns, books_as}
 
 -- under this digest there is this body, or none, and all else is as it was
@@ -19,14 +19,14 @@ park_turns digest body old new made = turning (λ tables. let m = made (content_
 pub unpark_turns : (digest : List ℕ) (old new : Database) → RemovesParked digest old new → Turns (SetsParked digest None) old new
 unpark_turns digest old new made = turning (λ tables. let m = made (content_in old.trees) tables in (record (content_in old.trees) { parked = m.0 }, m.1, record { only = refl; map_is = m.2 }))
 
-pub books_parked : (k : Kept) (digest : List ℕ) (w : Option (List ℕ)) (c c' : Content) → SetsParked digest w c c' → IsBooks c k → IsBooks c' (with_parked k digest w)
+pub books_parked : (k : StoreState) (digest : List ℕ) (w : Option (List ℕ)) (c c' : Content) → SetsParked digest w c c' → IsBooks c k → IsBooks c' (with_parked k digest w)
 books_parked k digest w c c' set books = books_as set.only books.listed books.receipts books.held
     (λ d. set.map_is d ∙ ap (λ o. if bytes_eq digest d then w else o) (books.parked d)) books.moment books.steps
 
 -- what is put was not there before
 pub was_free : {S X E : Type 0} (g : Ghosts S) (old new : Store S) (digest body : List ℕ) {r : Result X E} {x : X} → r ≡ Ok x → IsStep (state g old.conn) (state g new.conn) (PutsParked digest body) r → HasCleanDisk (state g new.conn)
-    → (listing : Option (List MRow)) (before k : Kept) → RestIn g old listing before k → k.parked digest ≡ None
-unfolding RestIn
+    → (listing : Option (List MRow)) (before k : StoreState) → HasMadeBooksIn g old listing before k → k.parked digest ≡ None
+unfolding HasMadeBooksIn
 was_free g old new digest body {r} {x} is step clean listing before k made =
     let m = IfOk-at_ok _ is (step.made clean) in
     let was = was_clean step.survives clean in
@@ -39,7 +39,7 @@ rising_texts : (ds : List (List ℕ)) → IsAscending (λ a b. slice_cmp nat_cmp
 rising_texts [] up = tt
 rising_texts (d ∷ ds) up = (All-from_recursion (λ e. slice_cmp nat_cmp d e ≡ Less) ds up.0, rising_texts ds up.1)
 
-pub are_parked : (k : Kept) (c : Content) (found : List (List ℕ)) → IsBooks c k → ListsParked c found → AreParked k.parked found
+pub are_parked : (k : StoreState) (c : Content) (found : List (List ℕ)) → IsBooks c k → ListsParked c found → AreParked k.parked found
 are_parked k c found books lists = record {
   rising = rising_texts found lists.rising;
   each = λ d. subst (λ (o : Option (List ℕ)). Contains found d ↔ IsSome o) (books.parked d) (lists.each d);
@@ -47,7 +47,7 @@ are_parked k c found books lists = record {
 
 -- ---- the moment
 
-pub books_moment : {rows : List MomentRow} {moment : Option ℤ} → moment_of rows ≡ moment → (k : Kept) (c c' : Content) → Becoming (λ c. record c { moment = rows }) c c' → IsBooks c k → IsBooks c' (with_moment k moment)
+pub books_moment : {rows : List MomentRow} {moment : Option ℤ} → moment_of rows ≡ moment → (k : StoreState) (c c' : Content) → Becoming (λ c. record c { moment = rows }) c c' → IsBooks c k → IsBooks c' (with_moment k moment)
 books_moment is k c c' turn books = books_as turn.is books.listed books.receipts books.held books.parked is books.steps
 
 pub moment_turns : (v : ℤ) (old new : Database) → SetsMoment v old new → Turns (Becoming (λ c. record c { moment = moment_row v ∷ [] })) old new
@@ -61,8 +61,8 @@ follows_same g c = record { goes_on = record { same_reference = refl; manifest =
 
 -- what a read in a change found is what the change keeps
 pub found_parked : {S X E : Type 0} {g : Ghosts S} {old new : Store S} {digest : List ℕ} (view : X → Option (List ℕ)) {r : Result X E} {x : X} → r ≡ Ok x → old.conn.in_transaction ≡ true
-    → IsStoreRead g old new (λ c found. view found ≡ parked_at digest c.parked) r → HasCleanDisk (state g new.conn) → (listing : Option (List MRow)) (before k : Kept) → RestIn g old listing before k → view x ≡ k.parked digest
-unfolding RestIn
+    → IsStoreRead g old new (λ c found. view found ≡ parked_at digest c.parked) r → HasCleanDisk (state g new.conn) → (listing : Option (List MRow)) (before k : StoreState) → HasMadeBooksIn g old listing before k → view x ≡ k.parked digest
+unfolding HasMadeBooksIn
 found_parked {g = g} {old} {new} {digest} view {r} {x} is on read clean listing before k made =
     let was = was_clean read.look.survives clean in
     let tables = (made.begun.on was on).2 in

@@ -1,11 +1,11 @@
 -- What a part of a change does to what the change has made.
 use Rattle.esc_store.proofs.Common.{◌≡◌, ◌∙◌, ℕ, List, refl, sym, ap, subst, Result, Ok, Err, IfErr, OnErr, IsErr, IfOk-at_ok, Ghosts, Database, state, HasCleanDisk, Survives, KeepsCommit, survives_then, parked_at, body_of, Settles}
-use Rattle.esc_store.proofs.Common.{Content, object_at, image_at, Becomes, listed_from, receipts_from, steps_from, content_in, HoldsContent, content_is, IsPart, IsRead, SFault, Store, Kept, IsBooks, IsRegistry, HoldsTables, IsStep, IsLook, was_clean, State as Tables}
+use Rattle.esc_store.proofs.Common.{Content, object_at, image_at, Becomes, listed_from, receipts_from, steps_from, content_in, HoldsContent, content_is, IsPart, IsRead, SFault, Store, StoreState, IsBooks, IsRegistry, HoldsTables, IsStep, IsLook, was_clean, State as Tables}
 use Rattle.std.specs.Prelude.{IfOk}
-use Rattle.esc_rows.specs.Content.{moment_of}
+use Rattle.esc_sql.specs.Content.{moment_of}
 use Rattle.sqlite.specs.State.{State}
 use Rattle.esc_store.specs.Faults.{IsS1OrS2}
-use Rattle.esc_store.specs.Standing.{IsGivenUp}
+use Rattle.esc_store.specs.Representation.{IsGivenUp}
 use Rattle.esc_store.proofs.Ends.{keeps_then}
 
 -- ---- from statements to steps
@@ -15,7 +15,7 @@ abbrev pub Settled : {S X D : Type 0} → Ghosts S → Store S → Store S → R
 Settled g before new outcome result = record {
   manifest : new.manifest ≡ before.manifest;
   writes : new.writes ≡ before.writes;
-  counted : new.counted ≡ before.counted;
+  remembered : new.remembered ≡ before.remembered;
   settled : Settles g before new outcome result;
   cause : IfErr result IsS1OrS2;
 }
@@ -66,7 +66,7 @@ pub become_turns : (change : Content → Content) (old new : Database) → Becom
 become_turns change old new made = turning (λ tables. (change (content_in old.trees), made (content_in old.trees) tables, record { is = refl }))
 
 -- what is kept, by each of its parts
-pub books_as : {k : Kept} {c d : Content} → c ≡ d → d.listed ≡ listed_from 0 k.listed → d.receipts ≡ receipts_from 1 k.receipts → ((row : ℕ) → body_of row d.held ≡ k.bodies row)
+pub books_as : {k : StoreState} {c d : Content} → c ≡ d → d.listed ≡ listed_from 0 k.listed → d.receipts ≡ receipts_from 1 k.receipts → ((row : ℕ) → body_of row d.held ≡ k.bodies row)
     → ((digest : List ℕ) → parked_at digest d.parked ≡ k.parked digest) → moment_of d.moment ≡ k.moment → d.steps ≡ steps_from 1 k.steps → IsBooks c k
 books_as {k} is listed receipts held parked moment steps =
     subst (λ x. IsBooks x k) (sym is) (record { listed = listed; receipts = receipts; held = held; parked = parked; moment = moment; steps = steps })

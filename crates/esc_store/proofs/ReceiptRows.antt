@@ -1,6 +1,6 @@
 -- What receipts say: of which rows the deposits are held, and of which bodies no row was listed.
 use Rattle.esc_store.proofs.Common.{◌≡◌, ◌↔◌, ◌⊎◌, inl, inr, ℕ, suc, ◌<◌, ◌==◌, true, List, [], ◌∷◌, ◌++◌, length, map, filter, Some, refl, sym, ap, subst, ◌∙◌, arith, eqb, true≢false, same_Some, IsSorted, Contains, Any, dedup}
-use Rattle.esc_store.proofs.Common.{nat_cmp, cases_Bool, get_or-map, length-map, eqb-true, ReceiptRow, Content, ListsRows, verdict_digests, any_weaker, Verdict, A2, AreOnce, Kept, ReceiptValue, verdict_number, receipts_from, IsBooks}
+use Rattle.esc_store.proofs.Common.{nat_cmp, cases_Bool, get_or-map, length-map, eqb-true, ReceiptRow, Content, ListsRows, verdict_digests, any_weaker, Verdict, A2, AreOnce, StoreState, ReceiptValue, verdict_number, receipts_from, IsBooks}
 use Rattle.std.specs.Prelude.{IsPermutation}
 use Rattle.std.specs.List.{AllPairs}
 use Rattle.std.proofs.lemmas.List.Elements.{All-from_get_or, Contains-append_left, Contains-append_right, Contains-append_cases}
@@ -8,10 +8,10 @@ use Rattle.std.proofs.lemmas.List.Kept.{AllPairs-from_increasing, Contains-dedup
 use Rattle.std.proofs.lemmas.List.Sorted.{IsPermutation-sym, Contains-permutation}
 use Rattle.std.proofs.lemmas.Map.Keys.{IsStrictlyIncreasing-dedup}
 use Rattle.std.proofs.lemmas.Bool.{eq-eqb}
-use Rattle.esc_rows.specs.Changes.{is_of_verdict}
+use Rattle.esc_sql.specs.Changes.{is_of_verdict}
 use Rattle.esc_store.specs.declared.reply.Verdict.TheVariants.{A1, A5}
 use Rattle.esc_store.specs.Decoded.{IsOfVerdict, AreOfVerdict}
-use Rattle.esc_store.specs.Kept.{IsRising, SaysHeld, AreHeldBy, is_unlisted, TellsUnlisted, AreUnlisted}
+use Rattle.esc_store.specs.StoreState.{IsRising, SaysHeld, AreHeldBy, is_unlisted, TellsUnlisted, AreUnlisted}
 use Rattle.esc_store.specs.TypedRows.{receipt_row}
 use Rattle.esc_store.specs.ListLaws.{first_or_later, later, any_first, any_later, any_split}
 
@@ -59,7 +59,7 @@ is_a1 : (v : Verdict) → verdict_number v ≡ 1 → v ≡ A1
 is_a1 A1 is = refl
 is_a1 _ is = absurd (omega (arith, is))
 
-pub are_held_by : (k : Kept) (c : Content) (numbers rows : List ℕ) → IsBooks c k → ListsRows 1 c numbers → AreOnce numbers rows → AreHeldBy k.receipts rows
+pub are_held_by : (k : StoreState) (c : Content) (numbers rows : List ℕ) → IsBooks c k → ListsRows 1 c numbers → AreOnce numbers rows → AreHeldBy k.receipts rows
 are_held_by k c numbers rows books lists once = record { rising = once.rising; each = each } where
   each : (row : ℕ) → Contains rows row ↔ Any (SaysHeld row) k.receipts
   each row =
@@ -70,7 +70,7 @@ are_held_by k c numbers rows books lists once = record { rising = once.rising; e
 -- ---- the digests of the receipts of a verdict, and of bodies that no row listed
 
 -- of one verdict
-pub are_of_verdict : (v : ℕ) (k : Kept) (c : Content) (digests : List (List ℕ)) → IsBooks c k → digests ≡ verdict_digests v c.receipts → AreOfVerdict v k.receipts digests
+pub are_of_verdict : (v : ℕ) (k : StoreState) (c : Content) (digests : List (List ℕ)) → IsBooks c k → digests ≡ verdict_digests v c.receipts → AreOfVerdict v k.receipts digests
 are_of_verdict v k c digests books is d = subst (λ ds. Contains ds d ↔ Any (IsOfVerdict v d) k.receipts) (sym (is ∙ ap (verdict_digests v) books.receipts)) (said (λ r. r.digest) v d (IsOfVerdict v d) (λ n r. (λ it. it, λ it. it)) 1 k.receipts)
 
 is_told : (w : Verdict) → (is_unlisted w ≡ true) ↔ ((verdict_number w ≡ 2) ⊎ (verdict_number w ≡ 5))

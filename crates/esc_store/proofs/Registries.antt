@@ -1,7 +1,7 @@
 -- What the statements on objects and before-images do to tables and before-images by keys.
 use Rattle.esc_store.proofs.Common.{◌≡◌, ℕ, Bool, true, false, cond, List, [], ◌++◌, Option, None, Some, refl, sym, ap, ap₂, subst, ◌∙◌, arith, ◌==◌, ◌&&◌, if◌then◌else◌, option_map, IsSome, IfSome, option_and_then, eqb-true}
 use Rattle.esc_store.proofs.Common.{nat_tests, bytes_eq-Decides, Database, Kind, Registrar, kind_rank, one_kind, KeyName, key_eq, ObjectValue, record_of, append-nil, State, Befores}
-use Rattle.esc_store.proofs.Common.{written, noted, ObjectRow, Content, content_in, HoldsContent, object_at, image_at, Kept, kind_at, record_at, image_kept, IsBooks, IsRegistry, Undo}
+use Rattle.esc_store.proofs.Common.{written, noted, ObjectRow, Content, content_in, HoldsContent, object_at, image_at, StoreState, kind_at, record_at, image_kept, IsBooks, IsRegistry, Undo}
 use Rattle.std.proofs.lemmas.Option.{same_Some}
 use Rattle.std.proofs.lemmas.Bool.{false_from_ne_true}
 use Rattle.std.proofs.lemmas.Bool.Decides.{same_from_decides, Decides-and, Decides-eqb}
@@ -9,10 +9,10 @@ use Rattle.std.specs.Bool.{Decides}
 use Rattle.esc_apply.specs.Registry.{nothing, with_key, taken}
 use Rattle.esc_apply.specs.Registry.{Content as Objects}
 use Rattle.esc_tables.specs.KeyLaws.{key_itself, one_key as same_key}
-use Rattle.esc_rows.specs.Content.{is_same_key, is_same_image, rows_of, with_rows}
-use Rattle.esc_rows.specs.StoreTable.{StoreTable, RowOf, Objects as ObjectTable}
-use Rattle.esc_rows.specs.Changes.{PutsImage}
-use Rattle.esc_rows.specs.Rows.{UndoRow}
+use Rattle.esc_sql.specs.Content.{is_same_key, is_same_image, rows_of, with_rows}
+use Rattle.esc_sql.specs.StoreTable.{StoreTable, RowOf, Objects as ObjectTable}
+use Rattle.esc_sql.specs.Changes.{PutsImage}
+use Rattle.esc_sql.specs.Rows.{UndoRow}
 use Rattle.esc_store.specs.TypedRows.{at_key}
 pub use Rattle.esc_store.proofs.Following.{moved, follows_step, holds_step, holds_all, become_turns}
 use Rattle.esc_store.proofs.Parts.{Turns, turning, books_as}
@@ -82,7 +82,7 @@ pub record Replaces (t : StoreTable) (P : List (RowOf t) → List (RowOf t) → 
 pub replacing : (t : StoreTable) (P : List (RowOf t) → List (RowOf t) → Type 0) (old new : Database) → ((c : Content) → HoldsContent old c → (rows : List (RowOf t)) × HoldsContent new (with_rows c t rows) × P (rows_of c t) rows) → Turns (Replaces t P) old new
 replacing t P old new made = turning (λ tables. let m = made (content_in old.trees) tables in (with_rows (content_in old.trees) t m.0, m.1, record { rows = m.0; only = refl; are = m.2 }))
 
-pub books_stay : {k : Kept} {os : List ObjectRow} {us : List UndoRow} {c c' : Content} → c' ≡ record c { objects = os; undo = us } → IsBooks c k → IsBooks c' k
+pub books_stay : {k : StoreState} {os : List ObjectRow} {us : List UndoRow} {c c' : Content} → c' ≡ record c { objects = os; undo = us } → IsBooks c k → IsBooks c' k
 books_stay only books = books_as only books.listed books.receipts books.held books.parked books.moment books.steps
 
 -- ---- what the rows at a key say

@@ -1,7 +1,7 @@
 -- What parts do to rows, receipts, bodies and steps.
 use Rattle.esc_store.proofs.Common.{◌≡◌, ℕ, zero, suc, take, get_or, ◌+◌, ◌<◌, ◌≤◌, Bool, true, false, filter, List, Option, [], ◌∷◌, ◌++◌, length, map, None, Some, refl, sym, ap, subst, ◌∙◌, arith, Result, Ok, pos, ◌<ℤ◌}
 use Rattle.esc_store.proofs.Common.{ℤ, int_eq, ◌==◌, if◌then◌else◌, option_map, is_some, AllByRecursion, ints, append-nil, length-map, length-take-le, get_or-map, ChainStep, Step, step_row, Database, HasCleanDisk, survives_then}
-use Rattle.esc_store.proofs.Common.{IsKeyedBy, insert_by, cases_Bool, inl, inr, Less, nat_tests, IfOk-at_ok, on_ok_weaker, KeepsCommit, Survives, true≢false, ReceiptRow, StepRow, Content, content_in, HoldsContent, Tells, Becomes, last_number, Kept, with_body, ReceiptValue, IsBooks}
+use Rattle.esc_store.proofs.Common.{IsKeyedBy, insert_by, cases_Bool, inl, inr, Less, nat_tests, IfOk-at_ok, on_ok_weaker, KeepsCommit, Survives, true≢false, ReceiptRow, StepRow, Content, content_in, HoldsContent, Tells, Becomes, last_number, StoreState, with_body, ReceiptValue, IsBooks}
 use Rattle.esc_store.proofs.Common.{receipts_from, steps_from, ContinuesSteps, IsStep, IsLook, was_clean, body_of}
 use Rattle.std.proofs.Common.{ltb, append_assoc, Ordering, Equal, Greater, int_cmp}
 use Rattle.sqlite.specs.State.{State}
@@ -10,10 +10,10 @@ use Rattle.sqlite_keyed.proofs.KeyedLemmas.{same_int, lt_from_Less}
 use Rattle.std.specs.Ordering.{match_ordering}
 use Rattle.std.proofs.lemmas.Cmp.{int_ranked}
 use Rattle.std.proofs.lemmas.Bool.{lt-ltb, le-ltb, ltb-true}
-use Rattle.esc_rows.specs.StoreTable.{Receipts}
-use Rattle.esc_rows.specs.Rows.{HeldRow, receipt_number, held_number}
-use Rattle.esc_rows.specs.Changes.{AddsReceipt, AddsStep, HoldsBody, steps_before}
-use Rattle.esc_store.specs.Kept.{with_receipt, with_steps}
+use Rattle.esc_sql.specs.StoreTable.{Receipts}
+use Rattle.esc_sql.specs.Rows.{HeldRow, receipt_number, held_number}
+use Rattle.esc_sql.specs.Changes.{AddsReceipt, AddsStep, HoldsBody, steps_before}
+use Rattle.esc_store.specs.StoreState.{with_receipt, with_steps}
 use Rattle.esc_store.specs.TypedRows.{receipt_row}
 use Rattle.esc_store.specs.ChangeParts.{next_number, with_next_receipt, AddsNext, with_steps_from}
 use Rattle.esc_store.proofs.Ends.{keeps_then}
@@ -56,7 +56,7 @@ step_next old mid new r last v row y z on look is row_is step =
         let next : row ≡ receipt_row (next_number c) v = row_is ∙ ap (λ n. receipt_row (n + 1) v) (s.0 c h) in
         (rw next at (added c there)) (below_next c.receipts (next_number c) (h.store.ordered Receipts) refl)
 
-pub books_receipt : (k : Kept) (r : ReceiptValue) (c c' : Content) → Becoming (with_next_receipt r) c c' → IsBooks c k → IsBooks c' (with_receipt k r)
+pub books_receipt : (k : StoreState) (r : ReceiptValue) (c c' : Content) → Becoming (with_next_receipt r) c c' → IsBooks c k → IsBooks c' (with_receipt k r)
 books_receipt k r c c' turn books = books_as turn.is books.listed
     (ap (λ (rs : List ReceiptRow). rs ++ receipt_row (last_number rs + 1) r ∷ []) books.receipts ∙ sym (from_append receipt_row receipts_from (λ _. refl) (λ _ _ _. refl) 1 _ k.receipts (r ∷ []) (ap (λ n. n + 1) (sym (counted k.receipts)))))
     books.held books.parked books.moment books.steps
@@ -82,7 +82,7 @@ with_held_row h c = record c { held = insert_by held_number c.held h }
 pub held_turns : (h : HeldRow) (old new : Database) → HoldsBody h old new → Turns (Becoming (with_held_row h)) old new
 held_turns h old new made = turning (λ tables. (with_held_row h (content_in old.trees), (made (content_in old.trees) tables).0, record { is = refl }))
 
-pub books_held : (k : Kept) (h : HeldRow) (c c' : Content) → Becoming (with_held_row h) c c' → IsBooks c k → IsBooks c' (with_body k h.row h.body)
+pub books_held : (k : StoreState) (h : HeldRow) (c c' : Content) → Becoming (with_held_row h) c c' → IsBooks c k → IsBooks c' (with_body k h.row h.body)
 books_held k h c c' turn books = books_as turn.is books.listed books.receipts body books.parked books.moment books.steps where
   body : (n : ℕ) → body_of n (insert_by held_number c.held h) ≡ (if n == h.row then Some h.body else k.bodies n)
   body n =
@@ -126,7 +126,7 @@ all_below at m (s ∷ ss) rows h = elim (cases_Bool (ltb s.pos at)) [
   | inr past ↦ rw past (all_below at m ss rows h)
 ]
 
-pub books_steps : (k : Kept) (front at : ℕ) (rows : List ℕ) → at ≡ front + 1 → front ≤ length k.steps → (c c' : Content) → Becoming (with_steps_from at rows) c c' → IsBooks c k → IsBooks c' (with_steps k (take front k.steps ++ rows))
+pub books_steps : (k : StoreState) (front at : ℕ) (rows : List ℕ) → at ≡ front + 1 → front ≤ length k.steps → (c c' : Content) → Becoming (with_steps_from at rows) c c' → IsBooks c k → IsBooks c' (with_steps k (take front k.steps ++ rows))
 books_steps k front at rows at_is within c c' turn books = books_as turn.is books.listed books.receipts books.held books.parked books.moment
     (ap (λ (ss : List StepRow). filter (λ (s : StepRow). ltb s.pos at) ss ++ steps_from at rows) books.steps
     ∙ (ap (λ (ss : List StepRow). ss ++ steps_from at rows) (front_before 1 front at k.steps (omega (arith, at_is)))

@@ -2,8 +2,8 @@
 use Rattle.std.specs.Prelude.{◌≡◌, ◌≤◌, ◌+◌, ℕ, true, List, [], ◌∷◌, ◌++◌}
 use Rattle.sqlite.specs.Effect.{Database}
 use Rattle.sqlite.specs.State.{State}
-use Rattle.esc_rows.specs.Content.{Content, HoldsContent}
-use Rattle.esc_rows.specs.Changes.{Becomes, last_number, steps_before}
+use Rattle.esc_sql.specs.Content.{Content, HoldsContent}
+use Rattle.esc_sql.specs.Changes.{Becomes, last_number, steps_before}
 use Rattle.esc_store.specs.declared.books.TheConstants.{MOST_RECEIPTS}
 use Rattle.esc_store.specs.ReplyValue.{ReceiptValue}
 use Rattle.esc_store.specs.TypedRows.{receipt_row, steps_from}

@@ -31,9 +31,9 @@ use Rattle.esc_tables.specs.KeyName.{KeyName, key_eq}
 use Rattle.esc_tables.specs.ObjectValue.{ObjectValue}
 use Rattle.esc_record.specs.Record.{record_of}
 use Rattle.esc_apply.specs.Registry.{State}
-use Rattle.esc_rows.specs.Changes.{ObjectEntry, ImageEntry, entry_at, image_entry_at}
+use Rattle.esc_sql.specs.Changes.{ObjectEntry, ImageEntry, entry_at, image_entry_at}
 use Rattle.esc_store.specs.declared.counts.KindCounts.{KindCounts}
-use Rattle.esc_store.specs.Kept.{IsRising}
+use Rattle.esc_store.specs.StoreState.{IsRising}
 use Rattle.esc_store.specs.ReplyValue.{ReceiptValue}
 use Rattle.esc_store.specs.TypedRows.{image_kept, verdict_number}
 

@@ -2,11 +2,13 @@ pub mod Decoded
 pub mod Faults
 pub mod Filling
 pub mod FirstVersion
-pub mod Kept
+pub mod StoreState
+pub mod Holding
 pub mod Opening
 pub mod Pages
+pub mod Remembered
 pub mod ReplyValue
-pub mod Standing
+pub mod Representation
 pub mod ChangeParts
 pub mod StoreTables
 pub mod TypedRows

@@ -6,12 +6,12 @@ use Rattle.sqlite_schema.specs.declared.schema.Schema.{Schema}
 use Rattle.sqlite.specs.Effect.{Database}
 use Rattle.sqlite.specs.Held.{Held, state}
 use Rattle.sqlite.specs.State.{State, HasCleanDisk}
-use Rattle.esc_rows.specs.Schema.{no_schema}
+use Rattle.esc_sql.specs.Schema.{no_schema}
 use Rattle.esc_store.specs.declared.fault.SFault.{SFault}
 use Rattle.esc_store.specs.declared.fault.SFault.TheVariants.{S1, S2, S3}
 use Rattle.esc_store.specs.declared.store.Store.{Store}
-use Rattle.esc_store.specs.Kept.{Kept}
-use Rattle.esc_store.specs.Standing.{Stands, LeavesOnly, IsHonest}
+use Rattle.esc_store.specs.StoreState.{StoreState}
+use Rattle.esc_store.specs.Representation.{Represents, LeavesOnly, IsHonest}
 
 -- no transaction is on, and while the connection is open its database is that of the last commit
 abbrev pub IsSettled : State → Type 0
@@ -36,28 +36,29 @@ pub record IsFoundingFault (db : Database) (fault : SFault) : Type 0 where
   pub used : fault ≡ S3 → db.schema ≡ no_schema → ⊥
 
 -- why no store was opened, where `Is` says what a store is: S3 never where the last commit is one
-pub record IsRefused (tables : Schema) (Is : Trees → Kept → Type 0) (old new : State)
+pub record IsNoStore (tables : Schema) (Is : Trees → StoreState → Type 0) (old new : State)
     (fault : SFault) : Type 0 where
   pub cause : IsOpeningFault tables old fault
-  pub never : fault ≡ S3 → HasCleanDisk new → IsTrue new.is_open → (k : Kept)
+  pub never : fault ≡ S3 → HasCleanDisk new → IsTrue new.is_open → (k : StoreState)
       → Is old.committed.trees k → ⊥
   pub unchanged : IsAsItWas old new
 
 -- ---- a store over a connection
 
 -- a new store of k: it stands for k, a crash leaves k, and nothing was written to it yet
-pub record IsNewStore {S : Type 0} (g : Ghosts S) (k : Kept) (store : Store S) : Type 0 where
-  pub stands : Stands g store k
+pub record IsNewStore {S : Type 0} (g : Ghosts S) (k : StoreState) (store : Store S) : Type 0 where
+  pub stands : Represents g store k
   pub left : LeavesOnly g store k
   pub writes : store.writes ≡ 0
 
 -- a store over a connection stands for what the connection holds, by `Holds`, and for what its last
 -- commit is, by `Is`; a crash leaves that; the database was of this version
-pub record IsOpened {S : Type 0} (g : Ghosts S) (Holds : Kept → Type 0) (Is : Trees → Kept → Type 0)
+pub record IsOpened {S : Type 0} (g : Ghosts S) (Holds : StoreState → Type 0)
+    (Is : Trees → StoreState → Type 0)
     (IsOf : Database → Type 0) (conn : Held S) (store : Store S) : Type 0 where
-  pub stands : IsHonest g store → (k : Kept) → Holds k → Stands g store k
-  pub found : IsHonest g store → (k : Kept) → Is (state g conn).committed.trees k
-      → Stands g store k
-  pub left : (k : Kept) → Is (state g conn).committed.trees k → LeavesOnly g store k
+  pub stands : IsHonest g store → (k : StoreState) → Holds k → Represents g store k
+  pub found : IsHonest g store → (k : StoreState) → Is (state g conn).committed.trees k
+      → Represents g store k
+  pub left : (k : StoreState) → Is (state g conn).committed.trees k → LeavesOnly g store k
   pub writes : store.writes ≡ 0
   pub version : IsHonest g store → IsOf (state g conn).now

@@ -21,7 +21,7 @@ use Rattle.esc_tables.specs.KeyName.{KeyName, key_eq}
 use Rattle.esc_apply.specs.ObjectStreams.{Entry, InOrder}
 use Rattle.esc_apply.specs.Registry.{Content}
 use Rattle.esc_record.specs.Record.{record_of}
-use Rattle.esc_rows.specs.Changes.{ObjectEntry, is_from, is_up_to}
+use Rattle.esc_sql.specs.Changes.{ObjectEntry, is_from, is_up_to}
 
 -- the text of the last entry's key, if there is one
 abbrev pub last_text : List Entry → Option (List ℕ)

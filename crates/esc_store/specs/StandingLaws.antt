@@ -9,8 +9,8 @@ use Rattle.sqlite_trees.specs.View.{doubt}
 use Rattle.sqlite.specs.State.{State, HasCleanDisk, Survives}
 use Rattle.sqlite.proofs.StateLemmas.{survives_then}
 use Rattle.esc_store.specs.declared.store.Store.{Store}
-use Rattle.esc_store.specs.Kept.{Kept}
-use Rattle.esc_store.specs.Standing.{
+use Rattle.esc_store.specs.StoreState.{StoreState}
+use Rattle.esc_store.specs.Representation.{
   ChangeOf,
   IsHonest,
   IsAsBefore,
@@ -63,12 +63,13 @@ goes_then p q = record {
 
 -- a change that is honest after a part was honest before it
 pub part_was : {S X E : Type 0} {g : Ghosts S} {a b : ChangeOf S} {r : Result X E}
-    {f : Kept → Kept} → IsChangePart g a b r f → IsHonest g b.store.now → IsHonest g a.store.now
+    {f : StoreState → StoreState} → IsChangePart g a b r f → IsHonest g b.store.now
+    → IsHonest g a.store.now
 part_was p = was_clean p.goes_on.survives
 
 -- one part that succeeded, and then another
 pub part_then : {S X Y E F : Type 0} {g : Ghosts S} {a b c : ChangeOf S} {x : X} {q : Result Y F}
-    {f h : Kept → Kept} → IsChangePart {E = E} g a b (Ok x) f → IsChangePart g b c q h
+    {f h : StoreState → StoreState} → IsChangePart {E = E} g a b (Ok x) f → IsChangePart g b c q h
     → IsChangePart g a c q (λ k. h (f k))
 part_then {q = q} p r = record {
   goes_on = goes_then p.goes_on r.goes_on;

@@ -4,20 +4,20 @@ use Rattle.sqlite_value.specs.declared.value.Value.TheVariants.{Int}
 use Rattle.sqlite_value.specs.Order.{Row, column}
 use Rattle.sqlite_trees.specs.Tree.{Trees}
 use Rattle.sqlite.specs.Effect.{Database}
-use Rattle.esc_rows.specs.Schema.{store_schema, no_schema, info_tree}
-use Rattle.esc_rows.specs.Content.{content_in, HoldsContent}
-use Rattle.esc_rows.specs.Content.{IsStore as HasTables}
-use Rattle.esc_store.specs.Kept.{Kept}
+use Rattle.esc_sql.specs.Schema.{store_schema, no_schema, info_tree}
+use Rattle.esc_sql.specs.Content.{content_in, HoldsContent}
+use Rattle.esc_sql.specs.Content.{IsStore as HasTables}
+use Rattle.esc_store.specs.StoreState.{StoreState}
 use Rattle.esc_store.specs.TypedRows.{IsBooks, IsRegistry}
 
 -- trees are the nine tables of version 2, in order and sound, and hold exactly this
-pub record IsKept (trees : Trees) (k : Kept) : Type 0 where
+pub record IsKept (trees : Trees) (k : StoreState) : Type 0 where
   pub tables : HasTables trees (content_in trees)
   pub books : IsBooks (content_in trees) k
   pub registry : IsRegistry (content_in trees) k.registry
 
 -- these trees are a store that keeps k: the next open finds it
-unfoldable pub IsStore : Trees → Kept → Type 0
+unfoldable pub IsStore : Trees → StoreState → Type 0
 IsStore trees k = IsKept trees k
 
 -- a database has the store's tables, whatever they hold
@@ -25,7 +25,7 @@ abbrev pub HoldsTables : Database → Type 0
 HoldsTables db = HoldsContent db (content_in db.trees)
 
 -- a database is a store that keeps k
-pub record IsStoreDatabase (db : Database) (k : Kept) : Type 0 where
+pub record IsStoreDatabase (db : Database) (k : StoreState) : Type 0 where
   pub schema : db.schema ≡ store_schema
   pub kept : IsKept db.trees k
 

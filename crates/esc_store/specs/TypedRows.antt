@@ -17,13 +17,13 @@ use Rattle.esc_tables.specs.ObjectValue.{ObjectValue}
 use Rattle.esc_record.specs.Record.{record_of}
 use Rattle.esc_apply.specs.Registry.{State, Befores}
 use Rattle.esc_apply.specs.Registry.{Content as Objects}
-use Rattle.esc_rows.specs.Rows.{ListedRow, ReceiptRow, StepRow}
-use Rattle.esc_rows.specs.Content.{Content, object_at, image_at, parked_at, moment_of}
-use Rattle.esc_rows.specs.Changes.{body_of}
+use Rattle.esc_sql.specs.Rows.{ListedRow, ReceiptRow, StepRow}
+use Rattle.esc_sql.specs.Content.{Content, object_at, image_at, parked_at, moment_of}
+use Rattle.esc_sql.specs.Changes.{body_of}
 use Rattle.esc_store.specs.declared.reply.Verdict.{Verdict}
 use Rattle.esc_store.specs.declared.reply.Verdict.TheVariants.{A1, A2, A3, A4, A5}
 use Rattle.esc_store.specs.ReplyValue.{ReceiptValue}
-use Rattle.esc_store.specs.Kept.{Kept}
+use Rattle.esc_store.specs.StoreState.{StoreState}
 
 -- a row of the manifest as the table of listed rows keeps it, with its index from 0
 abbrev pub listed_row : ℕ → MRow → ListedRow
@@ -104,7 +104,7 @@ abbrev pub image_kept : Befores → ℕ → List ℕ → Option (Option (List �
 image_kept before n text = option_map (λ o. option_and_then record_of o) (at_key before n text)
 
 -- the rows say what is kept of the manifest, receipts, bodies, parked bodies, moment and chain
-pub record IsBooks (c : Content) (k : Kept) : Type 0 where
+pub record IsBooks (c : Content) (k : StoreState) : Type 0 where
   pub listed : c.listed ≡ listed_from 0 k.listed
   pub receipts : c.receipts ≡ receipts_from 1 k.receipts
   pub held : (row : ℕ) → body_of row c.held ≡ k.bodies row

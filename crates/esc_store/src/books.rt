@@ -2,8 +2,8 @@
 
 ghost use Rattle.std.specs.Prelude.{◌≡◌, ◌≤◌, ℕ, List, map, IfOk, IfErr};
 ghost use Rattle.sqlite.specs.Held.{state};
-ghost use Rattle.esc_rows.specs.Entries.{step_row};
-ghost use Rattle.esc_rows.specs.Changes.{Tells};
+ghost use Rattle.esc_sql.specs.Entries.{step_row};
+ghost use Rattle.esc_sql.specs.Changes.{Tells};
 ghost use Rattle.esc_store.specs.Faults.{IsS1OrS2, IsS1OrS2OrS4};
 ghost use Rattle.esc_store.specs.TypedRows.{steps_from};
 ghost use Rattle.esc_store.specs.ChangeParts.{
@@ -12,13 +12,13 @@ ghost use Rattle.esc_store.specs.ChangeParts.{
   next_number,
   ContinuesSteps,
 };
-ghost use Rattle.esc_store.specs.Standing.{IsStep, IsHonest};
+ghost use Rattle.esc_store.specs.Representation.{IsStep, IsHonest};
 
 use crate::codec::receipt::stored_receipt;
 use crate::fault::SFault;
 use crate::reply::Receipt;
 use crate::store::Store;
-use esc_rows::step::ChainStep;
+use esc_sql::step::ChainStep;
 use sqlite::Alter;
 
 /// The most receipts of a store.

@@ -16,10 +16,10 @@ ghost use Rattle.std.specs.Prelude.{
 };
 ghost use Rattle.esc_apply.specs.Registry.{State};
 ghost use Rattle.esc_store.specs.Faults.{IsS1OrS2, IsS1OrS2OrS4};
-ghost use Rattle.esc_store.specs.Kept.{Kept, with_receipt, with_body, with_steps, with_registry};
-ghost use Rattle.esc_store.specs.Standing.{
-  Rest,
-  HoldsNow,
+ghost use Rattle.esc_store.specs.StoreState.{StoreState, with_receipt, with_body, with_steps, with_registry};
+ghost use Rattle.esc_store.specs.Representation.{
+  HasMadeBooks,
+  HasMadeTables,
   IsUncommitted,
   IsChangePart,
   IsCommitOf,
@@ -36,11 +36,12 @@ use crate::books::MOST_RECEIPTS;
 use crate::codec::small;
 use crate::codec::step::stored_steps;
 use crate::fault::SFault;
+use crate::remembered::NOTHING;
 use crate::reply::Receipt;
 use crate::store::Store;
 use esc_apply::Step;
 use esc_manifest::Manifest;
-use esc_rows::held::insert_held;
+use esc_sql::held::insert_held;
 use sqlite::Alter;
 
 /// A change of a store: one transaction. `commit` makes all of it; where it is dropped, nothing has
@@ -61,11 +62,11 @@ impl<'a, S: Alter> Change<'a, S> {
             (λ k. with_receipt k receipt.now) }
         ensures listed { listed_by self.new ≡ listed_by self.old }
         ensures number { IfOk result (λ n. IsHonest S.Store (store_in self.new)
-            → (before k : Kept)
-            → Rest S.Store self.old before k → n ≡ length k.receipts + 1) }
+            → (before k : StoreState)
+            → HasMadeBooks S.Store self.old before k → n ≡ length k.receipts + 1) }
         ensures room { IfOk result (λ n. n ≤ MOST_RECEIPTS) }
         ensures full { IfErr result (λ e. e ≡ SFault.S4 → IsHonest S.Store (store_in self.new)
-            → (before k : Kept) → Rest S.Store self.old before k
+            → (before k : StoreState) → HasMadeBooks S.Store self.old before k
             → MOST_RECEIPTS ≤ length k.receipts) }
         ensures cause { IfErr result IsS1OrS2OrS4 }
     {
@@ -77,8 +78,8 @@ impl<'a, S: Alter> Change<'a, S> {
         ensures part { IsChangePart S.Store self.old self.new result
             (λ k. with_body k row body.now) }
         ensures listed { listed_by self.new ≡ listed_by self.old }
-        ensures free { OnOk result (IsHonest S.Store (store_in self.new) → (before k : Kept)
-            → Rest S.Store self.old before k → k.bodies row ≡ None) }
+        ensures free { OnOk result (IsHonest S.Store (store_in self.new) → (before k : StoreState)
+            → HasMadeBooks S.Store self.old before k → k.bodies row ≡ None) }
         ensures cause { IfErr result IsS1OrS2 }
     {
         let row = small(row)?;
@@ -90,8 +91,8 @@ impl<'a, S: Alter> Change<'a, S> {
         ensures part { IsChangePart S.Store self.old self.new result
             (λ k. with_body k row body.now) }
         ensures listed { listed_by self.new ≡ listed_by self.old }
-        ensures free { OnOk result (IsHonest S.Store (store_in self.new) → (before k : Kept)
-            → Rest S.Store self.old before k → k.bodies row ≡ None) }
+        ensures free { OnOk result (IsHonest S.Store (store_in self.new) → (before k : StoreState)
+            → HasMadeBooks S.Store self.old before k → k.bodies row ≡ None) }
         ensures cause { IfErr result IsS1OrS2 }
     {
         let done = insert_held(&mut self.store.conn, row, body);
@@ -106,21 +107,21 @@ impl<'a, S: Alter> Change<'a, S> {
         ensures listed { listed_by self.new ≡ listed_by self.old }
         ensures cause { IfErr result IsS1OrS2 }
     {
-        self.continue_chain(0, steps)
+        self.replace_chain_from(0, steps)
     }
 
     /// Keeps the first steps of the chain, as many as `front`, which it has to have, and makes
     /// these the steps past them; their rows have to be held, and no two of the chain are the same.
     /// It takes as long as these steps and those that go, however long the chain is. `S1`, `S2`.
-    pub fn continue_chain(&mut self, front: usize, steps: &[Step]) -> Result<(), SFault>
+    pub fn replace_chain_from(&mut self, front: usize, steps: &[Step]) -> Result<(), SFault>
         ensures goes_on { IsUncommitted S.Store self.old self.new }
         ensures count { count_of self.new ≡ count_of self.old }
         ensures listed { listed_by self.new ≡ listed_by self.old }
-        ensures set { OnOk result ((before k : Kept) → front ≤ length k.steps
-            → Rest S.Store self.old before k → Rest S.Store self.new before
+        ensures set { OnOk result ((before k : StoreState) → front ≤ length k.steps
+            → HasMadeBooks S.Store self.old before k → HasMadeBooks S.Store self.new before
             (with_steps k (take front k.steps ++ map (λ step. step.row) steps.now))) }
-        ensures holds { OnOk result ((s : State) → HoldsNow S.Store self.old s
-            → HoldsNow S.Store self.new s) }
+        ensures holds { OnOk result ((s : State) → HasMadeTables S.Store self.old s
+            → HasMadeTables S.Store self.new s) }
         ensures cause { IfErr result IsS1OrS2 }
     {
         let stored = stored_steps(self.store.alloc, front, steps)?;
@@ -135,9 +136,9 @@ impl<'a, S: Alter> Change<'a, S> {
         ensures rolled_back { OnErr result (IsRollbackOf S.Store self.entry self.exit.0.now) }
         ensures honest { IsHonest S.Store self.exit.0.now
             → IsHonest S.Store (store_in self.entry) }
-        ensures crash { (before k : Kept) (s : State)
-            → Rest S.Store self.entry before (with_registry k s)
-            → HoldsNow S.Store self.entry k.registry
+        ensures crash { (before k : StoreState) (s : State)
+            → HasMadeBooks S.Store self.entry before (with_registry k s)
+            → HasMadeTables S.Store self.entry k.registry
             → StoreLeavesOr S.Store (store_in self.entry) self.exit.0.now k }
         ensures cause { IfErr result IsS1OrS2 }
     {
@@ -163,7 +164,7 @@ impl<S: Alter, L: Drop> Drop for Change<'_, S, L> {
             count: _,
             listing: _,
         } = self;
-        store.counted = None;
+        store.remembered = NOTHING;
         store.give_up();
     }
 }

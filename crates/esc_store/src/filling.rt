@@ -3,20 +3,20 @@
 ghost use Rattle.std.specs.Prelude.{◌≡◌, None, length, map, option_map, IfOk, IfErr, OnOk};
 ghost use Rattle.esc_apply.specs.Registry.{State};
 ghost use Rattle.esc_apply.specs.Changes.{with_object, CanBePut};
-ghost use Rattle.esc_apply.specs.declared.registry.Targets.TheVariants.{Free};
-ghost use Rattle.esc_rows.specs.Entries.{new_entry, new_image};
+ghost use Rattle.esc_apply.specs.declared.registry.Keys.TheVariants.{Vacant};
+ghost use Rattle.esc_sql.specs.Entries.{new_entry, new_image};
 ghost use Rattle.esc_store.specs.Faults.{IsS1OrS2};
 ghost use Rattle.esc_store.specs.Filling.{after_filling, AreImagesNow, FillsRows, PutsRows};
 ghost use Rattle.esc_store.specs.Pages.{entry_row, stored_row};
-ghost use Rattle.esc_store.specs.Standing.{HoldsNow, Follows, IsHonest, store_in};
+ghost use Rattle.esc_store.specs.Representation.{HasMadeTables, Follows, IsHonest, store_in};
 ghost use Rattle.esc_store.specs.TypedRows.{record_at};
 
 use crate::change::Change;
 use crate::codec::object::{kind_number, record_bytes};
 use crate::fault::SFault;
-use esc_apply::Targets;
-use esc_rows::object::{NewObject, ROWS_AT_ONCE, insert_objects};
-use esc_rows::undo::{NewImage, insert_images};
+use esc_apply::Keys;
+use esc_sql::object::{NewObject, ROWS_AT_ONCE, insert_objects};
+use esc_sql::undo::{NewImage, insert_images};
 use esc_tables::{Key, Object};
 use sqlite::Alter;
 use std::alloc::Global;
@@ -43,15 +43,15 @@ impl<'a, S: Alter> Change<'a, S> {
         &mut self,
         alloc: Global,
         step: u32,
-        targets: Targets,
+        targets: Keys,
         objects: &BTreeMap<Key, Object>,
     ) -> Result<(), SFault>
         ensures count { self.new.count ≡ self.old.count }
         ensures follows { Follows S.Store self.old self.new }
         ensures filled { OnOk result (IsHonest S.Store (store_in self.new) → (s : State)
             → CanBePut targets s step (map with_object objects.now.entries)
-            → HoldsNow S.Store self.old s
-            → HoldsNow S.Store self.new (after_filling s step objects.now.entries)) }
+            → HasMadeTables S.Store self.old s
+            → HasMadeTables S.Store self.new (after_filling s step objects.now.entries)) }
         ensures cause { IfErr result IsS1OrS2 }
     {
         let mut rows = Vec::new(alloc);
@@ -70,7 +70,7 @@ impl<'a, S: Alter> Change<'a, S> {
         &mut self,
         alloc: Global,
         step: u32,
-        targets: Targets,
+        targets: Keys,
         rows: &[NewObject<'_>],
     ) -> Result<(), SFault>
         requires { length rows.now ≡ ROWS_AT_ONCE }
@@ -84,11 +84,11 @@ impl<'a, S: Alter> Change<'a, S> {
         let noted = insert_images(alloc, &mut self.store.conn, step, images.as_slice());
         self.store.settle(noted)?;
         match targets {
-            Targets::Free => {
+            Keys::Vacant => {
                 let done = insert_objects(alloc, &mut self.store.conn, rows);
                 self.store.settle(done)
             }
-            Targets::Any => self.put_each(rows),
+            Keys::Unknown => self.put_each(rows),
         }
     }
 
@@ -96,7 +96,7 @@ impl<'a, S: Alter> Change<'a, S> {
     fn find_images<'k>(
         &mut self,
         alloc: Global,
-        targets: Targets,
+        targets: Keys,
         rows: &[NewObject<'k>],
     ) -> Result<Vec<NewImage<'k>>, SFault>
         ensures count { self.new.count ≡ self.old.count }
@@ -121,23 +121,19 @@ impl<'a, S: Alter> Change<'a, S> {
     }
 
     // The record of a row's key, if it has one. Where keys are free none is looked up.
-    fn find_before(
-        &mut self,
-        targets: Targets,
-        row: &NewObject<'_>,
-    ) -> Result<Option<Vec<u8>>, SFault>
+    fn find_before(&mut self, targets: Keys, row: &NewObject<'_>) -> Result<Option<Vec<u8>>, SFault>
         ensures count { self.new.count ≡ self.old.count }
         ensures follows { Follows S.Store self.old self.new }
         ensures found { IfOk result (λ found. IsHonest S.Store (store_in self.new) → (s : State)
-            → (targets ≡ Free → record_at s.content row.now.kind row.now.key.now ≡ None)
-            → HoldsNow S.Store self.old s
+            → (targets ≡ Vacant → record_at s.content row.now.kind row.now.key.now ≡ None)
+            → HasMadeTables S.Store self.old s
             → (option_map (λ b. b.items) found ≡ record_at s.content row.now.kind row.now.key.now)
-            × HoldsNow S.Store self.new s) }
+            × HasMadeTables S.Store self.new s) }
         ensures cause { IfErr result IsS1OrS2 }
     {
         match targets {
-            Targets::Free => Ok(None),
-            Targets::Any => self.find_stored(row.kind, row.key),
+            Keys::Vacant => Ok(None),
+            Keys::Unknown => self.find_stored(row.kind, row.key),
         }
     }
 
@@ -156,12 +152,7 @@ impl<'a, S: Alter> Change<'a, S> {
     }
 
     // Puts the objects of these rows one by one, each after its before-image.
-    fn fill_each(
-        &mut self,
-        step: u32,
-        targets: Targets,
-        rows: &[NewObject<'_>],
-    ) -> Result<(), SFault>
+    fn fill_each(&mut self, step: u32, targets: Keys, rows: &[NewObject<'_>]) -> Result<(), SFault>
         ensures count { self.new.count ≡ self.old.count }
         ensures follows { Follows S.Store self.old self.new }
         ensures filled { OnOk result (FillsRows S.Store step targets (map new_entry rows.now)

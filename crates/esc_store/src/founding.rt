@@ -4,19 +4,19 @@ ghost use Rattle.std.specs.Prelude.{◌≡◌, map, IfErr, OnOk, OnErr};
 ghost use Rattle.sqlite_trees.specs.Tree.{Trees};
 ghost use Rattle.sqlite.specs.Held.{state};
 ghost use Rattle.sqlite.specs.State.{HasCleanDisk, KeepsCommit, Survives};
-ghost use Rattle.esc_rows.specs.Schema.{no_schema};
-ghost use Rattle.esc_rows.specs.Entries.{listed_row as stored_row};
+ghost use Rattle.esc_sql.specs.Schema.{no_schema};
+ghost use Rattle.esc_sql.specs.Entries.{listed_row as stored_row};
 ghost use Rattle.esc_store.specs.Faults.{IsS1OrS2};
-ghost use Rattle.esc_store.specs.Kept.{fresh};
+ghost use Rattle.esc_store.specs.StoreState.{fresh};
 ghost use Rattle.esc_store.specs.Opening.{IsAsItWas};
 ghost use Rattle.esc_store.specs.TypedRows.{listed_from};
 ghost use Rattle.esc_store.specs.StoreTables.{IsStore, IsStoreDatabase};
-ghost use Rattle.esc_store.specs.Standing.{RestsAt, IsGivenUp};
+ghost use Rattle.esc_store.specs.Representation.{IsAtRestIfClean, IsGivenUp};
 
 use crate::fault::SFault;
-use esc_rows::create::build;
-use esc_rows::listed::Listed;
-use esc_rows::transaction::{abandon_in, begin_in, commit_in};
+use esc_sql::create::build;
+use esc_sql::listed::Listed;
+use esc_sql::transaction::{abandon_in, begin_in, commit_in};
 use sqlite::{Alter, Connection, Error};
 
 // Rolls back what a failure left of a transaction.
@@ -52,7 +52,7 @@ fn found_whole<S: Alter>(conn: &mut Connection<S>, rows: &[Listed]) -> Result<()
         → OnErr result (KeepsCommit (state S.Store conn.old) (state S.Store conn.new)) }
     ensures rests { OnOk result ((m : _) → map stored_row rows.now ≡ listed_from 0 m
         → (state S.Store conn.old).now.schema ≡ no_schema
-        → RestsAt (state S.Store conn.new) (fresh m)) }
+        → IsAtRestIfClean (state S.Store conn.new) (fresh m)) }
     ensures left { OnOk result ((m : _) → map stored_row rows.now ≡ listed_from 0 m
         → (state S.Store conn.old).now.schema ≡ no_schema → HasCleanDisk (state S.Store conn.new)
         → (trees : Trees) → (state S.Store conn.new).may_leave trees → IsStore trees (fresh m)) }
@@ -71,7 +71,7 @@ pub(crate) fn found_here<S: Alter>(conn: &mut Connection<S>, rows: &[Listed]) ->
     ensures kept { HasCleanDisk (state S.Store conn.new)
         → OnErr result (KeepsCommit (state S.Store conn.old) (state S.Store conn.new)) }
     ensures rests { OnOk result ((m : _) → map stored_row rows.now ≡ listed_from 0 m
-        → RestsAt (state S.Store conn.new) (fresh m)) }
+        → IsAtRestIfClean (state S.Store conn.new) (fresh m)) }
     ensures left { OnOk result ((m : _) → map stored_row rows.now ≡ listed_from 0 m
         → HasCleanDisk (state S.Store conn.new) → (trees : Trees)
         → (state S.Store conn.new).may_leave trees → IsStore trees (fresh m)) }

@@ -4,7 +4,7 @@
 //!
 //! A store keeps a manifest's rows, a receipt for each distinct arrival, the bodies of held rows,
 //! bodies that no row lists, the moment up to which the chain goes, the chain, its tables and the
-//! before-images of its steps. It keeps them in the nine tables of `esc_rows`. The desk above
+//! before-images of its steps. It keeps them in the nine tables of `esc_sql`. The desk above
 //! decides what is kept; no SQL and no row of a table is seen there.
 //!
 //! # What goes in and out
@@ -18,12 +18,13 @@
 //! |---|---|
 //! | `store`, `founding`, `opening` | a store, how it is made, and how one is found |
 //! | `migrating` | a store of version 1, which becomes one of this version |
-//! | `reads`, `counts` | what a store returns of what it keeps, and the counts that it remembers |
+//! | `reads`, `counts`, `remembered` | what a store returns of what it keeps, and what it remembers of it |
+//! | `held` | which rows a store holds |
 //! | `change`, `books` | a change: its receipt, body and chain |
 //! | `registry`, `records`, `filling` | a change as a registry: objects, one or many at a time |
 //! | `parked`, `moment` | parked bodies and the moment: reads, and parts of a change |
 //! | `listing` | a change: the rows that an amended manifest adds |
-//! | `statements` | a write or a read of the tables: one call of `esc_rows` each |
+//! | `statements` | a write or a read of the tables: one call of `esc_sql` each |
 //! | `codec` | what the tables keep, as their rows and bytes, and back |
 //! | `reply`, `fault` | a receipt, the reply of it and its verdict; why a call fails |
 //! | `numbers`, `form` | the number of an arrival, and the texts that are one |
@@ -44,16 +45,17 @@
 //!
 //! # What a contract means
 //!
-//! - A `Kept` (`specs/Kept.antt`) is what a store keeps. `Stands g store k` says that the store
+//! - A `StoreState` (`specs/StoreState.antt`) is what a store keeps. `Represents g store k` says that the store
 //!   keeps exactly k: its database is committed, no transaction is on, and its tables hold the rows
 //!   of k and nothing else. It speaks of stores whose disk gave back what was written (`IsHonest`)
 //!   while their connection is open.
 //! - A read leaves the store as it was (`IsAsBefore`), whatever it returns, and what it returns is
-//!   a function of each k that the store stood for. A store remembers how many objects of each kind
-//!   it has, once that was read, until a change ends: that these are k's is part of `Stands`.
-//! - A change that was begun on a store of k has `Began`: nothing is committed. `Rest` says what it
-//!   has made of rows, receipts, bodies, parked bodies, moment and chain, and `HoldsNow` what of
-//!   tables and before-images. `commit` turns `Rest` and `HoldsNow` into `Stands`; at `Err`, and
+//!   a function of each k that the store stood for. A store remembers what it read of its receipts
+//!   and its chain, and how many objects of each kind it has, until a change ends: that these are
+//!   k's is part of `Represents`.
+//! - A change that was begun on a store of k has `Began`: nothing is committed. `HasMadeBooks` says what it
+//!   has made of rows, receipts, bodies, parked bodies, moment and chain, and `HasMadeTables` what of
+//!   tables and before-images. `commit` turns `HasMadeBooks` and `HasMadeTables` into `Represents`; at `Err`, and
 //!   where a change is dropped, the store stands for what it stood for. `listed_by` are the rows
 //!   that the store lists once the change is committed.
 //! - What a crash leaves is in `LeavesOnly`, `LeavesOr` and `LeavesNoMore`.
@@ -70,6 +72,7 @@ mod fault;
 mod filling;
 mod form;
 mod founding;
+mod held;
 mod listing;
 mod migrating;
 mod moment;
@@ -79,6 +82,7 @@ mod parked;
 mod reads;
 mod records;
 mod registry;
+mod remembered;
 mod reply;
 mod statements;
 mod store;
@@ -87,6 +91,7 @@ pub use books::MOST_RECEIPTS;
 pub use change::Change;
 pub use fault::SFault;
 pub use form::number;
+pub use held::insert_row;
 pub use numbers::{N1, Number};
 pub use parked::MOST_PARKED;
 pub use reads::MOST_ON_PAGE;

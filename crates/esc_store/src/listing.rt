@@ -16,13 +16,13 @@ ghost use Rattle.std.specs.Prelude.{
 };
 ghost use Rattle.esc_manifest.specs.declared.row.MRow.{MRow};
 ghost use Rattle.esc_apply.specs.Registry.{State};
-ghost use Rattle.esc_rows.specs.Entries.{listed_row as stored_row};
+ghost use Rattle.esc_sql.specs.Entries.{listed_row as stored_row};
 ghost use Rattle.esc_store.specs.Faults.{IsS1OrS2};
-ghost use Rattle.esc_store.specs.Kept.{Kept, with_listed};
+ghost use Rattle.esc_store.specs.StoreState.{StoreState, with_listed};
 ghost use Rattle.esc_store.specs.TypedRows.{listed_row, listed_from};
-ghost use Rattle.esc_store.specs.Standing.{
-  RestIn,
-  HoldsNow,
+ghost use Rattle.esc_store.specs.Representation.{
+  HasMadeBooksIn,
+  HasMadeTables,
   IsUncommitted,
   IsChangePart,
   listed_by,
@@ -32,7 +32,7 @@ use crate::change::Change;
 use crate::codec::manifest::stored_manifest;
 use crate::fault::SFault;
 use esc_manifest::Manifest;
-use esc_rows::listed::{Listed, insert_listed};
+use esc_sql::listed::{Listed, insert_listed};
 use sqlite::Alter;
 
 impl<'a, S: Alter> Change<'a, S> {
@@ -70,12 +70,12 @@ impl<'a, S: Alter> Change<'a, S> {
         ensures goes_on { IsUncommitted S.Store self.old self.new }
         ensures listing { self.new.listing ≡ self.old.listing }
         ensures count { self.new.count ≡ self.old.count }
-        ensures listed { OnOk result ((before k : Kept) (union : List MRow)
+        ensures listed { OnOk result ((before k : StoreState) (union : List MRow)
             → map stored_row rows.now ≡ listed_from 0 union → take from union ≡ k.listed
-            → RestIn S.Store self.old.store.now (Some k.listed) before k
-            → RestIn S.Store self.new.store.now (Some union) before (with_listed k union)) }
-        ensures holds { OnOk result ((s : State) → HoldsNow S.Store self.old s
-            → HoldsNow S.Store self.new s) }
+            → HasMadeBooksIn S.Store self.old.store.now (Some k.listed) before k
+            → HasMadeBooksIn S.Store self.new.store.now (Some union) before (with_listed k union)) }
+        ensures holds { OnOk result ((s : State) → HasMadeTables S.Store self.old s
+            → HasMadeTables S.Store self.new s) }
         ensures cause { IfErr result IsS1OrS2 }
     {
         for at in from..rows.len() {
@@ -89,13 +89,13 @@ impl<'a, S: Alter> Change<'a, S> {
         ensures goes_on { IsUncommitted S.Store self.old self.new }
         ensures listing { self.new.listing ≡ self.old.listing }
         ensures count { self.new.count ≡ self.old.count }
-        ensures listed { OnOk result ((before k : Kept) (r : MRow)
+        ensures listed { OnOk result ((before k : StoreState) (r : MRow)
             → stored_row row.now ≡ listed_row (length k.listed) r
-            → RestIn S.Store self.old.store.now (Some k.listed) before k
-            → RestIn S.Store self.new.store.now (Some (k.listed ++ r ∷ [])) before
+            → HasMadeBooksIn S.Store self.old.store.now (Some k.listed) before k
+            → HasMadeBooksIn S.Store self.new.store.now (Some (k.listed ++ r ∷ [])) before
             (with_listed k (k.listed ++ r ∷ []))) }
-        ensures holds { OnOk result ((s : State) → HoldsNow S.Store self.old s
-            → HoldsNow S.Store self.new s) }
+        ensures holds { OnOk result ((s : State) → HasMadeTables S.Store self.old s
+            → HasMadeTables S.Store self.new s) }
         ensures cause { IfErr result IsS1OrS2 }
     {
         let done = insert_listed(&mut self.store.conn, row);

@@ -1,21 +1,22 @@
 //! A store of version 1, which becomes one of this version.
 
-ghost use Rattle.std.specs.Prelude.{◌≡◌, IsTrue, None, IfOk, IfErr, OnOk, OnErr, MatchResult};
+ghost use Rattle.std.specs.Prelude.{◌≡◌, IsTrue, IfOk, IfErr, OnOk, OnErr, MatchResult};
 ghost use Rattle.sqlite_trees.specs.Tree.{Trees};
 ghost use Rattle.sqlite.specs.Held.{state};
 ghost use Rattle.sqlite.specs.State.{HasCleanDisk, Survives, KeepsCommit, IsUnchanged};
 ghost use Rattle.esc_store.specs.Faults.{IsS1OrS2, IsS1ToS3};
-ghost use Rattle.esc_store.specs.Kept.{Kept};
+ghost use Rattle.esc_store.specs.StoreState.{StoreState};
 ghost use Rattle.esc_store.specs.Opening.{
   IsSettled,
   IsAsItWas,
   IsOpeningFault,
-  IsRefused,
+  IsNoStore,
   IsOpened,
 };
+ghost use Rattle.esc_store.specs.Remembered.{nothing_read};
 ghost use Rattle.esc_store.specs.StoreTables.{IsStore, IsStoreDatabase};
-ghost use Rattle.esc_store.specs.Standing.{
-  Stands,
+ghost use Rattle.esc_store.specs.Representation.{
+  Represents,
   IsStanding,
   LeavesOnly,
   IsHonest,
@@ -30,18 +31,19 @@ ghost use Rattle.esc_store.specs.FirstVersion.{
   SeesFirst,
   LeavesFirstOr,
 };
-ghost use Rattle.esc_rows.specs.Schema.{first_schema};
+ghost use Rattle.esc_sql.specs.Schema.{first_schema};
 
 use crate::codec::manifest::kept_manifest;
 use crate::fault::SFault;
 use crate::founding::give_up_in;
+use crate::remembered::NOTHING;
 use crate::store::Store;
 use esc_manifest::Manifest;
-use esc_rows::create::upgrade;
-use esc_rows::info::find_version;
-use esc_rows::listed::all_listed;
-use esc_rows::open::has_first_tables;
-use esc_rows::transaction::{begin_in, commit_in};
+use esc_sql::create::upgrade;
+use esc_sql::info::find_version;
+use esc_sql::listed::all_listed;
+use esc_sql::open::has_first_tables;
+use esc_sql::transaction::{begin_in, commit_in};
 use sqlite::{Alter, Connection, Error};
 use std::alloc::Global;
 
@@ -59,7 +61,8 @@ fn test_first<S: Alter>(conn: &mut Connection<S>) -> Result<(), SFault>
         × IsOfFirstVersion (state S.Store conn.old).now) }
     ensures never { IfErr result (λ fault. fault ≡ SFault.S3
         → HasCleanDisk (state S.Store conn.new)
-        → IsTrue (state S.Store conn.new).is_open → IsSettled (state S.Store conn.old) → (k : Kept)
+        → IsTrue (state S.Store conn.new).is_open → IsSettled (state S.Store conn.old)
+        → (k : StoreState)
         → IsFirstStore (state S.Store conn.old).committed.trees k → ⊥) }
     ensures cause { IfErr result IsS1ToS3 }
 {
@@ -74,7 +77,7 @@ fn upgrade_here<S: Alter>(conn: &mut Connection<S>) -> Result<(), Error>
     ensures survives { Survives (state S.Store conn.old) (state S.Store conn.new) (λ _. ⊥) }
     ensures kept { HasCleanDisk (state S.Store conn.new)
         → KeepsCommit (state S.Store conn.old) (state S.Store conn.new) }
-    ensures upgraded { OnOk result (HasCleanDisk (state S.Store conn.new) → (k : Kept)
+    ensures upgraded { OnOk result (HasCleanDisk (state S.Store conn.new) → (k : StoreState)
         → IsFirstDatabase (state S.Store conn.old).now k
         → IsStoreDatabase (state S.Store conn.new).now k) }
 {
@@ -87,11 +90,11 @@ fn read_upgraded<S: Alter>(alloc: Global, conn: &mut Connection<S>) -> Result<Ma
     ensures survives { Survives (state S.Store conn.old) (state S.Store conn.new) (λ _. ⊥) }
     ensures kept { HasCleanDisk (state S.Store conn.new)
         → KeepsCommit (state S.Store conn.old) (state S.Store conn.new) }
-    ensures upgraded { OnOk result (HasCleanDisk (state S.Store conn.new) → (k : Kept)
+    ensures upgraded { OnOk result (HasCleanDisk (state S.Store conn.new) → (k : StoreState)
         → IsFirstDatabase (state S.Store conn.old).now k
         → IsStoreDatabase (state S.Store conn.new).now k) }
     ensures manifest { IfOk result (λ manifest. HasCleanDisk (state S.Store conn.new)
-        → (k : Kept)
+        → (k : StoreState)
         → IsFirstDatabase (state S.Store conn.old).now k → manifest ≡ k.listed) }
     ensures cause { IfErr result IsS1OrS2 }
 {
@@ -102,17 +105,18 @@ fn read_upgraded<S: Alter>(alloc: Global, conn: &mut Connection<S>) -> Result<Ma
 
 // The same as `read_upgraded`, and commits it.
 fn commit_upgraded<S: Alter>(alloc: Global, conn: &mut Connection<S>) -> Result<Manifest, SFault>
-    ensures survives { (k : Kept) → (HasCleanDisk (state S.Store conn.old)
+    ensures survives { (k : StoreState) → (HasCleanDisk (state S.Store conn.old)
         → IsFirstDatabase (state S.Store conn.old).now k)
         → Survives (state S.Store conn.old) (state S.Store conn.new) (λ trees. IsStore trees k) }
     ensures honest { HasCleanDisk (state S.Store conn.new)
         → HasCleanDisk (state S.Store conn.old) }
     ensures kept { HasCleanDisk (state S.Store conn.new)
         → OnErr result (KeepsCommit (state S.Store conn.old) (state S.Store conn.new)) }
-    ensures stands { IfOk result (λ manifest. (k : Kept) → (HasCleanDisk (state S.Store conn.old)
+    ensures stands { IfOk result (λ manifest. (k : StoreState)
+        → (HasCleanDisk (state S.Store conn.old)
         → IsFirstDatabase (state S.Store conn.old).now k) → HasCleanDisk (state S.Store conn.new)
-        → IsStanding (state S.Store conn.new) manifest None k) }
-    ensures left { OnOk result ((k : Kept) → (HasCleanDisk (state S.Store conn.old)
+        → IsStanding (state S.Store conn.new) manifest nothing_read k) }
+    ensures left { OnOk result ((k : StoreState) → (HasCleanDisk (state S.Store conn.old)
         → IsFirstDatabase (state S.Store conn.old).now k) → HasCleanDisk (state S.Store conn.new)
         → (trees : Trees) → (state S.Store conn.new).may_leave trees → IsStore trees k) }
     ensures cause { IfErr result IsS1OrS2 }
@@ -125,21 +129,25 @@ fn commit_upgraded<S: Alter>(alloc: Global, conn: &mut Connection<S>) -> Result<
 // The same as `commit_upgraded`, where the version is tested first: `S3` if it is not 1.
 fn migrate_whole<S: Alter>(alloc: Global, conn: &mut Connection<S>) -> Result<Manifest, SFault>
     requires tables { (state S.Store conn.old).now.schema ≡ first_schema }
-    ensures survives { (k : Kept) → SeesFirst (state S.Store conn.old) k
+    ensures survives { (k : StoreState) → SeesFirst (state S.Store conn.old) k
         → Survives (state S.Store conn.old) (state S.Store conn.new) (λ trees. IsStore trees k) }
+    ensures honest { HasCleanDisk (state S.Store conn.new)
+        → HasCleanDisk (state S.Store conn.old) }
     ensures kept { HasCleanDisk (state S.Store conn.new)
         → OnErr result (KeepsCommit (state S.Store conn.old) (state S.Store conn.new)) }
     ensures version { OnOk result (HasCleanDisk (state S.Store conn.new)
         → IsOfFirstVersion (state S.Store conn.old).now) }
-    ensures stands { IfOk result (λ manifest. (k : Kept) → SeesFirst (state S.Store conn.old) k
+    ensures stands { IfOk result (λ manifest. (k : StoreState)
+        → SeesFirst (state S.Store conn.old) k
         → HasCleanDisk (state S.Store conn.new)
-        → IsStanding (state S.Store conn.new) manifest None k) }
-    ensures left { OnOk result ((k : Kept) → SeesFirst (state S.Store conn.old) k
+        → IsStanding (state S.Store conn.new) manifest nothing_read k) }
+    ensures left { OnOk result ((k : StoreState) → SeesFirst (state S.Store conn.old) k
         → HasCleanDisk (state S.Store conn.new)
         → (trees : Trees) → (state S.Store conn.new).may_leave trees → IsStore trees k) }
     ensures never { IfErr result (λ fault. fault ≡ SFault.S3
         → HasCleanDisk (state S.Store conn.new)
-        → IsTrue (state S.Store conn.new).is_open → IsSettled (state S.Store conn.old) → (k : Kept)
+        → IsTrue (state S.Store conn.new).is_open → IsSettled (state S.Store conn.old)
+        → (k : StoreState)
         → IsFirstStore (state S.Store conn.old).committed.trees k → ⊥) }
     ensures cause { IfErr result IsS1ToS3 }
 {
@@ -150,21 +158,24 @@ fn migrate_whole<S: Alter>(alloc: Global, conn: &mut Connection<S>) -> Result<Ma
 // The same as `migrate_whole`, on a connection without a transaction, if the database has the seven
 // tables (else `S3`): where it fails the connection is as it was. `S1` also in a transaction, which goes on.
 fn migrate_here<S: Alter>(alloc: Global, conn: &mut Connection<S>) -> Result<Manifest, SFault>
-    ensures survives { (k : Kept) → IsFirstStore (state S.Store conn.old).committed.trees k
+    ensures survives { (k : StoreState) → IsFirstStore (state S.Store conn.old).committed.trees k
         → Survives (state S.Store conn.old) (state S.Store conn.new) (λ trees. IsStore trees k) }
+    ensures honest { HasCleanDisk (state S.Store conn.new)
+        → HasCleanDisk (state S.Store conn.old) }
     ensures version { OnOk result (HasCleanDisk (state S.Store conn.new)
         → IsOfFirstVersion (state S.Store conn.old).now) }
     ensures settled { OnOk result (IsSettled (state S.Store conn.old)) }
-    ensures stands { IfOk result (λ manifest. (k : Kept) → SeesFirst (state S.Store conn.old) k
+    ensures stands { IfOk result (λ manifest. (k : StoreState)
+        → SeesFirst (state S.Store conn.old) k
         → HasCleanDisk (state S.Store conn.new)
-        → IsStanding (state S.Store conn.new) manifest None k) }
-    ensures left { OnOk result ((k : Kept)
+        → IsStanding (state S.Store conn.new) manifest nothing_read k) }
+    ensures left { OnOk result ((k : StoreState)
         → IsFirstStore (state S.Store conn.old).committed.trees k
         → HasCleanDisk (state S.Store conn.new)
         → (trees : Trees) → (state S.Store conn.new).may_leave trees → IsStore trees k) }
     ensures never { IfErr result (λ fault. fault ≡ SFault.S3
         → HasCleanDisk (state S.Store conn.new)
-        → IsTrue (state S.Store conn.new).is_open → (k : Kept)
+        → IsTrue (state S.Store conn.new).is_open → (k : StoreState)
         → IsFirstStore (state S.Store conn.old).committed.trees k → ⊥) }
     ensures unchanged { OnErr result (IsAsItWas (state S.Store conn.old) (state S.Store conn.new)) }
     ensures cause { IfErr result (IsOpeningFault first_schema (state S.Store conn.old)) }
@@ -199,9 +210,11 @@ impl<S: Alter> Store<S> {
     ) -> Result<Store<S>, (SFault, Connection<S>)>
         ensures opened { IfOk result (IsOpened S.Store (HoldsFirst S.Store connection)
             IsFirstStore IsOfFirstVersion connection) }
-        ensures refused { IfErr result (λ e. IsRefused first_schema IsFirstStore
+        ensures refused { IfErr result (λ e. IsNoStore first_schema IsFirstStore
             (state S.Store connection) (state S.Store e.1) e.0) }
-        ensures crash { (k : Kept) → IsFirstStore (state S.Store connection).committed.trees k
+        ensures honest { IfOk result
+            (λ store. IsHonest S.Store store → HasCleanDisk (state S.Store connection)) }
+        ensures crash { (k : StoreState) → IsFirstStore (state S.Store connection).committed.trees k
             → MatchResult result
             (λ store. LeavesFirstOr S.Store connection (connection_of store) k)
             (λ e. LeavesFirstOr S.Store connection e.1 k) }
@@ -212,7 +225,7 @@ impl<S: Alter> Store<S> {
                 conn: connection,
                 manifest,
                 writes: 0,
-                counted: None,
+                remembered: NOTHING,
                 alloc,
             }),
             Err(fault) => Err((fault, connection)),

@@ -1,11 +1,11 @@
 //! The moment up to which the chain goes: what a store returns of it, and how a change sets it.
 
 ghost use Rattle.std.specs.Prelude.{◌≡◌, Some, None, IfOk, IfErr};
-ghost use Rattle.esc_rows.specs.Content.{moment_of};
+ghost use Rattle.esc_sql.specs.Content.{moment_of};
 ghost use Rattle.esc_store.specs.Faults.{IsS1OrS2};
-ghost use Rattle.esc_store.specs.Kept.{Kept, with_moment};
-ghost use Rattle.esc_store.specs.Standing.{
-  Stands,
+ghost use Rattle.esc_store.specs.StoreState.{StoreState, with_moment};
+ghost use Rattle.esc_store.specs.Representation.{
+  Represents,
   IsChangePart,
   IsAsBefore,
   IsHonest,
@@ -16,7 +16,7 @@ ghost use Rattle.esc_store.specs.Standing.{
 use crate::change::Change;
 use crate::fault::SFault;
 use crate::store::Store;
-use esc_rows::moment::{clear_moment, find_moment, insert_moment};
+use esc_sql::moment::{clear_moment, find_moment, insert_moment};
 use sqlite::Alter;
 
 impl<S: Alter> Store<S> {
@@ -35,7 +35,8 @@ impl<S: Alter> Store<S> {
     #[tactic(auto, using(crate::proofs::Sure::as_before))]
     pub fn moment(&mut self) -> Result<Option<i64>, SFault>
         ensures same { IsAsBefore S.Store self.old self.new }
-        ensures moment { IsHonest S.Store self.new → (k : Kept) → Stands S.Store self.old k
+        ensures moment { IsHonest S.Store self.new → (k : StoreState)
+            → Represents S.Store self.old k
             → IfOk result (λ moment. moment ≡ k.moment) }
         ensures cause { IfErr result IsS1OrS2 }
     {

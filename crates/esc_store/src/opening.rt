@@ -4,8 +4,8 @@ ghost use Rattle.std.specs.Prelude.{◌≡◌, IsTrue, IfOk, IfErr, OnOk, OnErr}
 ghost use Rattle.sqlite.specs.Held.{state};
 ghost use Rattle.sqlite.specs.State.{HasCleanDisk, Survives, KeepsCommit, IsUnchanged};
 ghost use Rattle.esc_store.specs.Faults.{IsS1ToS3};
-ghost use Rattle.esc_store.specs.Kept.{Kept};
-ghost use Rattle.esc_rows.specs.Schema.{store_schema};
+ghost use Rattle.esc_store.specs.StoreState.{StoreState};
+ghost use Rattle.esc_sql.specs.Schema.{store_schema};
 ghost use Rattle.esc_store.specs.Opening.{IsSettled, IsAsItWas, IsOpeningFault};
 ghost use Rattle.esc_store.specs.StoreTables.{IsStore, IsStoreDatabase, IsOfVersion};
 
@@ -13,9 +13,9 @@ use crate::codec::manifest::kept_manifest;
 use crate::fault::SFault;
 use crate::founding::give_up_in;
 use esc_manifest::Manifest;
-use esc_rows::info::find_version;
-use esc_rows::listed::all_listed;
-use esc_rows::open::has_tables;
+use esc_sql::info::find_version;
+use esc_sql::listed::all_listed;
+use esc_sql::open::has_tables;
 use sqlite::{Alter, Connection};
 use std::alloc::Global;
 
@@ -33,7 +33,8 @@ fn test_version<S: Alter>(conn: &mut Connection<S>) -> Result<(), SFault>
         × IsOfVersion (state S.Store conn.old).now) }
     ensures never { IfErr result (λ fault. fault ≡ SFault.S3
         → HasCleanDisk (state S.Store conn.new)
-        → IsTrue (state S.Store conn.new).is_open → IsSettled (state S.Store conn.old) → (k : Kept)
+        → IsTrue (state S.Store conn.new).is_open → IsSettled (state S.Store conn.old)
+        → (k : StoreState)
         → IsStore (state S.Store conn.old).committed.trees k → ⊥) }
     ensures cause { IfErr result IsS1ToS3 }
 {
@@ -53,11 +54,12 @@ fn read_manifest<S: Alter>(alloc: Global, conn: &mut Connection<S>) -> Result<Ma
         → IsUnchanged (state S.Store conn.old) (state S.Store conn.new)
         × IsOfVersion (state S.Store conn.old).now) }
     ensures manifest { IfOk result (λ manifest. HasCleanDisk (state S.Store conn.new)
-        → (k : Kept)
+        → (k : StoreState)
         → IsStoreDatabase (state S.Store conn.old).now k → manifest ≡ k.listed) }
     ensures never { IfErr result (λ fault. fault ≡ SFault.S3
         → HasCleanDisk (state S.Store conn.new)
-        → IsTrue (state S.Store conn.new).is_open → IsSettled (state S.Store conn.old) → (k : Kept)
+        → IsTrue (state S.Store conn.new).is_open → IsSettled (state S.Store conn.old)
+        → (k : StoreState)
         → IsStore (state S.Store conn.old).committed.trees k → ⊥) }
     ensures cause { IfErr result IsS1ToS3 }
 {
@@ -78,11 +80,11 @@ pub(crate) fn find_manifest<S: Alter>(
         × IsOfVersion (state S.Store conn.old).now) }
     ensures settled { OnOk result (IsSettled (state S.Store conn.old)) }
     ensures manifest { IfOk result (λ manifest. HasCleanDisk (state S.Store conn.new)
-        → (k : Kept)
+        → (k : StoreState)
         → IsStoreDatabase (state S.Store conn.old).now k → manifest ≡ k.listed) }
     ensures never { IfErr result (λ fault. fault ≡ SFault.S3
         → HasCleanDisk (state S.Store conn.new)
-        → IsTrue (state S.Store conn.new).is_open → (k : Kept)
+        → IsTrue (state S.Store conn.new).is_open → (k : StoreState)
         → IsStore (state S.Store conn.old).committed.trees k → ⊥) }
     ensures unchanged { OnErr result (IsAsItWas (state S.Store conn.old) (state S.Store conn.new)) }
     ensures cause { IfErr result (IsOpeningFault store_schema (state S.Store conn.old)) }

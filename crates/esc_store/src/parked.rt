@@ -12,14 +12,14 @@ ghost use Rattle.std.specs.Prelude.{
   OnOk,
 };
 ghost use Rattle.esc_apply.specs.Registry.{State};
-ghost use Rattle.esc_rows.specs.Content.{parked_at};
-ghost use Rattle.esc_rows.specs.Parked.{ListsParked};
+ghost use Rattle.esc_sql.specs.Content.{parked_at};
+ghost use Rattle.esc_sql.specs.Parked.{ListsParked};
 ghost use Rattle.esc_store.specs.Faults.{IsS1OrS2};
-ghost use Rattle.esc_store.specs.Kept.{Kept, AreParked, with_adopted, with_parked};
-ghost use Rattle.esc_store.specs.Standing.{
-  Stands,
-  Rest,
-  HoldsNow,
+ghost use Rattle.esc_store.specs.StoreState.{StoreState, AreParked, with_adopted, with_parked};
+ghost use Rattle.esc_store.specs.Representation.{
+  Represents,
+  HasMadeBooks,
+  HasMadeTables,
   IsChangePart,
   Follows,
   IsAsBefore,
@@ -33,7 +33,7 @@ use crate::change::Change;
 use crate::codec::manifest::digest_of;
 use crate::fault::SFault;
 use crate::store::Store;
-use esc_rows::parked::{delete_parked, find_parked, insert_parked, parked_digests};
+use esc_sql::parked::{delete_parked, find_parked, insert_parked, parked_digests};
 use sqlite::Alter;
 use std::alloc::Global;
 
@@ -67,7 +67,7 @@ impl<S: Alter> Store<S> {
     #[tactic(auto, using(crate::proofs::Sure::as_before))]
     pub fn parked_body(&mut self, digest: &[u8; 32]) -> Result<Option<Vec<u8>>, SFault>
         ensures same { IsAsBefore S.Store self.old self.new }
-        ensures found { IsHonest S.Store self.new → (k : Kept) → Stands S.Store self.old k
+        ensures found { IsHonest S.Store self.new → (k : StoreState) → Represents S.Store self.old k
             → IfOk result (λ body. option_map (λ b. b.items) body ≡ k.parked digest.now) }
         ensures cause { IfErr result IsS1OrS2 }
     {
@@ -78,7 +78,8 @@ impl<S: Alter> Store<S> {
     #[tactic(auto, using(crate::proofs::Sure::as_before))]
     pub fn parked(&mut self, alloc: Global) -> Result<Vec<[u8; 32]>, SFault>
         ensures same { IsAsBefore S.Store self.old self.new }
-        ensures digests { IsHonest S.Store self.new → (k : Kept) → Stands S.Store self.old k
+        ensures digests { IsHonest S.Store self.new → (k : StoreState)
+            → Represents S.Store self.old k
             → IfOk result (λ digests. AreParked k.parked digests.items) }
         ensures cause { IfErr result IsS1OrS2 }
     {
@@ -93,8 +94,8 @@ impl<'a, S: Alter> Change<'a, S> {
         ensures part { IsChangePart S.Store self.old self.new result
             (λ k. with_parked k digest.now (Some body.now)) }
         ensures listed { listed_by self.new ≡ listed_by self.old }
-        ensures free { OnOk result (IsHonest S.Store (store_in self.new) → (before k : Kept)
-            → Rest S.Store self.old before k → k.parked digest.now ≡ None) }
+        ensures free { OnOk result (IsHonest S.Store (store_in self.new) → (before k : StoreState)
+            → HasMadeBooks S.Store self.old before k → k.parked digest.now ≡ None) }
         ensures cause { IfErr result IsS1OrS2 }
     {
         let done = insert_parked(&mut self.store.conn, digest, body);
@@ -117,10 +118,10 @@ impl<'a, S: Alter> Change<'a, S> {
         ensures count { self.new.count ≡ self.old.count }
         ensures follows { Follows S.Store self.old self.new }
         ensures found { IfOk result (λ found. IsHonest S.Store self.new.store.now
-            → (before k : Kept) → Rest S.Store self.old before k
+            → (before k : StoreState) → HasMadeBooks S.Store self.old before k
             → option_map (λ b. b.items) found ≡ k.parked digest.now) }
-        ensures holds { OnOk result ((s : State) → HoldsNow S.Store self.old s
-            → HoldsNow S.Store self.new s) }
+        ensures holds { OnOk result ((s : State) → HasMadeTables S.Store self.old s
+            → HasMadeTables S.Store self.new s) }
         ensures cause { IfErr result IsS1OrS2 }
     {
         self.store.goes_on()?;
@@ -134,10 +135,10 @@ impl<'a, S: Alter> Change<'a, S> {
         ensures part { IsChangePart S.Store self.old self.new result
             (λ k. with_adopted k row digest.now (k.parked digest.now)) }
         ensures listed { listed_by self.new ≡ listed_by self.old }
-        ensures parked { OnOk result (IsHonest S.Store (store_in self.new) → (before k : Kept)
-            → Rest S.Store self.old before k → IsSome (k.parked digest.now)) }
-        ensures free { OnOk result (IsHonest S.Store (store_in self.new) → (before k : Kept)
-            → Rest S.Store self.old before k → k.bodies row ≡ None) }
+        ensures parked { OnOk result (IsHonest S.Store (store_in self.new) → (before k : StoreState)
+            → HasMadeBooks S.Store self.old before k → IsSome (k.parked digest.now)) }
+        ensures free { OnOk result (IsHonest S.Store (store_in self.new) → (before k : StoreState)
+            → HasMadeBooks S.Store self.old before k → k.bodies row ≡ None) }
         ensures cause { IfErr result IsS1OrS2 }
     {
         let found = self.find_parked(digest)?;

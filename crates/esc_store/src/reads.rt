@@ -3,8 +3,8 @@
 ghost use Rattle.std.specs.Prelude.{◌≡◌, ◌≤◌, length, IfOk, IfErr, option_map};
 ghost use Rattle.esc_apply.specs.Registry.{IsEntriesOf};
 ghost use Rattle.esc_store.specs.Faults.{IsS1OrS2};
-ghost use Rattle.esc_store.specs.Kept.{
-  Kept,
+ghost use Rattle.esc_store.specs.StoreState.{
+  StoreState,
   kept_replies,
   kept_reply,
   kept_chain,
@@ -15,7 +15,7 @@ ghost use Rattle.esc_store.specs.Kept.{
 ghost use Rattle.esc_store.specs.Decoded.{AreOfVerdict, counted};
 ghost use Rattle.esc_store.specs.TypedRows.{verdict_number};
 ghost use Rattle.esc_store.specs.Pages.{IsPage};
-ghost use Rattle.esc_store.specs.Standing.{Stands, IsHonest, IsAsBefore};
+ghost use Rattle.esc_store.specs.Representation.{Represents, IsHonest, IsAsBefore};
 
 use crate::codec::object::{entries_of, kind_number, objects_of};
 use crate::codec::receipt::{distinct_indices_of, replies_of, reply_found, verdict_number};
@@ -25,6 +25,7 @@ use crate::counts::{KindCounts, counts_of};
 use crate::fault::SFault;
 use crate::numbers::Number;
 use crate::parked::digests_of;
+use crate::remembered::copy_of;
 use crate::reply::{Reply, Verdict};
 use crate::store::Store;
 use esc_apply::Step;
@@ -49,7 +50,7 @@ impl<S: Alter> Store<S> {
         digest: &[u8; 32],
     ) -> Result<Option<Reply>, SFault>
         ensures same { IsAsBefore S.Store self.old self.new }
-        ensures found { IsHonest S.Store self.new → (k : Kept) → Stands S.Store self.old k
+        ensures found { IsHonest S.Store self.new → (k : StoreState) → Represents S.Store self.old k
             → IfOk result (λ reply. reply ≡ kept_reply k number.now digest.now) }
         ensures cause { IfErr result IsS1OrS2 }
     {
@@ -61,7 +62,7 @@ impl<S: Alter> Store<S> {
     #[tactic(auto, using(crate::proofs::Sure::as_before))]
     pub fn receipts(&mut self, alloc: Global) -> Result<Vec<Reply>, SFault>
         ensures same { IsAsBefore S.Store self.old self.new }
-        ensures all { IsHonest S.Store self.new → (k : Kept) → Stands S.Store self.old k
+        ensures all { IsHonest S.Store self.new → (k : StoreState) → Represents S.Store self.old k
             → IfOk result (λ replies. replies.items ≡ kept_replies k) }
         ensures cause { IfErr result IsS1OrS2 }
     {
@@ -73,7 +74,7 @@ impl<S: Alter> Store<S> {
     #[tactic(auto, using(crate::proofs::Sure::as_before))]
     pub fn receipt_count(&mut self) -> Result<u64, SFault>
         ensures same { IsAsBefore S.Store self.old self.new }
-        ensures count { IsHonest S.Store self.new → (k : Kept) → Stands S.Store self.old k
+        ensures count { IsHonest S.Store self.new → (k : StoreState) → Represents S.Store self.old k
             → IfOk result (λ count. count ≡ length k.receipts) }
         ensures cause { IfErr result IsS1OrS2 }
     {
@@ -85,7 +86,7 @@ impl<S: Alter> Store<S> {
     #[tactic(auto, using(crate::proofs::Sure::as_before))]
     pub fn body_of(&mut self, _alloc: Global, row: usize) -> Result<Option<Vec<u8>>, SFault>
         ensures same { IsAsBefore S.Store self.old self.new }
-        ensures found { IsHonest S.Store self.new → (k : Kept) → Stands S.Store self.old k
+        ensures found { IsHonest S.Store self.new → (k : StoreState) → Represents S.Store self.old k
             → IfOk result (λ body. option_map (λ b. b.items) body ≡ k.bodies row) }
         ensures cause { IfErr result IsS1OrS2 }
     {
@@ -94,16 +95,33 @@ impl<S: Alter> Store<S> {
     }
 
     /// The indices, from 0, of the rows whose deposit is held according to a receipt (`A1`), in
-    /// ascending order. No body is read. `S1`, `S2`.
-    #[tactic(auto, using(crate::proofs::Sure::as_before))]
+    /// ascending order. No body is read. The store remembers them until a change ends. `S1`, `S2`.
+    #[tactic(auto, using(crate::proofs::Sure::unread))]
     pub fn held_by_receipts(&mut self, alloc: Global) -> Result<Vec<usize>, SFault>
         ensures same { IsAsBefore S.Store self.old self.new }
-        ensures rows { IsHonest S.Store self.new → (k : Kept) → Stands S.Store self.old k
+        ensures rows { IsHonest S.Store self.new → (k : StoreState) → Represents S.Store self.old k
+            → IfOk result (λ rows. AreHeldBy k.receipts rows.items) }
+        ensures cause { IfErr result IsS1OrS2 }
+    {
+        if let Some(rows) = copy_of(alloc, &self.remembered.rows_with_receipt)? {
+            return Ok(rows);
+        }
+        self.told_here(alloc)
+    }
+
+    // Reads the rows that receipts say are held, and remembers them.
+    #[tactic(auto, using(crate::proofs::Sure::as_before))]
+    fn told_here(&mut self, alloc: Global) -> Result<Vec<usize>, SFault>
+        ensures same { IsAsBefore S.Store self.old self.new }
+        ensures rows { IsHonest S.Store self.new → (k : StoreState) → Represents S.Store self.old k
             → IfOk result (λ rows. AreHeldBy k.receipts rows.items) }
         ensures cause { IfErr result IsS1OrS2 }
     {
         let rows = self.rows_here(alloc, verdict_number(Verdict::A1))?;
-        distinct_indices_of(alloc, rows.as_slice())
+        let told = distinct_indices_of(alloc, rows.as_slice())?;
+        let copy = Vec::from_slice(alloc, &told)?;
+        self.remembered.rows_with_receipt = Some(copy);
+        Ok(told)
     }
 
     // The digests of the receipts of a verdict, with repeats.
@@ -114,7 +132,8 @@ impl<S: Alter> Store<S> {
         verdict: Verdict,
     ) -> Result<Vec<[u8; 32]>, SFault>
         ensures same { IsAsBefore S.Store self.old self.new }
-        ensures digests { IsHonest S.Store self.new → (k : Kept) → Stands S.Store self.old k
+        ensures digests { IsHonest S.Store self.new → (k : StoreState)
+            → Represents S.Store self.old k
             → IfOk result
             (λ digests. AreOfVerdict (verdict_number verdict) k.receipts digests.items) }
         ensures cause { IfErr result IsS1OrS2 }
@@ -125,36 +144,72 @@ impl<S: Alter> Store<S> {
 
     /// The SHA-256 of each body that no row listed, according to a receipt (`A2` of version 1,
     /// which did not keep them, and `A5` of this one, which parked them), with repeats, in any
-    /// order. No body is read. `S1`, `S2`.
+    /// order. No body is read. The store remembers them until a change ends. `S1`, `S2`.
+    #[tactic(auto, using(crate::proofs::Sure::unread))]
     pub fn unlisted_digests(&mut self, alloc: Global) -> Result<Vec<[u8; 32]>, SFault>
         ensures same { IsAsBefore S.Store self.old self.new }
-        ensures digests { IsHonest S.Store self.new → (k : Kept) → Stands S.Store self.old k
+        ensures digests { IsHonest S.Store self.new → (k : StoreState)
+            → Represents S.Store self.old k
+            → IfOk result (λ digests. AreUnlisted k.receipts digests.items) }
+        ensures cause { IfErr result IsS1OrS2 }
+    {
+        if let Some(digests) = copy_of(alloc, &self.remembered.unlisted_digests)? {
+            return Ok(digests);
+        }
+        self.unlisted_here(alloc)
+    }
+
+    // Reads the digests of the bodies that no row listed, and remembers them.
+    fn unlisted_here(&mut self, alloc: Global) -> Result<Vec<[u8; 32]>, SFault>
+        ensures same { IsAsBefore S.Store self.old self.new }
+        ensures digests { IsHonest S.Store self.new → (k : StoreState)
+            → Represents S.Store self.old k
             → IfOk result (λ digests. AreUnlisted k.receipts digests.items) }
         ensures cause { IfErr result IsS1OrS2 }
     {
         let mut digests = self.digests_of_verdict(alloc, Verdict::A2)?;
         let parked = self.digests_of_verdict(alloc, Verdict::A5)?;
         digests.extend_from_slice(parked.as_slice())?;
+        let copy = Vec::from_slice(alloc, &digests)?;
+        self.remembered.unlisted_digests = Some(copy);
         Ok(digests)
     }
 
-    /// The steps of the chain, in order. `S1`, `S2`.
-    #[tactic(auto, using(crate::proofs::Sure::as_before))]
+    /// The steps of the chain, in order. The store remembers them until a change ends. `S1`, `S2`.
+    #[tactic(auto, using(crate::proofs::Sure::unread))]
     pub fn chain(&mut self, alloc: Global) -> Result<Vec<Step>, SFault>
         ensures same { IsAsBefore S.Store self.old self.new }
-        ensures steps { IsHonest S.Store self.new → (k : Kept) → Stands S.Store self.old k
+        ensures steps { IsHonest S.Store self.new → (k : StoreState) → Represents S.Store self.old k
+            → IfOk result (λ steps. steps.items ≡ kept_chain k) }
+        ensures cause { IfErr result IsS1OrS2 }
+    {
+        if let Some(steps) = copy_of(alloc, &self.remembered.chain)? {
+            return Ok(steps);
+        }
+        self.chain_here(alloc)
+    }
+
+    // Reads the steps of the chain, and remembers them.
+    #[tactic(auto, using(crate::proofs::Sure::as_before))]
+    fn chain_here(&mut self, alloc: Global) -> Result<Vec<Step>, SFault>
+        ensures same { IsAsBefore S.Store self.old self.new }
+        ensures steps { IsHonest S.Store self.new → (k : StoreState) → Represents S.Store self.old k
             → IfOk result (λ steps. steps.items ≡ kept_chain k) }
         ensures cause { IfErr result IsS1OrS2 }
     {
         let stored = self.steps_here(alloc)?;
-        steps_of(alloc, &self.manifest, stored.as_slice())
+        let steps = steps_of(alloc, &self.manifest, stored.as_slice())?;
+        let copy = Vec::from_slice(alloc, &steps)?;
+        self.remembered.chain = Some(copy);
+        Ok(steps)
     }
 
     /// The objects of the chain's tables, by their keys. `S1`, `S2`.
     #[tactic(auto, using(crate::proofs::Sure::as_before))]
     pub fn tables(&mut self, alloc: Global) -> Result<BTreeMap<Key, Object>, SFault>
         ensures same { IsAsBefore S.Store self.old self.new }
-        ensures objects { IsHonest S.Store self.new → (k : Kept) → Stands S.Store self.old k
+        ensures objects { IsHonest S.Store self.new → (k : StoreState)
+            → Represents S.Store self.old k
             → IfOk result (λ tables. IsEntriesOf k.registry.content tables.entries) }
         ensures cause { IfErr result IsS1OrS2 }
     {
@@ -173,9 +228,9 @@ impl<S: Alter> Store<S> {
         from: &[u8],
     ) -> Result<Vec<(Key, Object)>, SFault>
         ensures same { IsAsBefore S.Store self.old self.new }
-        ensures page { IsHonest S.Store self.new → (k : Kept) → Stands S.Store self.old k
+        ensures page { IsHonest S.Store self.new → (k : StoreState) → Represents S.Store self.old k
             → IfOk result (λ page. IsPage k.registry.content kind from.now page.items) }
-        ensures few { IsHonest S.Store self.new → (k : Kept) → Stands S.Store self.old k
+        ensures few { IsHonest S.Store self.new → (k : StoreState) → Represents S.Store self.old k
             → IfOk result (λ page. length page.items ≤ MOST_ON_PAGE) }
         ensures cause { IfErr result IsS1OrS2 }
     {
@@ -188,13 +243,14 @@ impl<S: Alter> Store<S> {
     #[tactic(auto, using(crate::proofs::Sure::as_before))]
     fn count_here(&mut self, alloc: Global) -> Result<KindCounts, SFault>
         ensures same { IsAsBefore S.Store self.old self.new }
-        ensures counts { IsHonest S.Store self.new → (k : Kept) → Stands S.Store self.old k
+        ensures counts { IsHonest S.Store self.new → (k : StoreState)
+            → Represents S.Store self.old k
             → IfOk result (λ counts. AreCounts k.registry.content (counted counts)) }
         ensures cause { IfErr result IsS1OrS2 }
     {
         let kinds = self.kinds_here(alloc)?;
         let counts = counts_of(kinds.as_slice());
-        self.counted = Some(counts);
+        self.remembered.counts = Some(counts);
         Ok(counts)
     }
 
@@ -203,11 +259,12 @@ impl<S: Alter> Store<S> {
     #[tactic(auto, using(crate::proofs::Sure::unread))]
     pub fn counts_by_kind(&mut self, alloc: Global) -> Result<BTreeMap<Kind, u64>, SFault>
         ensures same { IsAsBefore S.Store self.old self.new }
-        ensures counts { IsHonest S.Store self.new → (k : Kept) → Stands S.Store self.old k
+        ensures counts { IsHonest S.Store self.new → (k : StoreState)
+            → Represents S.Store self.old k
             → IfOk result (λ counts. AreCounts k.registry.content counts.entries) }
         ensures cause { IfErr result IsS1OrS2 }
     {
-        match self.counted {
+        match self.remembered.counts {
             Some(counts) => counts.by_kind(alloc),
             None => self.count_here(alloc)?.by_kind(alloc),
         }

@@ -20,16 +20,16 @@ ghost use Rattle.esc_tables.specs.KeyName.{KeyName};
 ghost use Rattle.esc_tables.specs.ObjectValue.{ObjectValue};
 ghost use Rattle.esc_record.specs.Record.{record_of};
 ghost use Rattle.esc_apply.specs.Registry.{State, empty, written, noted, taken};
-ghost use Rattle.esc_rows.specs.Entries.{image_of};
+ghost use Rattle.esc_sql.specs.Entries.{image_of};
 ghost use Rattle.esc_store.specs.Decoded.{AreNotes};
 ghost use Rattle.esc_store.specs.Faults.{IsS1OrS2};
-ghost use Rattle.esc_store.specs.Standing.{HoldsNow, Follows};
+ghost use Rattle.esc_store.specs.Representation.{HasMadeTables, Follows};
 ghost use Rattle.esc_store.specs.TypedRows.{record_at};
 
 use crate::change::Change;
 use crate::fault::SFault;
-use esc_rows::object::{clear_objects, delete_object, find_object, put_object};
-use esc_rows::undo::{StoredImage, clear_undo, delete_undo, insert_undo, select_undo};
+use esc_sql::object::{clear_objects, delete_object, find_object, put_object};
+use esc_sql::undo::{StoredImage, clear_undo, delete_undo, insert_undo, select_undo};
 use sqlite::Alter;
 use std::alloc::Global;
 
@@ -39,9 +39,9 @@ impl<'a, S: Alter> Change<'a, S> {
         ensures count { self.new.count ≡ self.old.count }
         ensures follows { Follows S.Store self.old self.new }
         ensures found { IfOk result (λ found. HasCleanDisk (state S.Store self.new.store.now.conn)
-            → (s : State) → HoldsNow S.Store self.old s
+            → (s : State) → HasMadeTables S.Store self.old s
             → (option_map (λ b. b.items) found ≡ record_at s.content kind text.now)
-            × HoldsNow S.Store self.new s) }
+            × HasMadeTables S.Store self.new s) }
         ensures cause { IfErr result IsS1OrS2 }
     {
         let found = find_object(&mut self.store.conn, kind, text);
@@ -54,7 +54,8 @@ impl<'a, S: Alter> Change<'a, S> {
         ensures follows { Follows S.Store self.old self.new }
         ensures written { OnOk result ((s : State) (k : KeyName) (o : ObjectValue)
             → kind ≡ kind_rank k.kind → text.now ≡ k.text → record_of o ≡ Some bytes.now
-            → HoldsNow S.Store self.old s → HoldsNow S.Store self.new (written s k (Some o))) }
+            → HasMadeTables S.Store self.old s
+            → HasMadeTables S.Store self.new (written s k (Some o))) }
         ensures cause { IfErr result IsS1OrS2 }
     {
         let done = put_object(&mut self.store.conn, kind, text, bytes);
@@ -67,7 +68,8 @@ impl<'a, S: Alter> Change<'a, S> {
         ensures follows { Follows S.Store self.old self.new }
         ensures written { OnOk result ((s : State) (k : KeyName)
             → kind ≡ kind_rank k.kind → text.now ≡ k.text
-            → HoldsNow S.Store self.old s → HoldsNow S.Store self.new (written s k None)) }
+            → HasMadeTables S.Store self.old s
+            → HasMadeTables S.Store self.new (written s k None)) }
         ensures cause { IfErr result IsS1OrS2 }
     {
         let done = delete_object(&mut self.store.conn, kind, text);
@@ -87,8 +89,8 @@ impl<'a, S: Alter> Change<'a, S> {
         ensures noted { OnOk result ((s : State) (k : KeyName) (o : _)
             → kind ≡ kind_rank k.kind → text.now ≡ k.text
             → option_and_then record_of o ≡ option_map (λ b. b.now) before.entry
-            → IfSome o (λ x. IsSome (record_of x)) → HoldsNow S.Store self.old s
-            → HoldsNow S.Store self.new (noted s step k o)) }
+            → IfSome o (λ x. IsSome (record_of x)) → HasMadeTables S.Store self.old s
+            → HasMadeTables S.Store self.new (noted s step k o)) }
         ensures cause { IfErr result IsS1OrS2 }
     {
         let done = insert_undo(&mut self.store.conn, step, kind, text, before);
@@ -104,8 +106,8 @@ impl<'a, S: Alter> Change<'a, S> {
         ensures count { self.new.count ≡ self.old.count }
         ensures follows { Follows S.Store self.old self.new }
         ensures found { IfOk result (λ found. HasCleanDisk (state S.Store self.new.store.now.conn)
-            → (s : State) → HoldsNow S.Store self.old s
-            → AreNotes step s (map image_of found.items) × HoldsNow S.Store self.new s) }
+            → (s : State) → HasMadeTables S.Store self.old s
+            → AreNotes step s (map image_of found.items) × HasMadeTables S.Store self.new s) }
         ensures cause { IfErr result IsS1OrS2 }
     {
         let found = select_undo(alloc, &mut self.store.conn, step);
@@ -116,8 +118,8 @@ impl<'a, S: Alter> Change<'a, S> {
     pub(crate) fn forget_records(&mut self, step: u32) -> Result<(), SFault>
         ensures count { self.new.count ≡ self.old.count }
         ensures follows { Follows S.Store self.old self.new }
-        ensures taken { OnOk result ((s : State) → HoldsNow S.Store self.old s
-            → HoldsNow S.Store self.new (taken s step)) }
+        ensures taken { OnOk result ((s : State) → HasMadeTables S.Store self.old s
+            → HasMadeTables S.Store self.new (taken s step)) }
         ensures cause { IfErr result IsS1OrS2 }
     {
         let done = delete_undo(&mut self.store.conn, step);
@@ -128,8 +130,8 @@ impl<'a, S: Alter> Change<'a, S> {
     pub(crate) fn clear_records(&mut self) -> Result<(), SFault>
         ensures count { self.new.count ≡ self.old.count }
         ensures follows { Follows S.Store self.old self.new }
-        ensures cleared { OnOk result ((s : State) → HoldsNow S.Store self.old s
-            → HoldsNow S.Store self.new (record { content = empty.content; undo = s.undo })) }
+        ensures cleared { OnOk result ((s : State) → HasMadeTables S.Store self.old s
+            → HasMadeTables S.Store self.new (record { content = empty.content; undo = s.undo })) }
         ensures cause { IfErr result IsS1OrS2 }
     {
         let done = clear_objects(&mut self.store.conn);
@@ -141,8 +143,8 @@ impl<'a, S: Alter> Change<'a, S> {
         ensures count { self.new.count ≡ self.old.count }
         ensures follows { Follows S.Store self.old self.new }
         ensures cleared { OnOk result ((s : State)
-            → HoldsNow S.Store self.old (record { content = empty.content; undo = s.undo })
-            → HoldsNow S.Store self.new empty) }
+            → HasMadeTables S.Store self.old (record { content = empty.content; undo = s.undo })
+            → HasMadeTables S.Store self.new empty) }
         ensures cause { IfErr result IsS1OrS2 }
     {
         let done = clear_undo(&mut self.store.conn);

@@ -3,7 +3,7 @@
 use crate::change::Change;
 use crate::codec::object::{images_of, kind_number, object_in, record_bytes};
 use crate::fault::SFault;
-use esc_apply::{Registry, Targets};
+use esc_apply::{Keys, Registry};
 use esc_record::no_record_begins_another;
 use esc_tables::{Key, Object};
 use sqlite::Alter;
@@ -13,13 +13,13 @@ use std::collections::BTreeMap;
 impl<'a, S: Alter> Registry for Change<'a, S> {
     ghost use Rattle.esc_apply.specs.Registry.{saturated};
     ghost use Rattle.esc_store.specs.Faults.{IsS1OrS2};
-    ghost use Rattle.esc_store.specs.Standing.{HoldsNow, Follows, IsHonest, store_in, count_of};
+    ghost use Rattle.esc_store.specs.Representation.{HasMadeTables, Follows, IsHonest, store_in, count_of};
     ghost use Rattle.std.proofs.Common.{inl, inr, refl, ◌∙◌, arith};
     ghost use Rattle.sqlite.proofs.StateLemmas.{survives_then};
 
     type Error = SFault;
 
-    ghost holds = { λ r s. HoldsNow S.Store r s };
+    ghost holds = { λ r s. HasMadeTables S.Store r s };
 
     ghost count = { λ r. saturated (count_of r) };
 
@@ -79,7 +79,7 @@ impl<'a, S: Alter> Registry for Change<'a, S> {
         &mut self,
         alloc: Global,
         step: u32,
-        targets: Targets,
+        targets: Keys,
         objects: &BTreeMap<Key, Object>,
     ) -> Result<(), SFault> {
         self.fill_records(alloc, step, targets, objects)?;

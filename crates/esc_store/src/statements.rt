@@ -4,7 +4,7 @@
 
 ghost use Rattle.std.specs.Prelude.{◌≡◌, map, option_map, IfErr};
 ghost use Rattle.sqlite.specs.Held.{state};
-ghost use Rattle.esc_rows.specs.Changes.{
+ghost use Rattle.esc_sql.specs.Changes.{
   Becomes,
   steps_before,
   AddsReceipt,
@@ -18,20 +18,20 @@ ghost use Rattle.esc_rows.specs.Changes.{
   receipt_of,
   body_of,
 };
-ghost use Rattle.esc_rows.specs.Entries.{receipt_row, step_row, object_of};
+ghost use Rattle.esc_sql.specs.Entries.{receipt_row, step_row, object_of};
 ghost use Rattle.esc_store.specs.Faults.{IsS1OrS2};
-ghost use Rattle.esc_store.specs.Standing.{IsStep, IsStoreRead};
+ghost use Rattle.esc_store.specs.Representation.{IsStep, IsStoreRead};
 
 use crate::fault::SFault;
 use crate::store::Store;
-use esc_rows::held::find_body;
-use esc_rows::object::{StoredObject, all_objects, object_kinds};
-use esc_rows::page::objects_from;
-use esc_rows::receipt::{
+use esc_sql::held::find_body;
+use esc_sql::object::{StoredObject, all_objects, object_kinds};
+use esc_sql::page::objects_from;
+use esc_sql::receipt::{
     Receipt, all_receipts, digests_of_verdict, find_receipt, insert_receipt, last_receipt,
     rows_of_verdict,
 };
-use esc_rows::step::{ChainStep, all_steps, clear_steps_from, insert_step};
+use esc_sql::step::{ChainStep, all_steps, clear_steps_from, insert_step};
 use sqlite::Alter;
 use std::alloc::Global;
 

@@ -18,24 +18,25 @@ ghost use Rattle.std.specs.Prelude.{
 ghost use Rattle.std.specs.Borrow.{sem, RestsIfErr};
 ghost use Rattle.std.specs.Option.{unwrap_or};
 ghost use Rattle.sqlite.specs.Held.{state};
-ghost use Rattle.esc_rows.specs.Schema.{store_schema};
+ghost use Rattle.esc_sql.specs.Schema.{store_schema};
 ghost use Rattle.esc_store.specs.Faults.{IsS1OrS2};
 ghost use Rattle.esc_manifest.specs.declared.row.MRow.{MRow};
 ghost use Rattle.esc_store.specs.Opening.{
   IsAsItWas,
   IsFoundingFault,
-  IsRefused,
+  IsNoStore,
   IsNewStore,
   IsOpened,
 };
-ghost use Rattle.esc_store.specs.Kept.{Kept, fresh, with_registry};
+ghost use Rattle.esc_store.specs.StoreState.{StoreState, fresh, with_registry};
 ghost use Rattle.esc_apply.specs.Registry.{State};
+ghost use Rattle.esc_store.specs.Remembered.{nothing_read};
 ghost use Rattle.esc_store.specs.StoreTables.{IsBlank, IsStore, IsOfVersion};
-ghost use Rattle.esc_store.specs.Standing.{
-  Stands,
+ghost use Rattle.esc_store.specs.Representation.{
+  Represents,
   BeganIn,
-  RestIn,
-  HoldsIn,
+  HasMadeBooksIn,
+  HasMadeTablesIn,
   HoldsKept,
   LeavesOnly,
   LeavesOr,
@@ -46,7 +47,7 @@ ghost use Rattle.esc_store.specs.Standing.{
   Settles,
   StoreLeavesNoMore,
   connection_of,
-  rows_of,
+  listed_rows_of,
   writes_of,
   store_name,
 };
@@ -54,13 +55,13 @@ ghost use Rattle.sqlite.specs.State.{HasCleanDisk};
 
 use crate::change::Change;
 use crate::codec::manifest::both_forms;
-use crate::counts::KindCounts;
 use crate::fault::SFault;
 use crate::founding::{found_here, give_up_in};
 use crate::opening::find_manifest;
+use crate::remembered::{NOTHING, Remembered};
 use esc_manifest::Manifest;
-use esc_rows::open::is_unused;
-use esc_rows::transaction::{begin_in, commit_in};
+use esc_sql::open::is_unused;
+use esc_sql::transaction::{begin_in, commit_in};
 use sqlite::{Alter, Connection, Error};
 use std::alloc::Global;
 
@@ -72,9 +73,8 @@ pub struct Store<S: Alter> {
     pub(crate) conn: Connection<S>,
     pub(crate) manifest: Manifest,
     pub(crate) writes: u64,
-    // How many objects there are of each kind, once that was read: reading it takes as long as
-    // there are objects. A change forgets it at its end, committed or not.
-    pub(crate) counted: Option<KindCounts>,
+    // What was read since the last change. A change forgets it at its end, committed or not.
+    pub(crate) remembered: Remembered,
     pub(crate) alloc: Global,
 }
 
@@ -115,7 +115,7 @@ impl<S: Alter> Store<S> {
                 conn: connection,
                 manifest: own,
                 writes: 0,
-                counted: None,
+                remembered: NOTHING,
                 alloc,
             }),
             Err(fault) => Err((fault, connection)),
@@ -135,7 +135,7 @@ impl<S: Alter> Store<S> {
     ) -> Result<Store<S>, (SFault, Connection<S>)>
         ensures opened { IfOk result
             (IsOpened S.Store (HoldsKept S.Store connection) IsStore IsOfVersion connection) }
-        ensures refused { IfErr result (λ e. IsRefused store_schema IsStore
+        ensures refused { IfErr result (λ e. IsNoStore store_schema IsStore
             (state S.Store connection) (state S.Store e.1) e.0) }
         ensures survives { MatchResult result
             (λ store. LeavesNoMore S.Store connection (connection_of store))
@@ -147,7 +147,7 @@ impl<S: Alter> Store<S> {
                 conn: connection,
                 manifest,
                 writes: 0,
-                counted: None,
+                remembered: NOTHING,
                 alloc,
             }),
             Err(fault) => Err((fault, connection)),
@@ -155,20 +155,20 @@ impl<S: Alter> Store<S> {
     }
 
     /// The connection of the store, whose database stays as it is. Doesn't allocate.
-    #[tactic(auto, unfolding(crate::specs::Standing::Stands, crate::specs::Standing::HoldsKept))]
+    #[tactic(auto, unfolding(crate::specs::Representation::Represents, crate::specs::Representation::HoldsKept))]
     pub fn into_connection(self) -> Connection<S>
         ensures same { result ≡ connection_of self }
-        ensures holds { (k : Kept) → Stands S.Store self k → HoldsKept S.Store result k }
+        ensures holds { (k : StoreState) → Represents S.Store self k → HoldsKept S.Store result k }
     {
         self.conn
     }
 
     /// The manifest: the rows with which the store was made, and those that were listed since.
     /// Doesn't allocate.
-    #[tactic(auto, unfolding(crate::specs::Standing::Stands))]
+    #[tactic(auto, unfolding(crate::specs::Representation::Represents))]
     pub fn manifest(&self) -> &Manifest
-        ensures manifest { result.now ≡ rows_of self.now }
-        ensures kept { (k : Kept) → Stands S.Store self.now k → result.now ≡ k.listed }
+        ensures manifest { result.now ≡ listed_rows_of self.now }
+        ensures kept { (k : StoreState) → Represents S.Store self.now k → result.now ≡ k.listed }
     {
         &self.manifest
     }
@@ -186,9 +186,9 @@ impl<S: Alter> Store<S> {
     pub fn begin(&mut self) -> Result<Change<'_, S>, SFault>
         ensures* refused { sem 𝓛
             (RestsIfErr (the_row S.row S.Store) self.entry
-            store_name result (λ last. (rows_of last ≡ rows_of self.old)
+            store_name result (λ last. (listed_rows_of last ≡ listed_rows_of self.old)
             × (writes_of last ≡ writes_of self.old) × StoreLeavesNoMore S.Store self.old last
-            × ((k : Kept) → Stands S.Store self.old k → Stands S.Store last k))) }
+            × ((k : StoreState) → Represents S.Store self.old k → Represents S.Store last k))) }
         ensures same_reference { IfOk result (λ change. store_name change
             ≡ self.entry.ghost_name) }
         ensures begun { IfOk result (IsNewChange S.Store self.old) }
@@ -207,41 +207,41 @@ impl<S: Alter> Store<S> {
         ensures manifest { self.new.manifest ≡ self.old.manifest }
         ensures writes { self.new.writes ≡ self.old.writes }
         ensures survives { LeavesNoMore S.Store self.old.conn self.new.conn }
-        ensures stands { OnErr result ((k : Kept) → Stands S.Store self.old k
-            → Stands S.Store self.new k) }
-        ensures began { OnOk result ((k : Kept) → Stands S.Store self.old k
+        ensures stands { OnErr result ((k : StoreState) → Represents S.Store self.old k
+            → Represents S.Store self.new k) }
+        ensures began { OnOk result ((k : StoreState) → Represents S.Store self.old k
             → BeganIn S.Store self.new k) }
-        ensures rest { OnOk result ((k : Kept) → Stands S.Store self.old k
-            → RestIn S.Store self.new None k k) }
-        ensures holds { OnOk result ((k : Kept) → Stands S.Store self.old k
-            → HoldsIn S.Store self.new k.registry) }
+        ensures rest { OnOk result ((k : StoreState) → Represents S.Store self.old k
+            → HasMadeBooksIn S.Store self.new None k k) }
+        ensures holds { OnOk result ((k : StoreState) → Represents S.Store self.old k
+            → HasMadeTablesIn S.Store self.new k.registry) }
         ensures cause { IfErr result IsS1OrS2 }
     {
         let begun = begin_in(&mut self.conn);
         self.settle(begun)
     }
 
-    // Commits the transaction of a change. The counts of objects are those of before it, and are
-    // forgotten.
+    // Commits the transaction of a change. What is remembered is of before it, and is forgotten.
     pub(crate) fn commit_here(&mut self) -> Result<(), SFault>
         ensures manifest { self.new.manifest ≡ self.old.manifest }
         ensures writes { self.new.writes ≡ self.old.writes }
-        ensures counted { self.new.counted ≡ None }
+        ensures remembered { self.new.remembered ≡ nothing_read }
         ensures honest { IsHonest S.Store self.new → IsHonest S.Store self.old }
-        ensures committed { OnOk result ((listing : Option (List MRow)) (before k : Kept)
-            (s : State) → RestIn S.Store self.old listing before (with_registry k s)
-            → HoldsIn S.Store self.old k.registry → HoldsKept S.Store self.new.conn k) }
-        ensures kept { OnErr result ((before : Kept) → BeganIn S.Store self.old before
-            → Stands S.Store self.new before) }
-        ensures crash { (listing : Option (List MRow)) (before k : Kept) (s : State)
-            → RestIn S.Store self.old listing before (with_registry k s)
-            → HoldsIn S.Store self.old k.registry → LeavesOr S.Store self.old.conn self.new.conn k }
-        ensures left { OnOk result ((listing : Option (List MRow)) (before k : Kept) (s : State)
-            → RestIn S.Store self.old listing before (with_registry k s)
-            → HoldsIn S.Store self.old k.registry → LeavesOnly S.Store self.new k) }
+        ensures committed { OnOk result ((listing : Option (List MRow)) (before k : StoreState)
+            (s : State) → HasMadeBooksIn S.Store self.old listing before (with_registry k s)
+            → HasMadeTablesIn S.Store self.old k.registry → HoldsKept S.Store self.new.conn k) }
+        ensures kept { OnErr result ((before : StoreState) → BeganIn S.Store self.old before
+            → Represents S.Store self.new before) }
+        ensures crash { (listing : Option (List MRow)) (before k : StoreState) (s : State)
+            → HasMadeBooksIn S.Store self.old listing before (with_registry k s)
+            → HasMadeTablesIn S.Store self.old k.registry
+            → LeavesOr S.Store self.old.conn self.new.conn k }
+        ensures left { OnOk result ((listing : Option (List MRow)) (before k : StoreState) (s : State)
+            → HasMadeBooksIn S.Store self.old listing before (with_registry k s)
+            → HasMadeTablesIn S.Store self.old k.registry → LeavesOnly S.Store self.new k) }
         ensures cause { IfErr result IsS1OrS2 }
     {
-        self.counted = None;
+        self.remembered = NOTHING;
         let committed = commit_in(&mut self.conn);
         self.settle(committed)
     }
@@ -259,7 +259,7 @@ impl<S: Alter> Store<S> {
     pub(crate) fn give_up(&mut self)
         ensures manifest { self.new.manifest ≡ self.old.manifest }
         ensures writes { self.new.writes ≡ self.old.writes }
-        ensures counted { self.new.counted ≡ self.old.counted }
+        ensures remembered { self.new.remembered ≡ self.old.remembered }
         ensures given_up { IsGivenUp (state S.Store self.old.conn) (state S.Store self.new.conn) }
     {
         give_up_in(&mut self.conn);
@@ -269,7 +269,7 @@ impl<S: Alter> Store<S> {
     pub(crate) fn settle<T>(&mut self, outcome: Result<T, Error>) -> Result<T, SFault>
         ensures manifest { self.new.manifest ≡ self.old.manifest }
         ensures writes { self.new.writes ≡ self.old.writes }
-        ensures counted { self.new.counted ≡ self.old.counted }
+        ensures remembered { self.new.remembered ≡ self.old.remembered }
         ensures settled { Settles S.Store self.old self.new outcome result }
         ensures cause { IfErr result IsS1OrS2 }
     {

@@ -14,7 +14,7 @@ use Rattle.esc_tables.specs.DepositValue.{DepositValue}
 use Rattle.esc_tables.specs.TableRow.{TableRow, are_filed, is_whole, has_key}
 use Rattle.esc_tables.specs.Objects.{objects_of}
 use Rattle.esc_tables.specs.Reading.{tables_of, check_rows, deposit_of, deposit_in, sections_deposit, reading, most_rows, parent_rows, child_rows}
-use Rattle.esc_tables.specs.DepositOf.{all_rows, Makes, IsDepositOf, Stands, IsLeast, IsRefusedAt, IsRefused}
+use Rattle.esc_tables.specs.DepositOf.{all_rows, Makes, IsDepositOf, IsDepositFault, IsLeastDepositFault, IsRefusedAt, IsRefused}
 use Rattle.esc_tables.proofs.ObjectFacts.{same_objects, objects_found, objects_sorted}
 use Rattle.esc_tables.proofs.DepositFacts.{made_of, told_8, told_rows, told_deposit, same_reading, no_frame, no_envelope}
 use Rattle.esc_tables.proofs.SurveyFacts.{told_9}
@@ -124,10 +124,10 @@ reading_exact exact body d = (is_deposit exact body d, reads exact body d)
 -- ---- one refusal comes first
 
 abbrev NoneStands : List Named → EnvelopeValue → Type 0
-NoneStands files e = (m : ℕ) → Stands files e m → ⊥
+NoneStands files e = (m : ℕ) → IsDepositFault files e m → ⊥
 
 abbrev Told : List Named → EnvelopeValue → Type 0
-Told files e = ((deposit_in files e ≡ Ok (deposit_of files e)) × NoneStands files e) ⊎ ((n : ℕ) × (deposit_in files e ≡ Err n) × IsLeast files e n)
+Told files e = ((deposit_in files e ≡ Ok (deposit_of files e)) × NoneStands files e) ⊎ ((n : ℕ) × (deposit_in files e ≡ Err n) × IsLeastDepositFault files e n)
 
 -- a test that passes and fails
 never : {P : Type 0} (b : Bool) → b ≡ true → b ≡ false → P
@@ -142,7 +142,7 @@ unfolding check_rows
 many_rows rows whole named many = let test : nat_le (length rows) most_rows ≡ false = grind (arith, nat_tests) in rw (whole, named, test) refl
 
 abbrev Below : List Named → EnvelopeValue → ℕ → Type 0
-Below files e n = (m : ℕ) → Stands files e m → n ≤ m
+Below files e n = (m : ℕ) → IsDepositFault files e m → n ≤ m
 
 below_8 : (files : List Named) (e : EnvelopeValue) → Below files e 8
 below_8 files e m (inl h) = omega (arith, h.0)
@@ -208,11 +208,11 @@ not_both r x n found refused = absurd cc
 same_number : {A : Type 0} (r : Result A ℕ) (m n : ℕ) → r ≡ Err m → r ≡ Err n → m ≡ n
 same_number r m n first then = cc
 
-least_from : (files : List Named) (e : EnvelopeValue) (n : ℕ) → Told files e → deposit_in files e ≡ Err n → IsLeast files e n
+least_from : (files : List Named) (e : EnvelopeValue) (n : ℕ) → Told files e → deposit_in files e ≡ Err n → IsLeastDepositFault files e n
 least_from files e n (inl right) h = not_both (deposit_in files e) (deposit_of files e) n right.0 h
-least_from files e n (inr wrong) h = subst (IsLeast files e) (same_number (deposit_in files e) wrong.0 n wrong.1 h) wrong.2
+least_from files e n (inr wrong) h = subst (IsLeastDepositFault files e) (same_number (deposit_in files e) wrong.0 n wrong.1 h) wrong.2
 
-refused_from : (files : List Named) (e : EnvelopeValue) (n : ℕ) → Told files e → IsLeast files e n → deposit_in files e ≡ Err n
+refused_from : (files : List Named) (e : EnvelopeValue) (n : ℕ) → Told files e → IsLeastDepositFault files e n → deposit_in files e ≡ Err n
 refused_from files e n (inl right) least = absurd (right.1 n least.0)
 refused_from files e n (inr wrong) least =
     let up : n ≤ wrong.0 = least.1 wrong.0 wrong.2.0 in

@@ -57,21 +57,22 @@ pub record IsDepositOf (body : List ℕ) (d : DepositValue) : Type 0 where
   pub made : Makes files envelope d
 
 -- the refusal of this number, one of the four of files and rows (U8 to U11), applies
-abbrev pub Stands : List Named → EnvelopeValue → ℕ → Type 0
-Stands files e n =
+abbrev pub IsDepositFault : List Named → EnvelopeValue → ℕ → Type 0
+IsDepositFault files e n =
     ((n ≡ 8) × (are_filed files (tables_of e) ≡ false))
     ⊎ ((n ≡ 9) × (list_all is_whole (all_rows files e) ≡ false))
     ⊎ ((n ≡ 10) × (list_all has_key (all_rows files e) ≡ false))
     ⊎ ((n ≡ 11) × (most_rows < length (all_rows files e)))
 
 -- it applies, and no lesser one does
-abbrev pub IsLeast : List Named → EnvelopeValue → ℕ → Type 0
-IsLeast files e n = Stands files e n × ((m : ℕ) → Stands files e m → n ≤ m)
+abbrev pub IsLeastDepositFault : List Named → EnvelopeValue → ℕ → Type 0
+IsLeastDepositFault files e n = IsDepositFault files e n × ((m : ℕ) → IsDepositFault files e m
+    → n ≤ m)
 
 -- the envelope of this bundle is refused, or it is an envelope and its files are refused
 abbrev pub IsRefusedAt : Named → List Named → ℕ → Type 0
 IsRefusedAt first files n = (envelope_of first.bytes ≡ Err n)
-    ⊎ ((e : EnvelopeValue) × (envelope_of first.bytes ≡ Ok e) × IsLeast files e n)
+    ⊎ ((e : EnvelopeValue) × (envelope_of first.bytes ≡ Ok e) × IsLeastDepositFault files e n)
 
 -- the body is refused with this number: its frame is refused, or its envelope, or its files are
 abbrev pub IsRefused : List ℕ → ℕ → Type 0

@@ -15,12 +15,14 @@ use std::collections::BTreeMap;
 /// U11: there are over 100,000 rows.
 const TOO_MANY_ROWS: u8 = 11;
 
-/// The words of the command: the store, the id of the deposit, and the bundle's path.
+/// The words of the command: the store, the id of the deposit, the bundle's path, and whether it is
+/// told how far the work is.
 #[derive(Clone, Copy)]
 pub struct Bundling<'a> {
     pub store: &'a str,
     pub id: &'a str,
     pub target: &'a str,
+    pub is_watched: bool,
 }
 
 /// Writes the bundle, or nothing.
@@ -29,7 +31,7 @@ pub fn write_bundle(rt: &HostRuntime, words: Bundling<'_>) -> Result<(), Stop> {
         id: words.id,
         path: words.target,
     };
-    let made = use_store(rt, words.store, task)?;
+    let made = use_store(rt, words.store, words.is_watched, task)?;
     place_file(rt, words.target, &made.text)
 }
 

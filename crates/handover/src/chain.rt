@@ -1,5 +1,6 @@
 //! What the bodies of a store say: whether they are as listed, and what those of the chain make.
 
+use crate::progress::Progress;
 use esc_bundle::Fault;
 use esc_desk::SFault;
 use esc_envelope::{Envelope, Table};
@@ -55,9 +56,11 @@ pub fn spoiled_rows<S: Alter>(
     alloc: Global,
     store: &mut Store<S>,
     held: &[usize],
+    progress: &mut Progress<'_>,
 ) -> Result<Vec<usize>, SFault> {
     let mut spoiled = Vec::new(alloc);
-    for row in held {
+    for (count, row) in held.iter().enumerate() {
+        progress.tell_read("bodies", count as u64, "bodies");
         if !is_as_listed(alloc, store, *row)? {
             spoiled.push(*row)?;
         }
@@ -66,7 +69,11 @@ pub fn spoiled_rows<S: Alter>(
 }
 
 /// What the deposits of a store's chain say. The bodies are read one at a time.
-pub fn read_chain<S: Alter>(alloc: Global, store: &mut Store<S>) -> Result<ChainFacts, SFault> {
+pub fn read_chain<S: Alter>(
+    alloc: Global,
+    store: &mut Store<S>,
+    progress: &mut Progress<'_>,
+) -> Result<ChainFacts, SFault> {
     let mut facts = ChainFacts {
         objects: BTreeMap::new(alloc),
         tables: Vec::new(alloc),
@@ -74,7 +81,8 @@ pub fn read_chain<S: Alter>(alloc: Global, store: &mut Store<S>) -> Result<Chain
         are_read: true,
     };
     let steps = store.chain(alloc)?;
-    for step in &steps {
+    for (count, step) in steps.iter().enumerate() {
+        progress.tell_read("tables", count as u64, "bodies");
         match store.body_of(alloc, step.row)? {
             Some(body) => facts.add(alloc, &body)?,
             None => facts.are_read = false,

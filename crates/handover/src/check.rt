@@ -1,12 +1,14 @@
-//! `check --store FILE`: the acceptance of a rebuilt registry.
+//! `check --store FILE`: the acceptance of a rebuilt registry; and what `page` shows of it.
 
 use crate::chain::{ChainFacts, read_chain, spoiled_rows};
+use crate::page::page_text;
+use crate::progress::{Progress, Watched};
 use crate::stop::{REFUSED, Stop};
 use crate::store_file::Made;
 use esc_chain::{GapLine, Held, gaps_at};
 use esc_check::{Finding, StreamFault, verify_from};
 use esc_cli::DONE;
-use esc_desk::{Desk, End, SFault, Status};
+use esc_desk::{Desk, End, ParkedBody, Reply, SFault, Status};
 use esc_envelope::Kind;
 use esc_handover::{Seen, are_listed, is_accepted, lines_of};
 use esc_store::Store;
@@ -14,74 +16,94 @@ use sqlite::Alter;
 use std::alloc::Global;
 use std::collections::BTreeMap;
 
+/// How it is told what was seen of a store.
+#[derive(Clone, Copy)]
+pub enum Form {
+    /// A line for each test.
+    Lines,
+    /// A page, with the receipts too.
+    Page,
+}
+
 // What a desk says of its store.
 #[derive(Drop)]
 struct Told {
+    form: Form,
     moment: Option<i64>,
     status: Status,
     end: Option<End>,
     gaps: Vec<GapLine>,
-    parked: usize,
+    parked: Vec<ParkedBody>,
+    receipts: Vec<Reply>,
     findings: Vec<Finding>,
     held: Vec<usize>,
 }
 
-/// The lines of the acceptance of a store, which is given back, and the status of that.
-pub fn acceptance<S: Alter>(alloc: Global, store: Store<S>) -> (Store<S>, Result<Made, Stop>) {
-    let mut desk = Desk::open(store);
-    let told = told_of(alloc, &mut desk);
-    let mut store = desk.into_store();
-    match told {
+/// The acceptance of a desk's store, in this form. The desk is given back.
+pub fn acceptance<S: Alter>(
+    alloc: Global,
+    mut desk: Desk<S>,
+    form: Form,
+    mut progress: Progress<'_>,
+) -> (Desk<S>, Result<Made, Stop>) {
+    match told_of(alloc, &mut desk, form, &mut progress) {
         Ok(told) => {
-            let read = read_store(alloc, &mut store, &told.held);
-            finish(alloc, store, &told, read)
+            let mut store = desk.into_store();
+            let read = read_store(alloc, &mut store, &told.held, &mut progress);
+            let mut desk = Desk::open(store);
+            let made = finish(alloc, &mut desk, &told, read, &mut progress);
+            (desk, made)
         }
-        Err(fault) => (store, Err(Stop::from(fault))),
+        Err(fault) => (desk, Err(Stop::from(fault))),
     }
 }
 
-// Compares the tables of a store with those that were read of its bodies, and tells what was found.
+// Compares the tables of a desk with those that were read of its bodies, and tells what was found.
 fn finish<S: Alter>(
     alloc: Global,
-    store: Store<S>,
+    desk: &mut Desk<S>,
     told: &Told,
     read: Result<(Vec<usize>, ChainFacts), SFault>,
-) -> (Store<S>, Result<Made, Stop>) {
-    match read {
-        Ok((spoiled, facts)) => {
-            let mut desk = Desk::open(store);
-            let is_rebuilt = is_rebuilt(alloc, &mut desk, &facts);
-            let made = made_of(alloc, told, &spoiled, &facts, is_rebuilt);
-            (desk.into_store(), made)
-        }
-        Err(fault) => (store, Err(Stop::from(fault))),
-    }
+    progress: &mut Progress<'_>,
+) -> Result<Made, Stop> {
+    let (spoiled, facts) = read?;
+    let is_rebuilt = is_rebuilt(alloc, desk, &facts, progress)?;
+    made_of(alloc, told, &spoiled, &facts, is_rebuilt)
 }
 
 fn read_store<S: Alter>(
     alloc: Global,
     store: &mut Store<S>,
     held: &[usize],
+    progress: &mut Progress<'_>,
 ) -> Result<(Vec<usize>, ChainFacts), SFault> {
-    let spoiled = spoiled_rows(alloc, store, held)?;
-    let facts = read_chain(alloc, store)?;
+    let spoiled = spoiled_rows(alloc, store, held, progress)?;
+    let facts = read_chain(alloc, store, progress)?;
     Ok((spoiled, facts))
 }
 
-fn told_of<S: Alter>(alloc: Global, desk: &mut Desk<S>) -> Result<Told, SFault> {
+fn told_of<S: Alter>(
+    alloc: Global,
+    desk: &mut Desk<S>,
+    form: Form,
+    progress: &mut Progress<'_>,
+) -> Result<Told, SFault> {
     let moment = desk.moment()?;
     let status = desk.status(alloc)?;
     let end = desk.end(alloc)?;
     let held = desk.held(alloc)?;
     let gaps = gaps_of(alloc, desk, &held, moment)?;
-    let parked = desk.parked(alloc)?.len();
-    let findings = findings_of(alloc, desk, &end)?;
+    let parked = desk.parked(alloc)?;
+    let receipts = receipts_of(alloc, desk, form)?;
+    let findings = findings_of(alloc, desk, &end, progress)?;
     Ok(Told {
+        form,
         moment,
         status,
         end,
         gaps,
         parked,
+        receipts,
         findings,
         held,
     })
@@ -98,16 +120,30 @@ fn gaps_of<S: Alter>(
     Ok(gaps_at(alloc, manifest, &held, moment)?)
 }
 
+// The receipts, for a form that has them.
+fn receipts_of<S: Alter>(
+    alloc: Global,
+    desk: &mut Desk<S>,
+    form: Form,
+) -> Result<Vec<Reply>, SFault> {
+    match form {
+        Form::Lines => Ok(Vec::new(alloc)),
+        Form::Page => desk.receipts(alloc),
+    }
+}
+
 fn findings_of<S: Alter>(
     alloc: Global,
     desk: &mut Desk<S>,
     end: &Option<End>,
+    progress: &mut Progress<'_>,
 ) -> Result<Vec<Finding>, SFault> {
     let Some(end) = end else {
         return Ok(Vec::new(alloc));
     };
-    let mut walk = desk.walk(alloc, None)?;
-    match verify_from(alloc, &mut walk, end.watermark, &end.counts) {
+    let walk = desk.walk(alloc, None)?;
+    let mut objects = Watched::new(walk, progress, "findings");
+    match verify_from(alloc, &mut objects, end.watermark, &end.counts) {
         Ok(found) => Ok(found),
         Err(StreamFault::Source(fault)) => Err(fault),
         Err(StreamFault::NoMemory) => Err(SFault::S2),
@@ -119,12 +155,14 @@ fn is_rebuilt<S: Alter>(
     alloc: Global,
     desk: &mut Desk<S>,
     facts: &ChainFacts,
+    progress: &mut Progress<'_>,
 ) -> Result<bool, SFault> {
     if !facts.are_read {
         return Ok(false);
     }
-    let mut walk = desk.walk(alloc, None)?;
-    are_listed(&facts.objects, &mut walk)
+    let walk = desk.walk(alloc, None)?;
+    let mut objects = Watched::new(walk, progress, "tables");
+    are_listed(&facts.objects, &mut objects)
 }
 
 // The entries of a map of numbers.
@@ -136,13 +174,13 @@ fn entries_of(alloc: Global, numbers: &BTreeMap<Kind, u64>) -> Result<Vec<(Kind,
     Ok(entries)
 }
 
-// The text of the lines, and the status.
+// What is made of what was seen.
 fn made_of(
     alloc: Global,
     told: &Told,
     spoiled: &[usize],
     facts: &ChainFacts,
-    is_rebuilt: Result<bool, SFault>,
+    is_rebuilt: bool,
 ) -> Result<Made, Stop> {
     let objects = entries_of(alloc, &told.status.objects)?;
     let counts = match &told.end {
@@ -157,19 +195,23 @@ fn made_of(
         moment: told.moment,
         end,
         gaps: &told.gaps,
-        parked: told.parked,
+        parked: told.parked.len(),
         findings: &told.findings,
         objects: &objects,
         counts: &counts,
         tables: &facts.tables,
         orphans: facts.orphans,
         spoiled,
-        is_rebuilt: is_rebuilt?,
+        is_rebuilt,
     };
-    text_of(alloc, &seen)
+    match told.form {
+        Form::Lines => lines_text(alloc, &seen),
+        Form::Page => page_text(alloc, &seen, &told.receipts, &told.parked),
+    }
 }
 
-fn text_of(alloc: Global, seen: &Seen<'_>) -> Result<Made, Stop> {
+// The text of the lines, and the status.
+fn lines_text(alloc: Global, seen: &Seen<'_>) -> Result<Made, Stop> {
     let mut text = String::new(alloc);
     let lines = lines_of(alloc, seen)?;
     for line in &lines {

@@ -1,8 +1,10 @@
 //! The words of the program, and what it does for them.
 
 use crate::bundle::{Bundling, write_bundle};
+use crate::page::{Paging, write_page};
 use crate::stop::{Stop, tell_stop};
 use crate::store_file::{Task, use_store};
+use crate::tables::{Tabling, write_tables};
 use clap::builder::ValueParser;
 use clap::{ArgMatches, Error};
 use esc_arguments::or_stop;
@@ -15,32 +17,36 @@ const VERSION: &str = "1 (store version 2)";
 const ABOUT: &str = "Hands over the registry that restore has rebuilt";
 
 const DETAILS: &str = "\
-The store is opened as `restore report` opens it, and nothing in it is changed.
+The store is opened as `restore report` opens it, and nothing in it is changed. With --progress,
+standard error has a line as the opening begins and, every two seconds, one that says how much was
+read.
 
 Refusals go to standard error: E1 PATH (can't be read or written), S1 (the store failed), S2 (no
 memory), S3 (no store, one of another version, or another database); U4 OUT (over 16,777,216 bytes,
 or over 63 tables), U6 OUT (the id isn't 1 to 64 of A-Z a-z 0-9 . _ -), U11 OUT (over 100,000 rows);
 H4 TABLE (rows of this table have different fields), H5 TABLE (no field has the key in each row of
 this table), H6 TABLE (its rows begin with a byte order mark), H7 (there is no chain yet), H8 OUT
-(the bundle reads as other objects).
-Status: 0 done; 1 refused by U or H, or by a test of check; 2 other words; 3 stopped by S or E1.
+(the bundle reads as other objects), H9 TABLE (another table has the same name but for case), H10
+TABLE (SQLite can't have this table: two of its columns have the same name but for case, it has over
+2,000 of them, or its name begins with sqlite_).
+Status: 0 done; 1 refused by U or H, or by a test of check; 2 invalid usage; 3 stopped by S or E1.
 ";
 
 const BUNDLE: &str = "\
-The tables are written as one deposit, a Full at the watermark of the chain's end, with the number of
-objects of each kind in counts. It is the next deposit to make, and a registry that is rebuilt from
-it alone has the same tables, to the byte of every export. Each table is declared by the fields that
-its rows have, in their order. A bundle declares the fields of a table once, so rows of one table
-with different fields have no bundle: the deposits of the chain declare the table in different ways,
-and one of them has to be generated again (H4). Nothing is printed. Example:
+The tables are written as one deposit: a Full at the watermark of the chain's end, with the number of
+objects of each kind in counts. It is the next deposit to make. A registry that is rebuilt from it
+alone has the same tables, and so the same exports, to the byte. Each table is declared by the fields
+that its rows have, in their order. A bundle declares the fields of a table once, so where rows of
+one table have different fields there is no bundle (H4): the deposits of the chain declare the table
+in different ways, and one of them has to be generated again. Nothing is printed. Example:
 
     handover bundle --store desk.db --id F20 next/n1
     pack manifest next/n1 > next.csv
 ";
 
 const CHECK: &str = "\
-A line for each test: ok; told, where the registry may be taken over all the same; wrong, with what is
-wrong and what to do. The status is 1 if one is wrong.
+A line for each test: ok; told, where the registry may be taken over all the same; or wrong, with what
+is wrong and what to do. The status is 1 if one is wrong.
 
 end       no place is listed after the chain's end, up to the moment that is set
 resends   no place of the chain awaits a later resend
@@ -49,14 +55,45 @@ parked    each bundle that was taken is listed
 findings  links, counts, statuses and dates break no rule (V1 to V7)
 orphans   each child row in the chain's deposits has its parent row
 counts    the chain's last deposit declares how many objects of each kind there are
-fields    each field by which links, statuses and dates go is declared where its kind has objects
+fields    each field that has links, statuses or dates is declared, where its kind has objects
 names     no declared table or field looks like one of these under another name, as fClID
 bodies    each bundle that is held has the SHA-256 that is listed
-tables    the tables are those that the bundles of the chain make, once more
+tables    the tables are those that the bundles of the chain make when they are applied again
 
 The last two read all bundles again. Example:
 
     handover check --store desk.db
+";
+
+const TABLES: &str = "\
+DIR is made, or is an empty folder. In it are then:
+
+KIND.csv         for each kind, also one without objects: the parent rows
+TABLE.csv        for each table of child rows that there are
+registry.sqlite  with --sqlite: the same tables as those of an SQLite database
+sha256sums       the SHA-256 of each of these, as `sha256sum -c` reads them
+
+A CSV file has a heading. Its first column, `key`, is the key of the object that a row belongs to, for
+a domain or a host in lower case. Then comes each field that a row of the table has, in the order in
+which the fields first come. A row without a field has an empty text there, and NULL in the database.
+In the database `key` is the primary key of the parent rows, and child rows have an index over it.
+
+The files are made in DIR.part, which becomes DIR when they are whole. With --progress there is also a
+line for each file that is written. Example:
+
+    handover tables --store desk.db --sqlite registry
+    sqlite3 registry/registry.sqlite 'SELECT hostName, count(*) FROM domainNs GROUP BY hostName'
+";
+
+const PAGE: &str = "\
+One page of HTML, which a browser opens from the file. It has whether the registry may be taken over,
+with the lines of check; a picture of the release, and a table that says the same: when each listed
+deposit is, and whether it is in the chain, standing, blocked, missing or awaited again; the objects
+of each kind beside the declared numbers; the findings by code and the receipts by verdict, the first
+twenty of each; and the parked bodies. The page loads nothing and runs nothing. It names objects of
+the registry, so keep it as the exports are kept. The status is 0 even if a test is wrong. Example:
+
+    handover page --store desk.db release.html
 ";
 
 static PROGRAM: Program = Program {
@@ -64,19 +101,40 @@ static PROGRAM: Program = Program {
     version: VERSION,
     about: ABOUT,
     details: DETAILS,
-    shared: &[Argument {
-        id: "store",
-        form: ArgumentForm::Option,
-        value_name: "FILE",
-        values: ValueParser::String,
-        help: "The store's file; beside it FILE-wal may stand, and belongs to it",
-    }],
+    shared: &[
+        Argument {
+            id: "store",
+            form: ArgumentForm::Option,
+            value_name: "FILE",
+            values: ValueParser::String,
+            help: "The store's file; beside it FILE-wal may stand, and belongs to it",
+        },
+        Argument {
+            id: "progress",
+            form: ArgumentForm::Flag,
+            value_name: "",
+            values: ValueParser::Bool,
+            help: "Tells on standard error how far the work is",
+        },
+    ],
     commands: &[
         Subcommand {
             name: "check",
             about: "Prints whether the registry may be taken over as it is, a line for each test",
             details: Some(CHECK),
             arguments: &[],
+        },
+        Subcommand {
+            name: "page",
+            about: "Writes a page that shows the release and the registry, for a browser",
+            details: Some(PAGE),
+            arguments: &[Argument {
+                id: "target",
+                form: ArgumentForm::Word,
+                value_name: "OUT",
+                values: ValueParser::String,
+                help: "Where the page is written; nothing may be there",
+            }],
         },
         Subcommand {
             name: "bundle",
@@ -99,6 +157,27 @@ static PROGRAM: Program = Program {
                 },
             ],
         },
+        Subcommand {
+            name: "tables",
+            about: "Writes the tables as CSV files, and as an SQLite database if asked for",
+            details: Some(TABLES),
+            arguments: &[
+                Argument {
+                    id: "sqlite",
+                    form: ArgumentForm::Flag,
+                    value_name: "",
+                    values: ValueParser::Bool,
+                    help: "Makes registry.sqlite as well",
+                },
+                Argument {
+                    id: "folder",
+                    form: ArgumentForm::Word,
+                    value_name: "DIR",
+                    values: ValueParser::String,
+                    help: "The folder of the files: it is made, or has nothing in it",
+                },
+            ],
+        },
     ],
 };
 
@@ -113,7 +192,7 @@ pub fn run_words<O: Write, E: Write>(
         Ok(matches) => matches,
         Err(error) => return tell_error(rt, &error, out, err),
     };
-    match command_of(&matches) {
+    match command_of(rt, &matches) {
         Some(command) => finish(rt, err, perform(rt, command, out)),
         None => USAGE,
     }
@@ -122,20 +201,30 @@ pub fn run_words<O: Write, E: Write>(
 // What the program is asked to do.
 #[derive(Clone, Copy)]
 enum Command<'a> {
-    Check { store: &'a str },
+    Check { store: &'a str, is_watched: bool },
+    Page(Paging<'a>),
     Bundle(Bundling<'a>),
+    Tables(Tabling<'a>),
 }
 
 // Does what is asked for. Returns the status.
 fn perform<O: Write>(rt: &HostRuntime, command: Command<'_>, out: &mut O) -> Result<u8, Stop> {
     match command {
-        Command::Check { store } => {
-            let made = use_store(rt, store, Task::Check)?;
+        Command::Check { store, is_watched } => {
+            let made = use_store(rt, store, is_watched, Task::Check)?;
             or_stop(rt, "-", out.write_all(&made.text))?;
             Ok(made.status)
         }
+        Command::Page(words) => {
+            write_page(rt, words)?;
+            Ok(DONE)
+        }
         Command::Bundle(words) => {
             write_bundle(rt, words)?;
+            Ok(DONE)
+        }
+        Command::Tables(words) => {
+            write_tables(words)?;
             Ok(DONE)
         }
     }
@@ -150,18 +239,48 @@ fn finish<E: Write>(rt: &HostRuntime, err: &mut E, done: Result<u8, Stop>) -> u8
 }
 
 // What the matched words ask for. `clap` makes sure that there is a command with its arguments.
-fn command_of<'a>(matches: &ArgMatches<'a>) -> Option<Command<'a>> {
+fn command_of<'a>(rt: &'a HostRuntime, matches: &ArgMatches<'a>) -> Option<Command<'a>> {
     let (name, given) = matches.subcommand()?;
     let store = given.get_str("store")?;
+    let is_watched = given.get_flag("progress");
     match name {
-        "check" => Some(Command::Check { store }),
+        "check" => Some(Command::Check { store, is_watched }),
+        "page" => {
+            let target = given.get_str("target")?;
+            Some(Command::Page(Paging {
+                store,
+                target,
+                is_watched,
+            }))
+        }
         "bundle" => {
             let id = given.get_str("id")?;
             let target = given.get_str("target")?;
-            Some(Command::Bundle(Bundling { store, id, target }))
+            Some(Command::Bundle(Bundling {
+                store,
+                id,
+                target,
+                is_watched,
+            }))
         }
+        "tables" => tables_command(rt, store, given),
         _ => None,
     }
+}
+
+fn tables_command<'a>(
+    rt: &'a HostRuntime,
+    store: &'a str,
+    given: &ArgMatches<'a>,
+) -> Option<Command<'a>> {
+    let folder = given.get_str("folder")?;
+    Some(Command::Tables(Tabling {
+        rt,
+        store,
+        folder,
+        has_database: given.get_flag("sqlite"),
+        is_watched: given.get_flag("progress"),
+    }))
 }
 
 // Prints the help or the version that was asked for, or what is wrong with the words. Returns the

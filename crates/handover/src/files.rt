@@ -18,7 +18,7 @@ fn put_file(rt: &HostRuntime, beside: &str, path: &str, bytes: &[u8]) -> Result<
         return Err(Error::from(ErrorKind::AlreadyExists));
     }
     let file = File::create_new(rt, beside)?;
-    let placed = match write_whole(file, bytes) {
+    let placed = match write_new(file, bytes) {
         Ok(()) => fs::rename(rt, beside, path),
         Err(error) => Err(error),
     };
@@ -28,8 +28,8 @@ fn put_file(rt: &HostRuntime, beside: &str, path: &str, bytes: &[u8]) -> Result<
     placed
 }
 
-// Writes a file and closes it.
-fn write_whole(mut file: File, bytes: &[u8]) -> Result<(), Error> {
+/// Writes a file that was made for it, and closes it.
+pub fn write_new(mut file: File, bytes: &[u8]) -> Result<(), Error> {
     file.write_all(bytes)?;
     file.sync_all()
 }

@@ -6,16 +6,25 @@
 //! - `handover check --store FILE` prints whether the registry may be taken over as it is: one line
 //!   for each test of [`esc_handover::Test`] ([`esc_handover::lines_of`], whose contract says which
 //!   of them pass).
+//! - `handover tables --store FILE DIR` writes the tables as CSV files
+//!   ([`esc_handover::write_table`], whose contract states the whole text), and with `--sqlite` as
+//!   a database.
+//! - `handover page --store FILE OUT` writes a page of HTML that shows the release and the registry
+//!   ([`esc_handover::page_of`], whose contract says that it loads and runs nothing, and that each
+//!   text is escaped).
 //! - `handover --version`, `handover --help`.
 //!
 //! It opens a store as `restore report` does, and changes nothing in it. Refusals go to standard
 //! error, one a line, with the letters and numbers of `restore`: `E1 PATH` for a file that can't be
 //! read or written, `S1` to `S3` of the store. `U4 OUT`, `U6 OUT` and `U11 OUT` say that no deposit
-//! has these tables: they are too long or too many, the id has another form, there are too many
-//! rows. What is new is `H4 TABLE` for a table whose rows have different fields, `H5 TABLE` for one
-//! whose key is in no field, `H6 TABLE` for one whose rows begin with a byte order mark, `H7` for a
-//! store without a chain, and `H8 OUT` where the bundle that was made reads as other objects. The
-//! status is 0 where all went well; 1 for U and H, and where a test of `check` is wrong; 2 for other words; 3 for S and E1.
+//! has these tables: they are too long or too many, the id has another form, or there are too many
+//! rows. Its own refusals are `H4 TABLE` for a table whose rows have different fields, `H5 TABLE`
+//! for one whose key is in no field, `H6 TABLE` for one whose rows begin with a byte order mark,
+//! `H7` for a store without a chain, `H8 OUT` where the bundle that was made reads as other
+//! objects, `H9 TABLE` for two tables with the same name but for case, and `H10 TABLE` for a table
+//! that SQLite can't have. The status is 0 where all went well; 1 for U and H, and where a test of
+//! `check` is wrong; 2 for invalid usage; 3 for S and E1. With `--progress` standard error says how
+//! far the work is.
 //!
 //! | Module | Does |
 //! |---|---|
@@ -23,9 +32,14 @@
 //! | `store_file` | opens the store in a file, and closes it |
 //! | `bundle` | `bundle`: the tables as one deposit |
 //! | `check` | `check`: what a desk says of its store, and the lines of the acceptance |
+//! | `page` | `page`: a store as a page |
 //! | `chain` | `check`: what the bodies of a store say |
 //! | `files` | writes a file in one step |
-//! | `stop` | what the program stops for, its text and its status |
+//! | `tables` | `tables`: the tables as files |
+//! | `database` | `tables`: the tables as those of a database |
+//! | `folder` | makes a folder beside its place, and puts it there when it is whole |
+//! | `progress` | tells how far the work is |
+//! | `stop` | why the program stops, the text of that and the status |
 //!
 //! By proof: that no call is unsafe and that each ends, whatever the words and files are.
 #![tactic(auto)]
@@ -34,9 +48,14 @@ mod bundle;
 mod chain;
 mod check;
 mod command_line;
+mod database;
 mod files;
+mod folder;
+mod page;
+mod progress;
 mod stop;
 mod store_file;
+mod tables;
 
 use command_line::run_words;
 use esc_cli::{given_words, print_invalid_utf8};

@@ -26,6 +26,10 @@ pub enum Stop {
     },
     /// `H7`: there is no chain, and so no moment that the tables are of.
     Chainless,
+    /// `H9`: two tables are called alike but for case, and so would have one file.
+    Alike(String),
+    /// `H10`: this table can't be one of a database.
+    Undatabased(String),
 }
 
 impl Stop {
@@ -41,6 +45,7 @@ impl Stop {
                 ..
             } => STOPPED,
             Stop::Unbundled { .. } | Stop::Chainless => REFUSED,
+            Stop::Alike(_) | Stop::Undatabased(_) => REFUSED,
         }
     }
 }
@@ -51,6 +56,8 @@ impl fmt::Display for Stop {
             Stop::Shared(stop) => write!(f, "{stop}"),
             Stop::Unbundled { refusal, path } => fmt_unbundled(f, refusal, OneLine(path.as_str())),
             Stop::Chainless => f.write_str("H7"),
+            Stop::Alike(table) => write!(f, "H9 {}", OneLine(table.as_str())),
+            Stop::Undatabased(table) => write!(f, "H10 {}", OneLine(table.as_str())),
         }
     }
 }

@@ -1,13 +1,14 @@
 //! The store in a file: how it is opened and left, and what is done with its desk in between.
 
 use crate::bundle::tables_bundle;
-use crate::check::acceptance;
+use crate::check::{Form, acceptance};
+use crate::progress::Progress;
 use crate::stop::Stop;
+use crate::tables::{Tabling, desk_tables};
 use esc_arguments::check_access;
 use esc_desk::{Desk, SFault};
-use esc_recovery::is_missing;
-use esc_store::Store;
-use sqlite::{Alter, Connection, Error, ErrorCode};
+use esc_recovery::{PathFault, close_desk, open_desk_at};
+use sqlite::{Alter, Unknown};
 use std::alloc::Global;
 
 /// What is made of a store.
@@ -17,6 +18,10 @@ pub enum Task<'a> {
     Bundle { id: &'a str, path: &'a str },
     /// The lines of its acceptance.
     Check,
+    /// Nothing: its tables are written as files.
+    Tables(Tabling<'a>),
+    /// A page that shows it.
+    Page,
 }
 
 /// What was made of a store: a text, and the program's status.
@@ -26,69 +31,59 @@ pub struct Made {
     pub status: u8,
 }
 
-/// Does a task with the store in a file.
-pub fn use_store(rt: &HostRuntime, path: &str, task: Task<'_>) -> Result<Made, Stop> {
-    if is_missing(rt, path) {
-        return Err(Stop::from(SFault::S3));
-    }
-    match Connection::open(rt, path) {
-        Ok(connection) => {
-            let (connection, made) = use_connection(rt.alloc(), connection, task);
-            let closed = closed_of(connection.close());
-            let made = made?;
-            closed?;
-            Ok(made)
-        }
-        Err(error) => Err(why_not_opened(rt, path, error)),
-    }
-}
-
-// What comes of closing a database.
-fn closed_of(closed: Result<(), Error>) -> Result<(), Stop> {
+/// Does a task with the store in a file, and tells how far it is if that is asked for. What stops
+/// it is told rather than a close that fails after it.
+pub fn use_store(
+    rt: &HostRuntime,
+    path: &str,
+    is_watched: bool,
+    task: Task<'_>,
+) -> Result<Made, Stop> {
+    let mut progress = Progress::new(rt, is_watched);
+    progress.tell_opening(path);
+    let desk = match open_desk_at(rt, path, Unknown) {
+        Ok(desk) => desk,
+        Err(fault) => return Err(stop_of(rt, path, fault)),
+    };
+    let (desk, made) = use_desk(rt.alloc(), desk, task, progress);
+    let closed = close_desk(desk);
+    let made = made?;
     match closed {
-        Ok(()) => Ok(()),
-        Err(error) => Err(Stop::from(SFault::from(error))),
+        Ok(_files) => Ok(made),
+        Err(fault) => Err(Stop::from(fault)),
     }
 }
 
-// Does a task with the store in a database, which is given back.
-fn use_connection<S: Alter>(
+// Does a task with a desk, which is given back. (Over any store: each use of a `FileStore` as one
+// costs the prover seconds.)
+fn use_desk<S: Alter>(
     alloc: Global,
-    connection: Connection<S>,
+    mut desk: Desk<S>,
     task: Task<'_>,
-) -> (Connection<S>, Result<Made, Stop>) {
-    match Store::open(alloc, connection) {
-        Ok(store) => {
-            let (store, made) = use_opened(alloc, store, task);
-            (store.into_connection(), made)
-        }
-        Err((fault, connection)) => (connection, Err(Stop::from(fault))),
-    }
-}
-
-fn use_opened<S: Alter>(
-    alloc: Global,
-    store: Store<S>,
-    task: Task<'_>,
-) -> (Store<S>, Result<Made, Stop>) {
+    progress: Progress<'_>,
+) -> (Desk<S>, Result<Made, Stop>) {
     match task {
         Task::Bundle { id, path } => {
-            let mut desk = Desk::open(store);
             let made = tables_bundle(alloc, &mut desk, id, path);
-            (desk.into_store(), made)
+            (desk, made)
         }
-        Task::Check => acceptance(alloc, store),
+        Task::Check => acceptance(alloc, desk, Form::Lines, progress),
+        Task::Page => acceptance(alloc, desk, Form::Page, progress),
+        Task::Tables(words) => {
+            let made = desk_tables(&mut desk, words, progress);
+            (desk, made)
+        }
     }
 }
 
-// Why the database of a file wasn't opened: `E1` if the system doesn't let the file be read and
-// written, else the store's fault.
-fn why_not_opened(rt: &HostRuntime, path: &str, error: Error) -> Stop {
-    match error {
-        Error::SqliteFailure(ErrorCode::CannotOpen) => match check_access(rt, path) {
+// Why there is no desk: `E1` if the system doesn't let the file be read and written, else the
+// store's fault.
+fn stop_of(rt: &HostRuntime, path: &str, fault: PathFault) -> Stop {
+    match fault {
+        PathFault::Store(fault) => Stop::from(fault),
+        PathFault::Unopened => match check_access(rt, path) {
             Ok(()) => Stop::from(SFault::S1),
             Err(stop) => Stop::from(stop),
         },
-        error => Stop::from(SFault::from(error)),
     }
 }

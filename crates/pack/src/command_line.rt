@@ -1,9 +1,10 @@
 //! The words of the program, and what it does for them.
 
 use crate::bundle::{Bundling, write_bundle};
+use crate::check::{Checking, check_files};
 use crate::describe::describe;
 use crate::manifest::manifest_at;
-use crate::stop::{Stop, print, tell_stop};
+use crate::stop::{REFUSED, Stop, print, tell_stop};
 use clap::builder::ValueParser;
 use clap::{ArgMatches, Error};
 use esc_cli::{Argument, ArgumentForm, DONE, Program, Subcommand, USAGE, print_answer};
@@ -18,6 +19,8 @@ enum Task<'m, 'a> {
     Bundle(Bundling<'a>),
     /// Print the description that is proposed of a folder's files.
     Describe { folder: &'a str },
+    /// Print what would be found of a folder's files.
+    Check(Checking<'a>),
 }
 
 /// The version of the program, and that of the stores that `restore` makes of what it writes.
@@ -39,6 +42,10 @@ Without a description, one is proposed by the names of the files and their headi
 
     pack describe files > envelope.json
 
+Before a folder is taken, what would be found of its files:
+
+    pack check --manifest manifest.csv deposits
+
 Refusals go to standard error: E1 PATH (can't be read or written), E2 PATH (over 16,777,216 bytes),
 U1 to U11 with the path (the bundle is no deposit), U9 PATH row 12 (a row of this file has another
 number of fields than declared, or a field that is no UTF-8; rows count from 1, after a heading),
@@ -46,7 +53,8 @@ M10 PATH row 2 against OTHER (no manifest lists these deposits, by M7 or M10 to 
 bundle PATH contradicts that of OTHER, where it is about two; rows count from 1, in the order of
 places), M1 row 0 (they are too many), H1 PATH (another heading than the declared fields), H2 PATH
 (rows that begin with a byte order mark), H3 PATH (no description of the folder), S2 (no memory).
-Status: 0 done; 1 refused by E2, U, M or H; 2 other words; 3 stopped by E1 or S2.
+Status: 0 done; 1 refused by E2, N1, U, M or H, or check found a file that is not A1; 2 invalid usage;
+3 stopped by E1 or S2.
 ";
 
 const DESCRIPTION: &str = "\
@@ -78,6 +86,27 @@ heading are joined. Fields that the desk looks for get its names (pack bundle --
 What can't be told is said on standard error, a line each that begins with unknown: always the id,
 the type and the watermark, for which the description has ID, FULL and 1970-01-01T00:00:00Z, and
 each file that it doesn't name. Set them, and give the description to pack bundle.
+";
+
+const CHECK: &str = "\
+It takes nothing: it tells what restore take would find of each plain file of DIR, in a store of this
+manifest that has taken nothing yet. A line for each file, in byte order of names, and then one for
+each row of the manifest whose SHA-256 no file has:
+
+    n1: A1, listed as F1 FULL 2024-03-01T00:00:00Z resend 0
+    n1b: A1 again, listed as F1 FULL 2024-03-01T00:00:00Z resend 0
+    n2: A3 U8, listed as D2 DIFF 2024-03-02T00:00:00Z resend 0: section 3 d: the file of no table
+    n3: A4, listed as D3 DIFF 2024-03-03T00:00:00Z resend 0: prevId is D1, listed D2
+    n4: A5, not listed, says I4 INCR 2024-03-04T00:00:00Z resend 0
+    manifest.csv: A5, not listed, U1: the first line is not \"escrow-bundle 1\"
+    no file: F5 FULL 2024-03-05T00:00:00Z resend 0
+
+Of a file that is no deposit it tells where, as in section 2 c.csv, row 3, column clID: no UTF-8.
+Sections count from 1, the envelope; rows from 1, since a section has no heading. A file is not listed
+if no row of the manifest has its SHA-256: take would park it, and it stays in the store until a later
+manifest lists it. On standard error are, as of restore take, N1 NAME (a name that is not 1 to 64 of
+A-Z a-z 0-9 . _ -) and E2 NAME (over 16,777,216 bytes). M10 row 2 is a FILE that is no manifest. The
+status is 0 if each file is A1, even if there is no file for a row.
 ";
 
 static PROGRAM: Program = Program {
@@ -139,6 +168,27 @@ static PROGRAM: Program = Program {
                 help: "The folder of the files",
             }],
         },
+        Subcommand {
+            name: "check",
+            about: "Tells what restore take would find of a folder's files, and takes nothing",
+            details: Some(CHECK),
+            arguments: &[
+                Argument {
+                    id: "manifest",
+                    form: ArgumentForm::Option,
+                    value_name: "FILE",
+                    values: ValueParser::String,
+                    help: "The release manifest",
+                },
+                Argument {
+                    id: "folder",
+                    form: ArgumentForm::Word,
+                    value_name: "DIR",
+                    values: ValueParser::String,
+                    help: "The folder of the files",
+                },
+            ],
+        },
     ],
 };
 
@@ -175,6 +225,11 @@ fn task_of<'m, 'a>(matches: &'m ArgMatches<'a>) -> Option<Task<'m, 'a>> {
             let folder = given.get_str("folder")?;
             Some(Task::Describe { folder })
         }
+        "check" => {
+            let manifest = given.get_str("manifest")?;
+            let folder = given.get_str("folder")?;
+            Some(Task::Check(Checking { manifest, folder }))
+        }
         _ => None,
     }
 }
@@ -196,19 +251,20 @@ fn run<O: Write, E: Write>(rt: &HostRuntime, task: Task<'_, '_>, out: &mut O, er
         Task::Manifest { paths } => print_manifest(rt, paths, out),
         Task::Bundle(words) => make_bundle(rt, words, err),
         Task::Describe { folder } => print_description(rt, folder, out, err),
+        Task::Check(words) => print_check(rt, words, out, err),
     };
     match done {
-        Ok(()) => DONE,
+        Ok(status) => status,
         Err(stop) => tell_stop(rt, err, &stop),
     }
 }
 
 // `bundle ..`: the bundle is written, and what the desk won't look at goes to standard error.
-fn make_bundle<E: Write>(rt: &HostRuntime, words: Bundling<'_>, err: &mut E) -> Result<(), Stop> {
+fn make_bundle<E: Write>(rt: &HostRuntime, words: Bundling<'_>, err: &mut E) -> Result<u8, Stop> {
     let unseen = write_bundle(rt, words)?;
     // A failure of standard error is ignored: there is nowhere to report it.
     let _ = err.write_all(unseen.as_bytes());
-    Ok(())
+    Ok(DONE)
 }
 
 // `describe DIR`: the description is printed, and what it can't tell goes to standard error.
@@ -217,17 +273,33 @@ fn print_description<O: Write, E: Write>(
     folder: &str,
     out: &mut O,
     err: &mut E,
-) -> Result<(), Stop> {
+) -> Result<u8, Stop> {
     let described = describe(rt, folder)?;
     // A failure of standard error is ignored: there is nowhere to report it.
     let _ = err.write_all(described.unknown.as_bytes());
-    print(rt, out, &described.text)
+    print(rt, out, &described.text)?;
+    Ok(DONE)
+}
+
+// `check ..`: what would be found of the files is printed. The status says whether each is right.
+fn print_check<O: Write, E: Write>(
+    rt: &HostRuntime,
+    words: Checking<'_>,
+    out: &mut O,
+    err: &mut E,
+) -> Result<u8, Stop> {
+    if check_files(rt, words, out, err)? {
+        Ok(DONE)
+    } else {
+        Ok(REFUSED)
+    }
 }
 
 // `manifest BUNDLE..`: the release manifest is printed.
-fn print_manifest<O: Write>(rt: &HostRuntime, paths: &[&str], out: &mut O) -> Result<(), Stop> {
+fn print_manifest<O: Write>(rt: &HostRuntime, paths: &[&str], out: &mut O) -> Result<u8, Stop> {
     let text = manifest_at(rt, paths)?;
-    print(rt, out, &text)
+    print(rt, out, &text)?;
+    Ok(DONE)
 }
 
 // Tells the help or the version that was asked for, or what is wrong with the words.

@@ -1,8 +1,9 @@
-//! Reads bundles and an agent's files, and writes a bundle in one step.
+//! Reads bundles, manifests and an agent's files, and writes a bundle in one step.
 
 use crate::stop::{Refusal, Stop, or_stop};
 use esc_bundle::MOST_BYTES;
-use esc_cli::{Links, path_in, read_whole};
+use esc_cli::{Links, path_in, read_front, read_whole};
+use esc_manifest::{MFault, Manifest, read_manifest};
 use std::fs::{self, File};
 use std::io::{Error, ErrorKind, Write};
 
@@ -39,8 +40,35 @@ pub fn read_file(rt: &HostRuntime, path: &str) -> Result<Vec<u8>, Stop> {
     }
 }
 
-/// `E1` where there is no folder at a path. None is at an empty one, which with a name after it would
-/// be the path of a file in the root.
+/// The body in a plain file, which may not be a link. `None` if it is over 16,777,216 bytes.
+pub fn read_body(rt: &HostRuntime, path: &str) -> Result<Option<Vec<u8>>, Stop> {
+    let body = read_whole(rt, path, Links::Refused, MOST_BYTES as u64);
+    or_stop(rt, path, body)
+}
+
+/// The manifest in a file. Of one that is too long only the first bytes are read, one more than a
+/// manifest has at most.
+pub fn read_manifest_at(rt: &HostRuntime, path: &str) -> Result<Manifest, Stop> {
+    let front = read_front(
+        rt,
+        path,
+        Links::Followed,
+        esc_manifest::MOST_MANIFEST_BYTES as u64,
+    );
+    let text = or_stop(rt, path, front)?;
+    match read_manifest(rt.alloc(), &text) {
+        Ok(manifest) => Ok(manifest),
+        Err(MFault::Refused { code, row }) => Err(Stop::Unlisted {
+            code,
+            row,
+            paths: None,
+        }),
+        Err(MFault::NoMemory) => Err(Stop::NoMemory),
+    }
+}
+
+/// `E1` where there is no folder at a path. None is at an empty one, which with a name after it
+/// would be the path of a file in the root.
 pub fn check_folder(rt: &HostRuntime, path: &str) -> Result<(), Stop> {
     if or_stop(rt, path, fs::metadata(rt, path))?.is_dir() {
         Ok(())

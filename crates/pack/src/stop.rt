@@ -7,7 +7,7 @@ use std::fmt;
 use std::io::{Error, ErrorKind, Write};
 
 /// A file that is refused.
-const REFUSED: u8 = 1;
+pub const REFUSED: u8 = 1;
 
 /// A file failed, or memory was refused.
 const STOPPED: u8 = 3;

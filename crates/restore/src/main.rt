@@ -29,7 +29,7 @@
 //! `migrate`, that it is of version 1. A control character in a path or a name is escaped. Faults
 //! are found in this order: the words, the moment, the manifest, the store, the folder, then file
 //! by file. The status is 0 where all went well; 1 for a manifest's fault or E3, or where `take`
-//! met N1, E2 or a verdict other than A1, and went on; 2 for other words; 3 for S1 to S5 and E1,
+//! met N1, E2 or a verdict other than A1, and went on; 2 for invalid usage; 3 for S1 to S5 and E1,
 //! where it stops.
 #![tactic(auto)]
 

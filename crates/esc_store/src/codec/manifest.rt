@@ -4,7 +4,7 @@ ghost use Rattle.std.specs.Prelude.{◌≡◌, ℕ, List, map, option_map, strin
 ghost use Rattle.esc_envelope.specs.declared.place.DepositType.{DepositType as deposit_type};
 ghost use Rattle.esc_envelope.specs.Place.{rank};
 ghost use Rattle.esc_manifest.specs.declared.row.MRow.{MRow as manifest_row};
-ghost use Rattle.esc_rows.specs.Entries.{listed_row as stored_row};
+ghost use Rattle.esc_sql.specs.Entries.{listed_row as stored_row};
 ghost use Rattle.esc_store.specs.Faults.{IsS1OrS2};
 ghost use Rattle.esc_store.specs.TypedRows.{listed_row, listed_from};
 
@@ -12,7 +12,7 @@ use crate::codec::small;
 use crate::fault::{DAMAGED, SFault};
 use esc_envelope::{DepositType, Header, Place};
 use esc_manifest::{MRow, Manifest, from_rows};
-use esc_rows::listed::Listed;
+use esc_sql::listed::Listed;
 use std::alloc::Global;
 
 // The number of a type in the tables.

@@ -14,8 +14,8 @@ ghost use Rattle.std.specs.Prelude.{
   string_bytes,
   IsSorted,
 };
-ghost use Rattle.esc_rows.specs.Entries.{receipt_row};
-ghost use Rattle.esc_rows.specs.Changes.{receipt_of};
+ghost use Rattle.esc_sql.specs.Entries.{receipt_row};
+ghost use Rattle.esc_sql.specs.Changes.{receipt_of};
 ghost use Rattle.esc_store.specs.Faults.{IsS1OrS2};
 ghost use Rattle.esc_store.specs.TypedRows.{
   verdict_number,
@@ -34,7 +34,7 @@ use crate::codec::small;
 use crate::fault::{DAMAGED, SFault};
 use crate::reply::{Receipt, Reply, Verdict};
 use esc_manifest::Manifest;
-use esc_rows::receipt::Receipt as StoredReceipt;
+use esc_sql::receipt::Receipt as StoredReceipt;
 use std::alloc::Global;
 
 fn small_row(row: Option<usize>) -> Result<Option<u32>, SFault>

@@ -1,16 +1,16 @@
 //! The steps of a chain as the tables keep them, and back.
 
 ghost use Rattle.std.specs.Prelude.{◌≡◌, ◌+◌, ℕ, List, map, IfOk, IfErr};
-ghost use Rattle.esc_rows.specs.Entries.{step_row};
+ghost use Rattle.esc_sql.specs.Entries.{step_row};
 ghost use Rattle.esc_store.specs.Faults.{IsS1OrS2};
 ghost use Rattle.esc_store.specs.TypedRows.{steps_from};
-ghost use Rattle.esc_store.specs.Kept.{step_at};
+ghost use Rattle.esc_store.specs.StoreState.{step_at};
 
 use crate::codec::small;
 use crate::fault::{DAMAGED, SFault};
 use esc_apply::Step;
 use esc_manifest::Manifest;
-use esc_rows::step::ChainStep;
+use esc_sql::step::ChainStep;
 use std::alloc::Global;
 
 // Steps of a chain as their table keeps them, which numbers all from 1: those past the first ones,

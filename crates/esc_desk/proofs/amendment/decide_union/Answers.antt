@@ -26,14 +26,14 @@ returns-clause-decided g c = λ clean e k more stood stands knows united.
     let same_bodies : (r : ℕ) → amended_bodies n k.parked (length k.listed) k.bodies r ≡ amended_bodies c.rows-2.result.now k.parked (length c.rows-from.result.now) k.bodies r = λ r. sym (
     ap (λ (m : List MRow). amended_bodies m k.parked (length c.rows-from.result.now) k.bodies r) c.rows-2.ensures.rows
     ∙ ap (λ (m : List MRow). amended_bodies n k.parked (length m) k.bodies r) first) in
-    let is : IsListing e k more n c.args.known c.in_ok-judged.judged rows c.in_ok-plan.plan = record {
+    let is : IsListing e k more n c.args.cache c.in_ok-judged.judged rows c.in_ok-plan.plan = record {
       stood = stands;
       is_union = united ∙ ap (λ (m : List MRow). extended m more) (sym stands.books.listed);
       first = subst IsAccepted (c.manifest.ensures.kept k stood) c.rows-from.ensures.accepted;
       accepted = c.rows.ensures.accepted;
       knows = knows;
       are_judged = subst₂ (λ (m : List MRow) (from : ℕ). AreJudged m k.parked from c.in_ok-judged.judged) c.rows.ensures.rows (ap length first) (c.in_ok-judged.ensures.judged judged_on k stood);
-      are_held = c.in_ok-append_rows.ensures ∙ ap (λ (xs : List ℕ). c.args.known.held.items ++ xs) c.deref.ensures.value;
+      are_held = c.in_ok-append_rows.ensures ∙ ap (λ (xs : List ℕ). c.args.cache.held_rows.items ++ xs) c.deref.ensures.value;
       latest = subst (λ (xs : List Step). AreLatestSteps n rows k.moment xs) steps latest;
       planned = c.in_ok-plan.ensures.planned clean k (amended_bodies n k.parked (length k.listed) k.bodies) seen same_bodies (ap (λ v. v.items) c.replace-old.ensures.value ∙ knows.chain);
     } in

@@ -2,7 +2,7 @@ use Rattle.std.proofs.Common.{◌≡◌, ◌+◌, List, ℕ, drop, get_or, sym, 
 use Rattle.std.proofs.lemmas.List.{at_drop_more}
 use Rattle.esc_manifest.specs.declared.row.MRow.{MRow}
 use Rattle.esc_manifest.specs.ManifestRows.{row_at, no_row}
-use Rattle.esc_store.specs.Kept.{with_adopted}
+use Rattle.esc_store.specs.StoreState.{with_adopted}
 use Rattle.esc_store.specs.StandingLaws.{goes_then, part_was}
 use Rattle.esc_events.specs.Amended.{with_all_adopted}
 use Rattle.esc_desk.proofs.changes.adopt_rows.Goals as goal

@@ -1,5 +1,5 @@
 use Rattle.std.proofs.Common.{rules}
-use Rattle.esc_store.specs.Standing.{IsHonest, LeavesOr, StoreLeavesNoMore}
+use Rattle.esc_store.specs.Representation.{IsHonest, LeavesOr, StoreLeavesNoMore}
 use Rattle.esc_store.specs.StandingLaws.{was_clean}
 use Rattle.esc_desk.specs.Edits.{IsFilled}
 use Rattle.esc_desk.proofs.CauseLemmas.{if_err_is}

@@ -12,9 +12,9 @@ use Rattle.esc_desk.proofs.intake.decide_held.Goals as goal
 pub returns-then-contains-clause-decided : goal.returns-then-contains-clause-decided
 returns-then-contains-clause-decided g c = λ clean e n k stood is.
     let row = c.args.row in
-    let known = c.args.known in
+    let cache = c.args.cache in
     let any = ap (list_any (λ q. nat_eq q row)) (sym c.deref.ensures.value) ∙ sym c.if-contains.ensures.value in
-    let some = (is.held.each row).0 (contained known.held.items row any) in
+    let some = (is.held.each row).0 (contained cache.held_rows.items row any) in
     subst (IsDecidedArrival e (an_arrival n c.args.body.now) k (Holding row c.args.deposit)) (sym c.still.ensures)
     (decided_there is (λ unlisted. absurd (holding_listed row c.args.deposit unlisted)) (λ q here. subst (λ (r : ℕ). IsSome (k.bodies r)) (same_Some _ _ here) some))
 
@@ -22,4 +22,4 @@ pub returns-clause-decided : goal.returns-clause-decided
 returns-clause-decided g c = λ clean e n k stood is.
     let row = c.args.row in
     let other = ap (list_any (λ q. nat_eq q row)) (sym c.deref.ensures.value) ∙ sym c.if-contains.ensures.value in
-    c.decide_late.ensures.decided clean e n k stood is (no_body k.bodies c.args.known.held.items is.held row other)
+    c.decide_late.ensures.decided clean e n k stood is (no_body k.bodies c.args.cache.held_rows.items is.held row other)

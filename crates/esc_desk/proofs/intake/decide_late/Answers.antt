@@ -1,13 +1,16 @@
-use Rattle.std.proofs.Common.{Some, None, refl, sym, ap, subst}
-use Rattle.esc_store.specs.Kept.{AreHeldBy, body_put}
+use Rattle.std.proofs.Common.{ℤ, Option, Some, None, refl, sym, ap, subst}
+use Rattle.esc_chain.specs.Chain.{IsLatestChainAt}
+use Rattle.esc_store.specs.StoreState.{AreHeldBy, body_put}
 use Rattle.esc_store.specs.StandingLaws.{was_honest}
 use Rattle.esc_events.specs.ArrivalValue.{an_arrival}
 use Rattle.esc_desk.specs.declared.edit.Storing.TheVariants.{Hold}
 use Rattle.esc_desk.specs.Edits.{noted}
+use Rattle.esc_desk.specs.Lengthening.{IsChainWithout}
 use Rattle.esc_desk.proofs.Deciding.{decided_moved, decision_by}
 use Rattle.esc_desk.proofs.DecidingArrivals.{late_move, late_idle, stores_something}
 use Rattle.esc_desk.proofs.Holding.{source_of}
 use Rattle.esc_desk.proofs.KnownRows.{held_more}
+use Rattle.esc_desk.proofs.Lengthening.{one_more_held}
 use Rattle.esc_desk.proofs.intake.decide_late.Goals as goal
 
 pub returns-clause-decided : goal.returns-clause-decided
@@ -17,13 +20,21 @@ returns-clause-decided g c = λ clean e n k stood is none.
     let plan = c.in_ok-plan.ensures in
     let there = c.in_ok-moment.ensures.same.stands k stood in
     let moment = c.in_ok-moment.ensures.moment (was_honest plan.same clean) k stood in
-    let held = held_more k.bodies row a.body c.args.known.held.items c.insert_row.new.rows.items is.held (c.in_ok-insert_row.ensures is.held.rising) in
+    let inserted = c.in_ok-insert_row.ensures is.held.rising in
+    let held = held_more k.bodies row a.body c.args.cache.held_rows.items c.insert_row.new.rows.items is.held inserted in
+    let before : IsChainWithout k.listed c.insert_row.new.rows.items c.in_ok-moment.moment row c.args.cache.chain.items = record {
+      others = is.stood.held;
+      one_more = one_more_held k.bodies row c.args.cache.held_rows.items c.insert_row.new.rows.items is.stood.held is.stood.have_bodies is.held inserted;
+      chain = k.steps;
+      are_steps = is.chain;
+      latest = subst (λ (t : Option ℤ). IsLatestChainAt k.listed is.stood.held t k.steps) (sym moment) is.stood.chain;
+    } in
     let planned = plan.planned clean k (body_put k.bodies row a.body) there (source_of e a k row c.args.deposit (sym is.found_is)) is.chain in
     let books = is.late row c.args.deposit refl none in
     record {
-      decided = decided_moved c.args.receipt _ _ _ c.plan_latest.new.known c.latest_chain_at_rows_are_held.ensures c.read_deposits_mention_few.ensures
-          plan.sound (late_move is row none books held moment (plan.latest k there) planned) (ap (λ v. v.items) plan.held)
+      decided = decided_moved c.args.receipt _ _ _ c.plan_arrived.new.cache c.latest_chain_at_rows_are_held.ensures c.read_deposits_mention_few.ensures
+          plan.sound (late_move is row none books held moment (plan.latest k there before) planned) (ap (λ v. v.items) plan.held)
           (subst (AreHeldBy (noted c.args.receipt k).receipts) (ap (λ v. v.items) (sym plan.told)) is.told);
       idle = λ work cost. late_idle is row none books work;
-      there = λ empty. absurd (stores_something (decision_by c.args.receipt None (Hold row c.args.body) None (Some c.plan_latest.new.known) (Some c.in_ok-plan.plan)).edit refl empty);
+      there = λ empty. absurd (stores_something (decision_by c.args.receipt None (Hold row c.args.body) None (Some c.plan_arrived.new.cache) (Some c.in_ok-plan.plan)).edit refl empty);
     }

@@ -2,14 +2,14 @@ use Rattle.std.proofs.Common.{List, [], ◌∷◌, ◌++◌, ℕ, Some, inl, inr
 use Rattle.std.proofs.lemmas.Option.{none-some}
 use Rattle.sha2.specs.Sha256.{sha256}
 use Rattle.esc_tables.specs.Reading.{reading}
-use Rattle.esc_store.specs.Kept.{with_parked}
+use Rattle.esc_store.specs.StoreState.{with_parked}
 use Rattle.esc_store.specs.StandingLaws.{was_honest}
 use Rattle.esc_events.specs.declared.assessment.Assessment.TheVariants.{Unlisted}
 use Rattle.esc_events.specs.declared.parking.Parking.TheVariants.{Free}
 use Rattle.esc_events.specs.ArrivalValue.{an_arrival}
 use Rattle.esc_events.specs.Events.EventValue.{arrived}
 use Rattle.esc_events.specs.Parks.{IsParking}
-use Rattle.esc_events.specs.Stands.{AreBooks}
+use Rattle.esc_events.specs.StateAfter.{AreBooks}
 use Rattle.esc_desk.specs.declared.edit.Storing.TheVariants.{Park}
 use Rattle.esc_desk.specs.Decisions.{IsDecidedArrival}
 use Rattle.esc_desk.specs.Edits.{noted}

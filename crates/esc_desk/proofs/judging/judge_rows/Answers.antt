@@ -14,12 +14,12 @@ loop-row-preserved g c =
       same = as_before_then now.same c.judge.ensures.same;
       adopted = λ clean k stood.
           let judged = c.in_ok-judgement.ensures.judged clean k (now.same.stands k stood) in
-          let known = now.adopted (clean_before clean) k stood in
-          adopted_more rows k.parked row c.loop-row-test.true told judged c.loop-row.judged.adopted.items c.in_ok-take.ensures.adopted known;
+          let cache = now.adopted (clean_before clean) k stood in
+          adopted_more rows k.parked row c.loop-row-test.true told judged c.loop-row.judged.adopted.items c.in_ok-take.ensures.adopted cache;
       dropped = λ clean k stood.
           let judged = c.in_ok-judgement.ensures.judged clean k (now.same.stands k stood) in
-          let known = now.dropped (clean_before clean) k stood in
-          dropped_more rows k.parked row c.loop-row-test.true told judged c.loop-row.judged.dropped.items c.in_ok-take.ensures.dropped known;
+          let cache = now.dropped (clean_before clean) k stood in
+          dropped_more rows k.parked row c.loop-row-test.true told judged c.loop-row.judged.dropped.items c.in_ok-take.ensures.dropped cache;
     }
 
 pub returns-clause-judged : goal.returns-clause-judged

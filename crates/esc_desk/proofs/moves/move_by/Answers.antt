@@ -4,8 +4,8 @@ use Rattle.esc_tables.specs.DepositValue.{DepositValue}
 use Rattle.esc_apply.specs.declared.front.Step.{Step}
 use Rattle.esc_apply.specs.Images.{chain_state}
 use Rattle.esc_apply.specs.Front.{common_front}
-use Rattle.esc_store.specs.Standing.{IsHonest, Rest, HoldsNow}
-use Rattle.esc_store.specs.Kept.{with_steps}
+use Rattle.esc_store.specs.Representation.{IsHonest, HasMadeBooks, HasMadeTables}
+use Rattle.esc_store.specs.StoreState.{with_steps}
 use Rattle.esc_events.specs.Plans.{rows_in, deposits_by}
 use Rattle.esc_desk.proofs.PlanLemmas.{rows_continued}
 use Rattle.esc_desk.proofs.moves.move_by.Goals as goal
@@ -27,12 +27,12 @@ returns-clause-filled g c = λ before k made held from still rest stood.
     let steps = ap₂ (λ (rows : List ℕ) (steps : List Step). take front rows ++ rows_in steps) kept past ∙ rows_continued c.args.plan.now.old.items c.args.plan.now.new.items front same in
     let all : take (common_front c.deref.result.now c.deref-2.result.now) held ++ c.deref-3.result.now ≡ deposits_by c.args.plan.now held =
     ap₂ (λ (n : ℕ) (ds : List DepositValue). take n held ++ ds) (ap₂ common_front old new) deposits in
-    let at = subst (HoldsNow g.S.Store c.args.change.now) from.registry stood in
+    let at = subst (HasMadeTables g.S.Store c.args.change.now) from.registry stood in
     record {
       tables = made.registry;
-      rest = subst (λ (rows : List ℕ). Rest g.S.Store c.continue_chain.new.self before (with_steps made rows)) steps (c.in_ok-continue_chain.ensures.set before made within parts);
+      rest = subst (λ (rows : List ℕ). HasMadeBooks g.S.Store c.replace_chain_from.new.self before (with_steps made rows)) steps (c.in_ok-replace_chain_from.ensures.set before made within parts);
       holds = λ clean.
-          let honest : IsHonest g.S.Store c.move_here.new.change.store.now = omega (arith, c.in_ok-continue_chain.ensures.goes_on.survives.clean, clean) in
+          let honest : IsHonest g.S.Store c.move_here.new.change.store.now = omega (arith, c.in_ok-replace_chain_from.ensures.goes_on.survives.clean, clean) in
           let moved = c.in_ok-work.ensures.moved honest held (from.count ∙ ap length (sym old)) at in
-          c.in_ok-continue_chain.ensures.holds _ (subst (λ (ds : List DepositValue). HoldsNow g.S.Store c.move_here.new.change (chain_state ds)) all moved);
+          c.in_ok-replace_chain_from.ensures.holds _ (subst (λ (ds : List DepositValue). HasMadeTables g.S.Store c.move_here.new.change (chain_state ds)) all moved);
     }

@@ -1,7 +1,7 @@
 use Rattle.std.proofs.Common.{ℕ}
 use Rattle.esc_tables.specs.Reading.{reading}
 use Rattle.esc_store.specs.StandingLaws.{was_honest, as_before_then}
-use Rattle.esc_events.specs.Stands.{deposit_of}
+use Rattle.esc_events.specs.StateAfter.{deposit_of}
 use Rattle.esc_desk.proofs.PlanLemmas.{one_longer, one_more_deposit}
 use Rattle.esc_desk.proofs.plan.deposits_of.Goals as goal
 

@@ -2,7 +2,7 @@ use Rattle.std.proofs.Common.{◌≡◌, List, ℕ, Option, IfSome, map, sym, ap
 use Rattle.esc_manifest.specs.declared.row.MRow.{MRow}
 use Rattle.std.specs.FinSet as set
 use Rattle.esc_chain.specs.Chain.{Rows, InRange, IsLatestChainAt}
-use Rattle.esc_store.specs.Kept.{step_at}
+use Rattle.esc_store.specs.StoreState.{step_at}
 use Rattle.esc_events.specs.Plans.{rows_in}
 use Rattle.esc_desk.proofs.Moving.{rows_of_steps}
 use Rattle.esc_desk.proofs.plan.latest_steps.Goals as goal

@@ -3,7 +3,7 @@ use Rattle.std.proofs.lemmas.List.{take_rest}
 use Rattle.esc_tables.specs.Reading.{reading}
 use Rattle.esc_apply.specs.declared.front.Step.{Step}
 use Rattle.esc_apply.specs.Front.{common_front}
-use Rattle.esc_events.specs.Stands.{deposits_of}
+use Rattle.esc_events.specs.StateAfter.{deposits_of}
 use Rattle.esc_events.specs.Plans.{rows_in}
 use Rattle.esc_desk.proofs.plan.plan_move.Goals as goal
 

@@ -1,5 +1,5 @@
 use Rattle.std.proofs.Common.{◌≡◌, ◌++◌, map, drop}
-use Rattle.esc_store.specs.Kept.{step_at}
+use Rattle.esc_store.specs.StoreState.{step_at}
 use Rattle.esc_desk.proofs.plan.steps_of.Given as goal
 
 -- the steps so far with those of the rows that are left are those of all rows

@@ -12,16 +12,16 @@ use Rattle.esc_events.specs.ArrivalValue.{an_arrival}
 use Rattle.esc_desk.proofs.receiving.receive.Goals as goal
 
 pub returns-clause-received : goal.returns-clause-received
-returns-clause-received c = λ e k listed stands known none.
+returns-clause-received c = λ e k listed stands cache none.
     let n = c.args.number.now in
     let body = c.args.body.now in
     let found = c.in_ok-found.found in
     let again = c.is_among-again.ensures ∙ ap₂ is_among c.deref.ensures.value c.held_row.ensures in
-    let is : IsNew e (an_arrival n body) k found c.args.known c.receipt_by-receipt.result = record {
+    let is : IsNew e (an_arrival n body) k found c.args.cache c.receipt_by-receipt.result = record {
       stood = stands;
       none = subst (λ (d : List ℕ). reply_alike (union e) 1 n d k.receipts ≡ None) c.requires none;
       found_is = c.in_ok-found.ensures.found ∙ ap (λ (x : List MRow). assessment sha256 reading x body) (listed ∙ stands.books.listed);
-      known_is = known;
+      cache_is = cache;
       receipt_is = c.receipt_by-receipt.ensures ∙ ap₂ (λ (d : List ℕ) (b : Bool). receipt_by n d false found b) c.requires again;
     } in
     record {

@@ -1,11 +1,13 @@
-use Rattle.std.proofs.Common.{refl, ap}
+use Rattle.std.proofs.Common.{refl, sym, subst, ap, List, ℕ}
 use Rattle.std.proofs.lemmas.List.{take_rest}
 use Rattle.std.proofs.lemmas.Result.{IfOk-weaker}
 use Rattle.esc_http.specs.declared.request_plan.RequestPlan.{RequestPlan}
 use Rattle.esc_http.specs.declared.request_plan.RequestPlan.TheVariants.{Put}
 use Rattle.esc_http.specs.RequestPlans.{plan_of_head}
-use Rattle.esc_http.specs.Answering.{refused, wants, with_body}
-use Rattle.esc_http.proofs.AnswerLemmas.{text_is, always, same_request, memory_answers_some}
+use Rattle.esc_http.specs.Answering.{refused, wants, with_body, IsUndecided}
+use Rattle.esc_request.specs.Head.{HasHead}
+use Rattle.esc_request.specs.PieceLaws.{nothing_read}
+use Rattle.esc_http.proofs.AnswerLemmas.{text_is, always, same_request, memory_answers_some, undecided}
 use Rattle.esc_http.proofs.answer.answer_head.Goals as goal
 
 pub returns-in-Refuse-clause-answers : goal.returns-in-Refuse-clause-answers
@@ -32,3 +34,18 @@ returns-clause-answers g c =
 
 pub returns-in_default-clause-answers : goal.returns-in_default-clause-answers
 returns-in_default-clause-answers g c = λ h at. memory_answers_some g.S.Store c.args.desk.now _ (plan_of_head h)
+
+pub returns-in-Refuse-clause-unread : goal.returns-in-Refuse-clause-unread
+returns-in-Refuse-clause-unread g c = (_, nothing_read IsUndecided _ c.args.bytes.now)
+
+pub returns-in-Get-clause-unread : goal.returns-in-Get-clause-unread
+returns-in-Get-clause-unread g c = (_, nothing_read IsUndecided _ c.args.bytes.now)
+
+pub returns-in_default-clause-unread : goal.returns-in_default-clause-unread
+returns-in_default-clause-unread g c = (_, nothing_read IsUndecided _ c.args.bytes.now)
+
+pub returns-clause-unread : goal.returns-clause-unread
+returns-clause-unread g c =
+    let (h, at, has) = c.requires.head in
+    let front = subst (λ (rest : List ℕ). HasHead c.args.bytes.now h rest) (sym (take_rest c.args.bytes.now c.args.found.now.spans.len)) has in
+    undecided _ _ c.args.bytes.now _ _ h c.in-Put.number c.in-Put.size front (sym (c.in-Put.ensures h at)) c.answer_put.ensures.unread.1

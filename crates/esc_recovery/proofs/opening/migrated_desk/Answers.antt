@@ -1,6 +1,6 @@
 use Rattle.std.proofs.Common.{sym, subst}
 use Rattle.esc_store.specs.FirstVersion.{LeavesFirstOr}
-use Rattle.esc_store.specs.Standing.{IsHonest}
+use Rattle.esc_store.specs.Representation.{IsHonest}
 use Rattle.esc_events.specs.FirstVersion.{events_before}
 use Rattle.esc_recovery.proofs.opening.migrated_desk.Goals as goal
 
@@ -8,6 +8,7 @@ pub returns-in-Ok-clause-migrated : goal.returns-in-Ok-clause-migrated
 returns-in-Ok-clause-migrated g c =
     let same = c.open.ensures.same in
     record {
+      honest = λ honest. c.in-Ok.ensures.honest (subst (λ s. IsHonest g.S.Store s) same honest);
       serves = λ honest m l it. c.open.ensures.serves (events_before m l) (c.migrated_store_serves.ensures.serves m l it.kept it.stood_for (c.in-Ok.ensures.opened.found (subst (λ s. IsHonest g.S.Store s) same honest) it.kept it.store));
       left = λ m l it. c.open.ensures.left (events_before m l) it.kept (c.in-Ok.ensures.opened.left it.kept it.store) (c.migrated_store_serves.ensures.stands_for m l it.kept it.stood_for);
       version = λ honest. c.in-Ok.ensures.opened.version (subst (λ s. IsHonest g.S.Store s) same honest);

@@ -1,6 +1,6 @@
 use Rattle.std.proofs.Common.{[], ◌∷◌, sym, subst}
-use Rattle.esc_store.specs.Kept.{fresh}
-use Rattle.esc_store.specs.Standing.{IsHonest}
+use Rattle.esc_store.specs.StoreState.{fresh}
+use Rattle.esc_store.specs.Representation.{IsHonest}
 use Rattle.esc_events.specs.Events.EventValue.{listed}
 use Rattle.esc_recovery.specs.Blank.{LeavesBlankOr}
 use Rattle.esc_recovery.proofs.Founds.{blank_or, clean_before}

@@ -1,5 +1,5 @@
 use Rattle.std.proofs.Common.{subst}
-use Rattle.esc_store.specs.Standing.{IsHonest}
+use Rattle.esc_store.specs.Representation.{IsHonest}
 use Rattle.esc_store.specs.StandingLaws.{was_clean}
 use Rattle.esc_recovery.proofs.opening.open_desk.Goals as goal
 

@@ -7,5 +7,5 @@ pub returns-clause-opened : goal.returns-clause-opened
 returns-clause-opened g c = λ honest.
     let on = c.in_ok-desk_or_fault.ensures.opened in
     let clean = on.honest honest in
-    let opened = c.in-Ok.ensures.opened clean in
-    opened_from over_files c.in-Ok.connection (image_at g.S.Start) _ on honest (c.in-Ok.ensures.found clean).holds opened.0 opened.1
+    let opened = c.in_ok-connection.ensures.opened clean in
+    opened_from over_files c.in_ok-connection.connection (image_at g.S.Start) _ on honest (c.in_ok-connection.ensures.found clean).holds opened.0 opened.1

@@ -5,7 +5,7 @@ use Rattle.std.proofs.lemmas.Int.{to_z-of_z}
 use Rattle.esc_check.specs.FindingValue.{FindingValue}
 use Rattle.esc_check.specs.Findings.{IsFinding}
 use Rattle.esc_check.specs.TableMap.{tables_of}
-use Rattle.esc_store.specs.Standing.{IsHonest}
+use Rattle.esc_store.specs.Representation.{IsHonest}
 use Rattle.esc_store.specs.StandingLaws.{was_honest}
 use Rattle.esc_reports.proofs.Listed.{listing}
 use Rattle.esc_reports.proofs.reports.findings.Goals as goal

@@ -1,5 +1,5 @@
 use Rattle.std.proofs.Common.{rules, ◌∙◌}
-use Rattle.esc_store.specs.Standing.{IsHonest}
+use Rattle.esc_store.specs.Representation.{IsHonest}
 use Rattle.esc_store.specs.StandingLaws.{was_honest}
 use Rattle.esc_reports.proofs.Listed.{listing, export_of_kind}
 use Rattle.esc_reports.proofs.reports.report_export.Goals as goal

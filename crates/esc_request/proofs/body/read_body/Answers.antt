@@ -1,6 +1,8 @@
 use Rattle.std.proofs.Common.{◌≡◌, ℕ, List, length, take, min, subst, rules}
 use Rattle.std.specs.Io.KnownBytes.{Consumes, prepend_known}
-use Rattle.esc_request.proofs.BodyLemmas.{whole_is}
+use Rattle.esc_request.specs.Body.{IsShorter}
+use Rattle.esc_request.specs.PieceLaws.{nothing_read}
+use Rattle.esc_request.proofs.BodyLemmas.{whole_is, read_on}
 use Rattle.esc_request.proofs.body.read_body.Goals as goal
 
 pub returns-then-branch-clause-body : goal.returns-then-branch-clause-body
@@ -15,3 +17,21 @@ returns-then-branch-clause-body g c =
     let took : Consumes (prepend_known (take c.min-here.result front) before) after body =
     subst (λ (kept : List ℕ). Consumes (prepend_known kept before) after body) c.in-Ok.ensures.front filled in
     whole_is _ _ front body c.min-here.result c.args.size here long took
+
+pub returns-in_default-clause-awaited : goal.returns-in_default-clause-awaited
+returns-in_default-clause-awaited g c = (_, nothing_read (IsShorter c.args.size) _ c.args.front.now)
+
+pub returns-in_err-fill_body-clause-awaited : goal.returns-in_err-fill_body-clause-awaited
+returns-in_err-fill_body-clause-awaited g c =
+    let here : c.min-here.result ≡ min (length c.args.front.now) c.args.size = search rules in
+    read_on _ _ c.args.front.now _ _ c.min-here.result c.args.size _ here c.in-Ok.ensures.size c.in-Ok.ensures.front c.in_err-fill_body.ensures.awaited.1
+
+pub returns-then-branch-clause-awaited : goal.returns-then-branch-clause-awaited
+returns-then-branch-clause-awaited g c =
+    let here : c.min-here.result ≡ min (length c.args.front.now) c.args.size = search rules in
+    read_on _ _ c.args.front.now _ _ c.min-here.result c.args.size _ here c.in-Ok.ensures.size c.in-Ok.ensures.front c.in_ok-fill_body.ensures.awaited.1
+
+pub returns-else-branch-clause-awaited : goal.returns-else-branch-clause-awaited
+returns-else-branch-clause-awaited g c =
+    let here : c.min-here.result ≡ min (length c.args.front.now) c.args.size = search rules in
+    read_on _ _ c.args.front.now _ _ c.min-here.result c.args.size _ here c.in-Ok.ensures.size c.in-Ok.ensures.front c.in_ok-fill_body.ensures.awaited.1

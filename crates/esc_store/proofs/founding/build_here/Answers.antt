@@ -1,6 +1,6 @@
 use Rattle.esc_store.proofs.Common.{◌≡◌, ◌∙◌, List, refl, sym, ap, subst, IfOk-at_ok, Database, state, was_clean, if_ok, MRow, ListedRow, fresh, listed_from, IsStoreDatabase}
-use Rattle.esc_rows.specs.Schema.{no_schema}
-use Rattle.esc_rows.specs.Creation.{MakesStore, fresh as fresh_rows}
+use Rattle.esc_sql.specs.Schema.{no_schema}
+use Rattle.esc_sql.specs.Creation.{MakesStore, fresh as fresh_rows}
 use Rattle.esc_store.proofs.Ends.{holds_store}
 use Rattle.esc_store.proofs.Manifests.{listed_rise}
 use Rattle.esc_store.proofs.Registries.{nothing_kept, nothing_there}

@@ -1,6 +1,6 @@
 use Rattle.esc_store.proofs.Common.{state}
 use Rattle.esc_store.proofs.Ends.{survives_first}
-use Rattle.esc_rows.specs.FirstVersion.{first_content_in, IsFirstStore as HasFirstTables}
+use Rattle.esc_sql.specs.FirstVersion.{first_content_in, IsFirstStore as HasFirstTables}
 use Rattle.esc_store.specs.FirstVersion.{IsFirstStore}
 use Rattle.esc_store.proofs.OpeningLemmas.{sees_committed, at_rest, tables_refused}
 use Rattle.esc_store.proofs.migrating.migrate_here.Goals as goal

@@ -1,5 +1,5 @@
 use Rattle.esc_store.proofs.Common.{sym, subst, IfOk-at_ok, state, IsFirstDatabase, was_clean, if_ok}
-use Rattle.esc_rows.specs.FirstVersion.{first_content_in}
+use Rattle.esc_sql.specs.FirstVersion.{first_content_in}
 use Rattle.esc_store.proofs.Ends.{holds_store}
 use Rattle.esc_store.proofs.migrating.upgrade_here.Goals as goal
 

@@ -1,5 +1,5 @@
 use Rattle.esc_store.proofs.Common.{content_in, IsStore}
-use Rattle.esc_rows.specs.Content.{IsStore as HasTables}
+use Rattle.esc_sql.specs.Content.{IsStore as HasTables}
 use Rattle.esc_store.proofs.OpeningLemmas.{at_rest, tables_refused}
 use Rattle.esc_store.proofs.opening.find_manifest.Goals as goal
 

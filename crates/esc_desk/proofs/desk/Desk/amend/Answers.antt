@@ -10,7 +10,7 @@ use Rattle.esc_store.specs.declared.fault.SFault.TheVariants.{S2}
 use Rattle.esc_events.specs.Works.{IsWorkOf, no_work}
 use Rattle.esc_desk.specs.Asked.{amendment_of}
 use Rattle.esc_desk.specs.Amendments.{IsUnionWith}
-use Rattle.esc_desk.specs.Serving.{DeskServes}
+use Rattle.esc_desk.specs.Reflection.{DeskReflects}
 use Rattle.esc_desk.specs.Crashes.{CrashLeaves, doubtful_with}
 use Rattle.esc_desk.proofs.NoRowMore.{new_count, alike_none, stands_none, works_none, amendment_is, leaves_alike, leaves_before}
 use Rattle.esc_desk.proofs.CrashLemmas.{made_at, refused_at}
@@ -39,7 +39,7 @@ returns-then-added-eq0-clause-amended g c = λ clean e served.
     let is = sym (amendment_is c.args.text.now u.rows u.read) in
     record {
       adds = record { rows = u.rows; read = u.read; accepted = u.accepted ∙ ap (λ (m : List MRow). Ok m) u.is_union; count_is = sym none };
-      serves = subst (λ (x : EventValue). DeskServes g.S.Store c.args.self.now (e ++ x ∷ [])) is (record {
+      serves = subst (λ (x : EventValue). DeskReflects g.S.Store c.args.self.now (e ++ x ∷ [])) is (record {
         serves = record { kept = k; stands = serves.stands; stands_for = stands_none e u.rows none k stood };
         remembers = served.remembers;
       });
@@ -73,7 +73,7 @@ returns-in-Ok-list_more-clause-amended g c = λ clean e served.
     let is = sym (amendment_is c.args.text.now u.rows u.read) in
     record {
       adds = record { rows = u.rows; read = u.read; accepted = u.accepted ∙ ap (λ (m : List MRow). Ok m) u.is_union; count_is = count };
-      serves = subst (λ (x : EventValue). DeskServes g.S.Store c.list_more.new.self (e ++ x ∷ [])) is made.serves;
+      serves = subst (λ (x : EventValue). DeskReflects g.S.Store c.list_more.new.self (e ++ x ∷ [])) is made.serves;
       works = subst (λ (x : EventValue). IsWorkOf e x c.in-Ok-list_more.work) is made.works;
       idle = λ none. let never : ⊥ = grind (arith, nat_tests, none, c.if-added-eq0.false) in absurd never;
     }

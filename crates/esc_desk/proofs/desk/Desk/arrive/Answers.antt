@@ -1,13 +1,13 @@
 use Rattle.std.proofs.Common.{rules, refl, Bool, List, Some, is_some, sym, ap, ◌∙◌}
 use Rattle.std.proofs.lemmas.Option.{IfSome_then}
-use Rattle.esc_store.specs.Standing.{IsHonest}
+use Rattle.esc_store.specs.Representation.{IsHonest}
 use Rattle.esc_store.specs.StandingLaws.{as_before_then, was_honest}
 use Rattle.esc_events.specs.ArrivalValue.{an_arrival}
 use Rattle.esc_events.specs.Events.{EventValue}
 use Rattle.esc_events.specs.Events.EventValue.{arrived}
 use Rattle.esc_desk.specs.Answering.{IsAnswer, numbered}
 use Rattle.esc_desk.specs.Decisions.{IsDone}
-use Rattle.esc_desk.specs.Serving.{DeskServes}
+use Rattle.esc_desk.specs.Reflection.{DeskReflects}
 use Rattle.esc_desk.proofs.Answered.{asked_of, had_room, leaves_answered}
 use Rattle.esc_desk.proofs.CrashLemmas.{leaves_as, leaves_early, refused_taken}
 use Rattle.esc_desk.proofs.StoreFacts.{still_serves}
@@ -56,12 +56,12 @@ returns-in_err-number-clause-crash g c = λ e doubtful served left.
     refused_taken g.S.Store _ e doubtful a c.in_err-number.field-0.0 (search rules)
     (c.in_err-number.ensures.crash e doubtful (arrived a) k (then.stands k (first.stands k served.serves.stands)) (λ clean.
     let before = c.in_err-number.ensures.whole.honest clean in
-    let asked = asked_of g.S.Store c.args.self.now c.receipt_of.new.self c.take-known.result a.number c.digest-digest.result c.in_ok-kept.kept e served first c.take-known.ensures.value (c.in_ok-kept.ensures.found (was_honest then before) k served.serves.stands) in
+    let asked = asked_of g.S.Store c.args.self.now c.receipt_of.new.self c.take-cache.result a.number c.digest-digest.result c.in_ok-kept.kept e served first c.take-cache.ensures.value (c.in_ok-kept.ensures.found (was_honest then before) k served.serves.stands) in
     (c.in_ok-answer.ensures.answers before e k asked).decided) (leaves_as g.S.Store _ _ e doubtful left (as_before_then first then).survives))
 
 -- ---- it was made as it was decided
 
-made : (g : given.Over) (c : goal.After-numbered g) → IsHonest g.S.Store c.make.new.self.store → (e : List EventValue) (served : DeskServes g.S.Store c.args.self.now e)
+made : (g : given.Over) (c : goal.After-numbered g) → IsHonest g.S.Store c.make.new.self.store → (e : List EventValue) (served : DeskReflects g.S.Store c.args.self.now e)
     → IsAnswer e (an_arrival c.args.number.now c.args.body.now) served.serves.kept c.in_ok-answer.answer
     × IsDone g.S.Store c.answer_arrival.new.store c.make.new.self e (arrived (an_arrival c.args.number.now c.args.body.now)) served.serves.kept c.in_ok-answer.answer.decision (c.in_ok-number.number, c.in_ok-number.work)
 made g c clean e served =
@@ -70,7 +70,7 @@ made g c clean e served =
     let first = c.in_ok-kept.ensures.same in
     let then = c.in_ok-answer.ensures.same in
     let before = c.in_ok-number.ensures.whole.honest clean in
-    let asked = asked_of g.S.Store c.args.self.now c.receipt_of.new.self c.take-known.result a.number c.digest-digest.result c.in_ok-kept.kept e served first c.take-known.ensures.value (c.in_ok-kept.ensures.found (was_honest then before) k served.serves.stands) in
+    let asked = asked_of g.S.Store c.args.self.now c.receipt_of.new.self c.take-cache.result a.number c.digest-digest.result c.in_ok-kept.kept e served first c.take-cache.ensures.value (c.in_ok-kept.ensures.found (was_honest then before) k served.serves.stands) in
     let is = c.in_ok-answer.ensures.answers before e k asked in
     (is, c.in_ok-number.ensures.made clean e (arrived a) k (then.stands k (first.stands k served.serves.stands)) is.decided)
 

@@ -1,9 +1,9 @@
 use Rattle.std.proofs.Common.{rules, List, [], ◌∷◌, ◌++◌, refl}
-use Rattle.esc_store.specs.Standing.{IsHonest}
+use Rattle.esc_store.specs.Representation.{IsHonest}
 use Rattle.esc_events.specs.Events.{EventValue}
 use Rattle.esc_events.specs.Events.EventValue.{moved}
 use Rattle.esc_desk.specs.Decisions.{IsDone}
-use Rattle.esc_desk.specs.Serving.{DeskServes}
+use Rattle.esc_desk.specs.Reflection.{DeskReflects}
 use Rattle.esc_desk.proofs.CrashLemmas.{if_clean, leaves_as, leaves_early, leaves_only, refused_made}
 use Rattle.esc_desk.proofs.Whole.{forgets, whole_early, whole_lost, whole_made}
 use Rattle.esc_desk.proofs.desk.Desk.as_of.Given as given
@@ -33,7 +33,7 @@ returns-in_err-_number-clause-crash g c = λ e doubtful served left.
     (λ clean. c.in_ok-decision.ensures.decided (c.in_err-_number.ensures.whole.honest clean) e served) (leaves_as g.S.Store _ _ e doubtful left same.survives))
 
 -- it is made as it was decided
-made : (g : given.Over) (c : goal.After-work-1 g) → IsHonest g.S.Store c.make.new.self.store → (e : List EventValue) (served : DeskServes g.S.Store c.args.self.now e)
+made : (g : given.Over) (c : goal.After-work-1 g) → IsHonest g.S.Store c.make.new.self.store → (e : List EventValue) (served : DeskReflects g.S.Store c.args.self.now e)
     → IsDone g.S.Store c.decide_moment.new.self.store c.make.new.self e (moved c.args.moment) served.serves.kept c.in_ok-decision.decision (c.in_ok-_number._number, c.in_ok-_number.work)
 made g c clean e served =
     let there = c.in_ok-decision.ensures.same.stands served.serves.kept served.serves.stands in

@@ -1,7 +1,7 @@
 use Rattle.std.proofs.Common.{◌≡◌, ◌==◌, suc, cond, List}
 use Rattle.std.specs.Vec.Iter.{into_iter_len}
 use Rattle.esc_apply.specs.ObjectStreams.{Entry}
-use Rattle.esc_store.specs.Standing.{IsHonest, IsAsBefore}
+use Rattle.esc_store.specs.Representation.{IsHonest, IsAsBefore}
 use Rattle.esc_desk.specs.Places.{kinds_left}
 use Rattle.esc_desk.specs.Walking.{AreToCome}
 use Rattle.esc_desk.proofs.desk.Desk.fill.Given as goal
@@ -9,7 +9,7 @@ use Rattle.esc_desk.proofs.desk.Desk.fill.Given as goal
 -- what is to come is as it was
 abbrev pub invariant-loop-kind : goal.invariant-loop-kind
 invariant-loop-kind g l =
-    IsAsBefore g.S.Store l.fn.self.store l.self.store × (l.self.known ≡ l.fn.self.known) × (l.pages.left ≡ l.fn.pages.left) × (l.pages.has_failed ≡ l.fn.pages.has_failed)
+    IsAsBefore g.S.Store l.fn.self.store l.self.store × (l.self.cache ≡ l.fn.self.cache) × (l.pages.left ≡ l.fn.pages.left) × (l.pages.has_failed ≡ l.fn.pages.has_failed)
     × (IsHonest g.S.Store l.self.store → (es : List Entry) → AreToCome g.S.Store l.fn.self.store l.fn.pages es → AreToCome g.S.Store l.self.store l.pages es)
 
 -- each page that is empty ends a kind

@@ -1,9 +1,9 @@
 use Rattle.std.proofs.Common.{rules, arith, Option, IfSome, refl, sym, ap, subst, ◌∙◌, true≢false}
 use Rattle.esc_events.specs.declared.plan.Plan.{Plan}
 use Rattle.esc_store.specs.StandingLaws.{survives_same}
-use Rattle.esc_events.specs.declared.known.Known.{Known}
-use Rattle.esc_events.specs.Known.{IsKnown}
-use Rattle.esc_desk.specs.Decisions.{known_after}
+use Rattle.esc_events.specs.declared.cache.Cache.{Cache}
+use Rattle.esc_events.specs.Cache.{IsCacheOf}
+use Rattle.esc_desk.specs.Decisions.{cache_after}
 use Rattle.esc_desk.specs.Edits.{edited}
 use Rattle.esc_desk.proofs.CauseLemmas.{if_err_is}
 use Rattle.esc_desk.proofs.CrashLemmas.{leaves_for, leaves_unmade}
@@ -32,11 +32,11 @@ pub returns-clause-made : goal.returns-clause-made
 returns-clause-made g c = λ clean e x k stood is.
     let decision = c.args.decision in
     let done = c.in_ok-done.ensures.made clean k is.moves stood in
-    let known = c.known_then.ensures ∙ ap (λ (p : Option Plan). known_after p decision.known) done.plan in
+    let cache = c.cache_then.ensures ∙ ap (λ (p : Option Plan). cache_after p decision.cache) done.plan in
     record {
       serves = record {
         serves = record { kept = edited decision.edit k; stands = done.stands; stands_for = is.stands };
-        remembers = subst (λ (o : Option Known). IfSome o (IsKnown (edited decision.edit k))) (sym known) is.knows;
+        remembers = subst (λ (o : Option Cache). IfSome o (IsCacheOf (edited decision.edit k))) (sym cache) is.knows;
       };
       works = is.works c.in_ok-done.done.work done.result.worked;
       result = done.result;

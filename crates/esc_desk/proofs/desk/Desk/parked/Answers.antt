@@ -1,5 +1,5 @@
 use Rattle.std.proofs.Common.{subst, sym, ◌∙◌}
-use Rattle.esc_store.specs.Kept.{AreParked}
+use Rattle.esc_store.specs.StoreState.{AreParked}
 use Rattle.esc_store.specs.StandingLaws.{was_honest}
 use Rattle.esc_store.specs.ResultLaws.{if_both}
 use Rattle.esc_desk.proofs.ReadLemmas.{same_parked}

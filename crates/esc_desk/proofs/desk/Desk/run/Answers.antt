@@ -19,7 +19,7 @@ loop-arrival-init g c =
       honest = λ clean. clean;
       ran = λ clean before served. rw none (ran_none g.S.Store c.args.self.now before (omega arith) served);
       cause = rw none tt;
-      crash = λ before doubtful served start. λ apart known. leaves_without g.S.Store c.args.self.now before doubtful start;
+      crash = λ before doubtful served start. λ apart cache. leaves_without g.S.Store c.args.self.now before doubtful start;
     }
 
 pub loop-arrival-preserved : goal.loop-arrival-preserved
@@ -44,10 +44,10 @@ loop-arrival-preserved g c =
           let ran = c.loop-arrival.invariant.ran past before served in
           rw (more, pushed) (ran_more g.S.Store c.args.self.now c.loop-arrival.self c.take_arrival-outcome.new.self before xs os x o ran (c.take_arrival-outcome.ensures.taken clean));
       cause = rw (more, pushed) (outcomes_more xs os x o c.loop-arrival.invariant.cause c.take_arrival-outcome.ensures.cause);
-      crash = λ before doubtful served start. rw (more, pushed) (λ apart known. if_clean g.S.Store c.take_arrival-outcome.new.self.store.conn _ _ (λ clean.
+      crash = λ before doubtful served start. rw (more, pushed) (λ apart cache. if_clean g.S.Store c.take_arrival-outcome.new.self.store.conn _ _ (λ clean.
           let past = c.loop-arrival.invariant.ran (c.take_arrival-outcome.ensures.honest clean) before served in
           left_more g.S.Store c.loop-arrival.self c.take_arrival-outcome.new.self before doubtful _ xs os x o past.answers
-          (c.loop-arrival.invariant.crash before doubtful served start) (λ d. c.take_arrival-outcome.ensures.crash _ d past.serves) apart known));
+          (c.loop-arrival.invariant.crash before doubtful served start) (λ d. c.take_arrival-outcome.ensures.crash _ d past.serves) apart cache));
     }
 
 pub returns-clause-ran : goal.returns-clause-ran

@@ -18,7 +18,7 @@ loop-event-init g c =
       honest = λ clean. clean;
       ran = λ clean before served. rw none (ran_none g.S.Store c.args.self.now before (omega arith) served);
       cause = rw none tt;
-      crash = λ before doubtful served start. λ apart known. leaves_without g.S.Store c.args.self.now before doubtful start;
+      crash = λ before doubtful served start. λ apart cache. leaves_without g.S.Store c.args.self.now before doubtful start;
     }
 
 pub loop-event-preserved : goal.loop-event-preserved
@@ -39,10 +39,10 @@ loop-event-preserved g c =
           let ran = c.loop-event.invariant.ran past before served in
           rw (more, c.push_reserved.ensures.items) (ran_more g.S.Store c.args.self.now c.loop-event.self c.take-outcome.new.self before xs os x o ran (c.take-outcome.ensures.taken clean));
       cause = rw (more, c.push_reserved.ensures.items) (outcomes_more xs os x o c.loop-event.invariant.cause c.take-outcome.ensures.cause);
-      crash = λ before doubtful served start. rw (more, c.push_reserved.ensures.items) (λ apart known. if_clean g.S.Store c.take-outcome.new.self.store.conn _ _ (λ clean.
+      crash = λ before doubtful served start. rw (more, c.push_reserved.ensures.items) (λ apart cache. if_clean g.S.Store c.take-outcome.new.self.store.conn _ _ (λ clean.
           let past = c.loop-event.invariant.ran (c.take-outcome.ensures.honest clean) before served in
           left_more g.S.Store c.loop-event.self c.take-outcome.new.self before doubtful _ xs os x o past.answers
-          (c.loop-event.invariant.crash before doubtful served start) (λ d. c.take-outcome.ensures.crash _ d past.serves) apart known));
+          (c.loop-event.invariant.crash before doubtful served start) (λ d. c.take-outcome.ensures.crash _ d past.serves) apart cache));
     }
 
 pub returns-clause-ran : goal.returns-clause-ran

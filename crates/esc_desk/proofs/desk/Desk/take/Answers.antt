@@ -43,4 +43,4 @@ returns-in-Err-as_of-clause-taken g c = λ clean e served. rw c.in-AsOf.is (reco
 
 pub returns-in-Err-as_of-clause-crash : goal.returns-in-Err-as_of-clause-crash
 returns-in-Err-as_of-clause-crash g c = λ e doubtful served left. rw c.in-AsOf.is
-    (λ apart known. leaves_without g.S.Store c.as_of.new.self e (doubtful_with c.in-Err-as_of.fault (moved c.in-AsOf.moment) doubtful) (c.in-Err-as_of.ensures.crash e doubtful served left))
+    (λ apart cache. leaves_without g.S.Store c.as_of.new.self e (doubtful_with c.in-Err-as_of.fault (moved c.in-AsOf.moment) doubtful) (c.in-Err-as_of.ensures.crash e doubtful served left))

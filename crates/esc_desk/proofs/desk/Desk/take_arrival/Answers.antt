@@ -25,4 +25,4 @@ returns-in-Err-clause-taken g c = λ clean e served. record {
 pub returns-in-Err-clause-crash : goal.returns-in-Err-clause-crash
 returns-in-Err-clause-crash g c = λ e doubtful served left.
     subst (λ (x : ArrivalValue). DeskLeavesEvent g.S.Store c.arrive.new.self e doubtful (as_event x) (as_outcome (Lost c.in-Err.fault))) c.arrival.view_is
-    (λ apart known. leaves_without g.S.Store c.arrive.new.self e _ (c.in-Err.ensures.crash e doubtful served left))
+    (λ apart cache. leaves_without g.S.Store c.arrive.new.self e _ (c.in-Err.ensures.crash e doubtful served left))

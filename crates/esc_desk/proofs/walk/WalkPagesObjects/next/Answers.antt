@@ -14,10 +14,10 @@ returns-in-Some-clause-given g c = λ honest es lists.
     given come _ c.in-Some.entry c.in-Some.ensures.cases.0 (refl, refl, refl)
 
 pub returns-in_err-fill-clause-follows : goal.returns-in_err-fill-clause-follows
-returns-in_err-fill-clause-follows g c = follows c.args.self.now _ refl c.in_err-fill.ensures.same c.in_err-fill.ensures.known
+returns-in_err-fill-clause-follows g c = follows c.args.self.now _ refl c.in_err-fill.ensures.same c.in_err-fill.ensures.cache
 
 pub returns-in-None-clause-follows : goal.returns-in-None-clause-follows
-returns-in-None-clause-follows g c = follows c.args.self.now _ refl c.in_ok-fill.ensures.same c.in_ok-fill.ensures.known
+returns-in-None-clause-follows g c = follows c.args.self.now _ refl c.in_ok-fill.ensures.same c.in_ok-fill.ensures.cache
 
 pub returns-in-Some-clause-follows : goal.returns-in-Some-clause-follows
-returns-in-Some-clause-follows g c = follows c.args.self.now _ refl c.in_ok-fill.ensures.same c.in_ok-fill.ensures.known
+returns-in-Some-clause-follows g c = follows c.args.self.now _ refl c.in_ok-fill.ensures.same c.in_ok-fill.ensures.cache

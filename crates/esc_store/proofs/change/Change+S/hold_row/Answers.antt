@@ -1,5 +1,5 @@
-use Rattle.esc_store.proofs.Common.{◌∙◌, refl, sym, IfOk-at_ok, was_clean, if_ok, RestIn}
-use Rattle.esc_rows.specs.Rows.{HeldRow}
+use Rattle.esc_store.proofs.Common.{◌∙◌, refl, sym, IfOk-at_ok, was_clean, if_ok, HasMadeBooksIn}
+use Rattle.esc_sql.specs.Rows.{HeldRow}
 use Rattle.esc_store.proofs.RowSteps.{held_turns, books_held, none_in}
 use Rattle.esc_store.proofs.Following.{moved, part_step, lists_same, step_is, registry_same}
 use Rattle.esc_store.proofs.change.Change+S.hold_row.Goals as goal
@@ -12,7 +12,7 @@ returns-clause-listed g c = lists_same c.args.self.now (moved c.settle.ensures c
 
 -- a row that is given a body had none before
 pub returns-clause-free : goal.returns-clause-free
-unfolding RestIn
+unfolding HasMadeBooksIn
 returns-clause-free g c = if_ok c.settle.result _ (λ x is clean before k made.
     let step = step_is c.settle.ensures.settled c.insert_held-done.ensures.part in
     let m = IfOk-at_ok _ is (step.made clean) in

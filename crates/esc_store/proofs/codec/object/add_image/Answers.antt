@@ -1,5 +1,5 @@
 use Rattle.esc_store.proofs.Common.{sym, ◌∙◌, Some, option_map, IfOk-at_ok, ImageEntry, image_of, kind_rank, record_of, if_ok}
-use Rattle.esc_rows.specs.Changes.{is_image_entry_at}
+use Rattle.esc_sql.specs.Changes.{is_image_entry_at}
 use Rattle.esc_store.proofs.Gathering.{one_more, tests_alike}
 use Rattle.esc_store.proofs.codec.object.add_image.Goals as goal
 

@@ -1,4 +1,4 @@
-use Rattle.esc_store.proofs.Common.{◌∙◌, [], map, refl, ap, sym, arith, drop_all, Some, with_object, after_noting, written, HoldsNow}
+use Rattle.esc_store.proofs.Common.{◌∙◌, [], map, refl, ap, sym, arith, drop_all, Some, with_object, after_noting, written, HasMadeTables}
 use Rattle.esc_store.proofs.Filled.{written_by-noted, returns_last, parts, follows_then, pending_rows, pending_next, pending_last, follows_same}
 use Rattle.esc_store.proofs.filling.Change+S.put_each.Goals as goal
 
@@ -19,4 +19,4 @@ loop-at-preserved g c = record {
 }
 
 pub returns-clause-put : goal.returns-clause-put
-returns-clause-put g c = λ s step es are held. returns_last (HoldsNow g.S.Store c.loop-at.self) _ [] refl (pending_last (drop_all c.loop-at.at c.args.rows.now (omega arith)) refl (c.loop-at.invariant.writing s step es are held))
+returns-clause-put g c = λ s step es are held. returns_last (HasMadeTables g.S.Store c.loop-at.self) _ [] refl (pending_last (drop_all c.loop-at.at c.args.rows.now (omega arith)) refl (c.loop-at.invariant.writing s step es are held))

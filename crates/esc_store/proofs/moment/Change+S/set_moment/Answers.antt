@@ -2,7 +2,7 @@ use Rattle.esc_store.proofs.Common.{Option, Some, ℤ, sym, subst, IsChangePart}
 use Rattle.std.proofs.Common.{rules, w64}
 use mir.Val.{SFits}
 use Rattle.std.proofs.lemmas.Int.{to_z-of_z}
-use Rattle.esc_store.specs.Kept.{with_moment}
+use Rattle.esc_store.specs.StoreState.{with_moment}
 use Rattle.esc_store.specs.StandingLaws.{part_then}
 use Rattle.esc_store.proofs.moment.Change+S.set_moment.Goals as goal
 

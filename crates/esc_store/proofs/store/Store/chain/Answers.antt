@@ -1,10 +1,9 @@
-use Rattle.esc_store.proofs.Common.{map, step_row, step_at, ◌∙◌, ap, if_goes, Stands}
-use Rattle.esc_store.proofs.Sure.{told_of}
+use Rattle.std.proofs.Common.{◌≡◌}
+use Rattle.esc_store.proofs.Common.{Represents}
+use Rattle.esc_store.specs.StoreState.{kept_chain}
+use Rattle.esc_store.proofs.Sure.{of_copy}
 use Rattle.esc_store.proofs.store.Store.chain.Goals as goal
 
-pub returns-clause-steps : goal.returns-clause-steps
-unfolding Stands
-returns-clause-steps g c = λ honest k stands. if_goes c.steps_of.result _ _ c.steps_of.ensures.steps (λ steps is.
-    let told = told_of c.in_ok-stored.ensures.read honest k stands in
-    is k.steps (ap (map step_row) c.as_slice.ensures.value ∙ (told.says ∙ told.books.steps)) ∙ ap (λ m. map (step_at m) k.steps)
-    (c.steps_here.ensures.read.manifest ∙ stands.listed))
+pub returns-in-Some-clause-steps : goal.returns-in-Some-clause-steps
+unfolding Represents
+returns-in-Some-clause-steps g c = λ honest k stands. of_copy (λ steps. steps ≡ kept_chain k) _ _ _ c.in_ok-steps.ensures c.in-Some.is (stands.remembered honest).chain

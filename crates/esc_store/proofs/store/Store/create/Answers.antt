@@ -1,4 +1,4 @@
-use Rattle.esc_store.proofs.Common.{survives_same, ◌∙◌, ap, map, stored_listed as listed_row, Stands, LeavesOnly, LeavesOr}
+use Rattle.esc_store.proofs.Common.{survives_same, ◌∙◌, ap, map, stored_listed as listed_row, Represents, LeavesOnly, LeavesOr}
 use Rattle.std.proofs.Common.{rules}
 use Rattle.esc_store.proofs.store.Store.create.Goals as goal
 
@@ -7,7 +7,7 @@ unfolding LeavesOr
 returns-in-Err-clause-crash g c = survives_same
 
 pub returns-in-Ok-found_here : goal.returns-in-Ok-found_here
-unfolding Stands LeavesOnly LeavesOr
+unfolding Represents LeavesOnly LeavesOr
 returns-in-Ok-found_here g c = let rows = ap (map listed_row) c.as_slice.ensures.value ∙ c.in-Ok.ensures.rows in search rules
 
 pub returns-in-Err-found_here-clause-crash : goal.returns-in-Err-found_here-clause-crash

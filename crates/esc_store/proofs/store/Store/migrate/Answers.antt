@@ -1,10 +1,10 @@
-use Rattle.esc_store.proofs.Common.{refl, state, Kept, Stands, LeavesOnly, LeavesOr}
+use Rattle.esc_store.proofs.Common.{refl, state, StoreState, Represents, LeavesOnly, LeavesOr}
 use Rattle.esc_store.specs.FirstVersion.{HoldsFirst, IsFirstStore}
 use Rattle.esc_store.proofs.OpeningLemmas.{sees_committed, sees_rest, first_or}
 use Rattle.esc_store.proofs.store.Store.migrate.Goals as goal
 
 pub returns-in-Ok-clause-opened : goal.returns-in-Ok-clause-opened
-unfolding Stands HoldsFirst LeavesOnly
+unfolding Represents HoldsFirst LeavesOnly
 returns-in-Ok-clause-opened g c = record {
   stands = λ clean k first. c.in-Ok.ensures.stands k (sees_rest (state g.S.Store c.args.connection) first) clean;
   found = λ clean k first. c.in-Ok.ensures.stands k (sees_committed (state g.S.Store c.args.connection) {k = k} c.in-Ok.ensures.settled first) clean;

@@ -1,9 +1,9 @@
-use Rattle.esc_store.proofs.Common.{refl, sym, ap, subst, ◌∙◌, Database, IsStore, HoldsKept, Stands, LeavesOnly}
+use Rattle.esc_store.proofs.Common.{refl, sym, ap, subst, ◌∙◌, Database, IsStore, HoldsKept, Represents, LeavesOnly}
 use Rattle.esc_store.proofs.OpeningLemmas.{opened, found}
 use Rattle.esc_store.proofs.store.Store.open.Goals as goal
 
 pub returns-in-Ok-clause-opened : goal.returns-in-Ok-clause-opened
-unfolding HoldsKept Stands LeavesOnly
+unfolding HoldsKept Represents LeavesOnly
 returns-in-Ok-clause-opened g c = record {
   stands = λ clean k holds. opened c.find_manifest.ensures.survives (c.in-Ok.ensures.version clean).0 (c.in-Ok.ensures.manifest clean k) holds clean;
   found = λ clean k stored.

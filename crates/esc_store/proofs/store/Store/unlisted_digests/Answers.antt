@@ -1,12 +1,8 @@
-use Rattle.esc_store.proofs.Common.{◌∙◌, ◌++◌, List, ℕ, ap}
-use Rattle.esc_store.specs.StandingLaws.{was_honest}
-use Rattle.esc_store.proofs.ReceiptRows.{are_unlisted}
+use Rattle.esc_store.proofs.Common.{Represents}
+use Rattle.esc_store.specs.StoreState.{AreUnlisted}
+use Rattle.esc_store.proofs.Sure.{of_copy}
 use Rattle.esc_store.proofs.store.Store.unlisted_digests.Goals as goal
 
-pub returns-clause-digests : goal.returns-clause-digests
-returns-clause-digests g c = λ honest k stands.
-    let clean = was_honest c.digests_of_verdict-2.ensures.same honest in
-    let firsts : List (List ℕ) = c.in_ok-digests.digests.items in
-    are_unlisted k.receipts firsts c.in_ok-parked.parked.items _ (c.in_ok-digests.ensures.digests clean k stands)
-    (c.in_ok-parked.ensures.digests honest k (c.digests_of_verdict.ensures.same.stands k stands))
-    (c.in_ok-extend_from_slice.ensures.items ∙ ap (λ ds. firsts ++ ds) c.as_slice.ensures.value)
+pub returns-in-Some-clause-digests : goal.returns-in-Some-clause-digests
+unfolding Represents
+returns-in-Some-clause-digests g c = λ honest k stands. of_copy (AreUnlisted k.receipts) _ _ _ c.in_ok-digests.ensures c.in-Some.is (stands.remembered honest).unlisted

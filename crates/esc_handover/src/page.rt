@@ -1,0 +1,73 @@
+//! A store as a page.
+
+ghost use Rattle.std.specs.Prelude.{IfOk};
+ghost use Rattle.esc_html.specs.Markup.{IsPage};
+
+mod axis;
+mod findings;
+mod group;
+mod objects;
+mod part;
+mod picture;
+mod receipts;
+mod release;
+mod share;
+mod style;
+mod summary;
+mod way;
+
+use crate::detail::moment_words;
+use crate::line::lines_of;
+use crate::page::findings::findings_section;
+use crate::page::objects::objects_section;
+use crate::page::part::leaf;
+use crate::page::receipts::{parked_section, receipts_section};
+use crate::page::release::release_section;
+use crate::page::style::STYLE;
+use crate::page::summary::{page_head, tests_section};
+use crate::seen::Seen;
+use esc_bundle::NoMemory;
+use esc_envelope::Place;
+use esc_events::ParkedBody;
+use esc_html::{Html, Tag};
+use esc_store::Reply;
+use std::alloc::Global;
+
+/// A page of HTML that shows what was seen of a store, with its receipts in order and its parked
+/// bodies. It loads nothing and runs nothing, and each text of a deposit is escaped.
+pub fn page_of(
+    alloc: Global,
+    seen: &Seen<'_>,
+    receipts: &[Reply],
+    parked: &[ParkedBody],
+) -> Result<Vec<u8>, NoMemory>
+    ensures { IfOk result (λ page. IsPage page.items) }
+{
+    let title = title_of(alloc, seen.end)?;
+    let lines = lines_of(alloc, seen)?;
+    let sections = tests_section(alloc, &lines)
+        .add(release_section(alloc, seen)?)
+        .add(objects_section(alloc, seen))
+        .add(findings_section(alloc, seen.findings))
+        .add(receipts_section(alloc, receipts))
+        .add(parked_section(alloc, parked));
+    let head = page_head(alloc, seen, &lines, title.as_str());
+    let foot = leaf(
+        alloc,
+        Tag::Paragraph,
+        "Made by handover page. It loads nothing and runs nothing.",
+    );
+    Html::new(alloc)
+        .element(Tag::Header, &[], head)
+        .element(Tag::Main, &[], sections)
+        .element(Tag::Footer, &[], foot)
+        .into_page(title.as_str(), STYLE)
+}
+
+fn title_of(alloc: Global, end: Option<Place>) -> Result<String, NoMemory> {
+    let Some(end) = end else {
+        return Ok(String::from_str(alloc, "Registry that is not rebuilt yet: there is no chain")?);
+    };
+    let moment = moment_words(alloc, end.watermark)?;
+    Ok(format!(in alloc; "Registry as of {moment}")?)
+}

@@ -1,0 +1,103 @@
+//! What a page says first: whether the registry may be taken over.
+
+use crate::acceptance::is_accepted;
+use crate::line::Line;
+use crate::page::part::{leaf, of_class, section, table, with_moment};
+use crate::seen::Seen;
+use esc_chain::State;
+use esc_envelope::Kind;
+use esc_html::{Attribute, Html, Tag, Value};
+use std::alloc::Global;
+
+/// The head of a page: its title, the acceptance, the moment, and a few numbers.
+pub(crate) fn page_head(alloc: Global, seen: &Seen<'_>, lines: &[Line], title: &str) -> Html {
+    let class = if is_accepted(seen) {
+        "verdict ok"
+    } else {
+        "verdict wrong"
+    };
+    leaf(alloc, Tag::H1, title)
+        .add(of_class(alloc, Tag::Paragraph, class, verdict(alloc, lines)))
+        .element(Tag::Paragraph, &[], moment(alloc, seen.moment))
+        .add(of_class(alloc, Tag::Points, "facts", facts(alloc, seen)))
+}
+
+fn verdict(alloc: Global, lines: &[Line]) -> Html {
+    let wrong = lines.iter().filter(|line| line.word() == "wrong").count();
+    if wrong == 0 {
+        return Html::new(alloc).text("The registry may be taken over: no test is wrong.");
+    }
+    Html::new(alloc)
+        .text("The registry isn't to be taken over as it is. Tests that are wrong: ")
+        .number(wrong as u64)
+        .text(" of ")
+        .number(lines.len() as u64)
+        .text(".")
+}
+
+fn moment(alloc: Global, moment: Option<i64>) -> Html {
+    match moment {
+        Some(moment) => with_moment(
+            alloc,
+            Html::new(alloc).text("It is rebuilt as of the moment "),
+            moment,
+        )
+        .text(": chains that end later don't count."),
+        None => Html::new(alloc).text("No moment is set: the latest chain counts."),
+    }
+}
+
+fn facts(alloc: Global, seen: &Seen<'_>) -> Html {
+    let chain = seen
+        .gaps
+        .iter()
+        .filter(|line| line.state == State::Chain)
+        .count();
+    fact(alloc, "Deposits in the chain: ", chain as u64)
+        .add(fact(alloc, "Objects: ", object_count(seen.objects)))
+        .add(fact(alloc, "Findings: ", seen.findings.len() as u64))
+        .add(fact(alloc, "Orphans: ", seen.orphans))
+        .add(fact(alloc, "Parked bodies: ", seen.parked as u64))
+}
+
+fn object_count(objects: &[(Kind, u64)]) -> u64 {
+    let mut count: u64 = 0;
+    for (_, number) in objects {
+        count = count.saturating_add(*number);
+    }
+    count
+}
+
+fn fact(alloc: Global, label: &str, number: u64) -> Html {
+    let inside = Html::new(alloc)
+        .text(label)
+        .element(Tag::Strong, &[], Html::new(alloc).number(number));
+    Html::new(alloc).element(Tag::Point, &[], inside)
+}
+
+/// The section of the lines of the acceptance.
+pub(crate) fn tests_section(alloc: Global, lines: &[Line]) -> Html {
+    let mut rows = Html::new(alloc);
+    for line in lines {
+        rows = rows.element(Tag::Row, &[], test_cells(alloc, line));
+    }
+    let inside = table(
+        alloc,
+        "The lines of handover check",
+        &["Test", "Result", "What was found, and what to do"],
+        rows,
+    );
+    section(alloc, "tests", "Tests", inside)
+}
+
+fn test_cells(alloc: Global, line: &Line) -> Html {
+    let scope = [(Attribute::Scope, Value::Text("row"))];
+    let word = line.word();
+    let name = Html::new(alloc).text(line.test.name());
+    let mark = of_class(alloc, Tag::Span, word, Html::new(alloc).text(word));
+    let detail = Html::new(alloc).text(line.detail.as_str());
+    Html::new(alloc)
+        .element(Tag::Heading, &scope, name)
+        .element(Tag::Cell, &[], mark)
+        .element(Tag::Cell, &[], detail)
+}

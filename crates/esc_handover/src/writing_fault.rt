@@ -1,0 +1,37 @@
+//! Why a table was not written.
+
+ghost use Rattle.std.specs.Prelude.{◌≡◌};
+ghost use Rattle.esc_handover.specs.declared.writing_fault.WritingFault.TheVariants.{
+  NoMemory as no_memory,
+  Output as of_output,
+};
+
+use esc_bundle::NoMemory;
+use std::io;
+
+/// Why a table was not written.
+#[derive(Debug, Drop)]
+pub enum WritingFault<E> {
+    /// The source of the objects failed, and returned this.
+    Source(E),
+    /// What is written to failed.
+    Output(io::Error),
+    /// Out of memory.
+    NoMemory,
+}
+
+impl<E> From<NoMemory> for WritingFault<E> {
+    ghost from_gives = { λ _ e. e ≡ no_memory };
+
+    fn from(_error: NoMemory) -> WritingFault<E> {
+        WritingFault::NoMemory
+    }
+}
+
+impl<E> From<io::Error> for WritingFault<E> {
+    ghost from_gives = { λ error e. e ≡ of_output error };
+
+    fn from(error: io::Error) -> WritingFault<E> {
+        WritingFault::Output(error)
+    }
+}

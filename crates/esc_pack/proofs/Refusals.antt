@@ -1,0 +1,136 @@
+-- Which row, file or table is refused.
+use Rattle.std.proofs.Common.{◌≡◌, ◌∙◌, ℕ, zero, suc, ◌+◌, ◌<◌, ◌≤◌, Bool, List, [], ◌∷◌, ◌++◌, length, take, drop, get_or, refl, sym, ap, subst, arith, inl, inr, Some}
+use Rattle.std.specs.Prelude.{slice_get, ◌==◌, true, Err}
+use Rattle.std.specs.List.{list_all, zip}
+use Rattle.std.specs.Str.{is_utf8}
+use Rattle.std.proofs.lemmas.Bool.{and_parts}
+use Rattle.std.proofs.lemmas.Bool.Decides.{nat_tests}
+use Rattle.std.proofs.lemmas.Option.{slice_get-get_or}
+use Rattle.esc_csv.specs.Lines.{Line}
+use Rattle.esc_bundle.specs.declared.fault.Fault.{Fault}
+use Rattle.esc_bundle.specs.declared.fault.Fault.TheVariants.{Refused as refused_by, NoMemory as no_memory}
+use Rattle.esc_bundle.specs.Bundle.{Named, IsBundle}
+use Rattle.esc_bundle.specs.Writing.{IsUnwritten}
+use Rattle.esc_envelope.specs.Envelope.{envelope_of}
+use Rattle.esc_envelope.specs.EnvelopeValue.{TableValue}
+use Rattle.esc_tables.specs.Reading.{reading}
+use Rattle.esc_pack.specs.Bundling.{AreSectionsOf}
+use Rattle.esc_pack.specs.declared.bundle_fault.BundleFault.{BundleFault}
+use Rattle.esc_pack.specs.declared.bundle_fault.BundleFault.TheVariants.{Refused, Unmatched, Heading, Row, Marked, NoMemory}
+use Rattle.esc_pack.specs.GivenRows.{GivenTable, has_width}
+use Rattle.esc_pack.specs.BundleRefusals.{of_fault, OrNoMemory, is_row, IsFileRefusal, IsTableRefusal, IsTablesRefusal, IsSectionsRefusal, IsBundleRefusal}
+use Rattle.esc_pack.proofs.SectionFacts.{IsFile}
+
+-- another reason for the same refusal
+pub or_weaker : (P Q : BundleFault → Type 0) → ((e : BundleFault) → P e → Q e) → (e : BundleFault) → OrNoMemory P e
+    → OrNoMemory Q e
+or_weaker P Q more NoMemory refused = tt
+or_weaker P Q more (Refused code) refused = more (Refused code) refused
+or_weaker P Q more Unmatched refused = more Unmatched refused
+or_weaker P Q more (Heading table file) refused = more (Heading table file) refused
+or_weaker P Q more (Row table file row) refused = more (Row table file row) refused
+or_weaker P Q more (Marked table) refused = more (Marked table) refused
+
+-- the element that comes next, and those after it
+pub drop_next : {A : Type 0} (xs : List A) (k : ℕ) {x : A} {rest : List A} → drop k xs ≡ x ∷ rest
+    → (slice_get xs k ≡ Some x) × (drop (k + 1) xs ≡ rest)
+drop_next [] zero e = absurd cc
+drop_next [] (suc k) e = absurd cc
+drop_next (y ∷ ys) zero e = (cc, cc)
+drop_next (y ∷ ys) (suc k) e =
+    let more = drop_next ys k e in
+    let one_more : suc k + 1 ≡ suc (k + 1) = omega arith in
+    (more.0, rw one_more more.1)
+
+-- a row that isn't broken has its width
+pub wide : (width : ℕ) (fields : Line) → 0 < width → is_row width fields ≡ true → has_width width fields ≡ true
+wide width fields some right =
+    let many = (and_parts (length fields == width) (list_all is_utf8 fields) right).0 in
+    rw many (grind (arith, nat_tests))
+
+-- a file of a table is refused
+pub file_refused : {given : GivenTable} {i table : ℕ} {heading : Bool} {text : List ℕ} {e : BundleFault} (t : TableValue)
+    → IsFile given i heading text → IsFileRefusal t heading text table i e → IsTableRefusal (t, given) table e
+file_refused {given} {i} {table} {heading} {text} {e} t file refused =
+    inl (
+      i,
+      text,
+      slice_get-get_or given.files i [] file.inside ∙ ap (λ (f : List ℕ). Some f) (sym file.is),
+      subst (λ (h : Bool). IsFileRefusal t h text table i e) file.same_heading refused,
+    )
+
+-- two elements of one place are a pair
+zip_at : {A B : Type 0} (xs : List A) (ys : List B) (k : ℕ) {x : A} {y : B} → slice_get xs k ≡ Some x → slice_get ys k ≡ Some y
+    → slice_get (zip xs ys) k ≡ Some (x, y)
+zip_at [] ys k at_x at_y = absurd cc
+zip_at (a ∷ xs) [] k at_x at_y = absurd cc
+zip_at (a ∷ xs) (b ∷ ys) zero at_x at_y = cc
+zip_at (a ∷ xs) (b ∷ ys) (suc k) at_x at_y = zip_at xs ys k at_x at_y
+
+-- a table is refused
+pub table_refused : (tables : List TableValue) (given : List GivenTable) (first : ℕ) {i : ℕ} {t : TableValue} {g : GivenTable}
+    {e : BundleFault} → i < length tables → length given ≡ length tables → t ≡ get_or tables i t → g ≡ get_or given i g
+    → IsTableRefusal (t, g) (first + i) e → IsTablesRefusal (zip tables given) first e
+table_refused tables given first {i} {t} {g} lt same is_t is_g refused =
+    let table : slice_get tables i ≡ Some t = slice_get-get_or tables i t lt ∙ ap (λ (x : TableValue). Some x) (sym is_t) in
+    let inside : i < length given = omega (arith, lt, same) in
+    let files : slice_get given i ≡ Some g = slice_get-get_or given i g inside ∙ ap (λ (x : GivenTable). Some x) (sym is_g) in
+    (i, (t, g), zip_at tables given i table files, refused)
+
+get_front : {A : Type 0} (front back : List A) (k : ℕ) {x : A} → slice_get front k ≡ Some x → slice_get (front ++ back) k ≡ Some x
+get_front [] back k at = absurd cc
+get_front (a ∷ front) back zero at = at
+get_front (a ∷ front) back (suc k) at = get_front front back k at
+
+get_back : {A : Type 0} (front back : List A) (k : ℕ) → slice_get (front ++ back) (length front + k) ≡ slice_get back k
+get_back [] back k =
+    let none : 0 + k ≡ k = omega arith in ap (slice_get back) none
+get_back (a ∷ front) back k =
+    let next : length (a ∷ front) + k ≡ suc (length front + k) = omega arith in
+    ap (slice_get (a ∷ front ++ back)) next ∙ get_back front back k
+
+-- a table among the first ones is refused
+pub front_refused : {pairs : List (TableValue × GivenTable)} {e : BundleFault} (front back : List (TableValue × GivenTable))
+    → pairs ≡ front ++ back → IsTablesRefusal front 0 e → IsTablesRefusal pairs 0 e
+front_refused {pairs} {e} front back parts refused =
+    (refused.0, refused.1, ap (λ (ps : List (TableValue × GivenTable)). slice_get ps refused.0) parts ∙ get_front front back refused.0 refused.2, refused.3)
+
+-- a table among the last ones is refused
+pub back_refused : {pairs : List (TableValue × GivenTable)} {first : ℕ} {e : BundleFault} (front back : List (TableValue × GivenTable))
+    → pairs ≡ front ++ back → length front ≡ first → IsTablesRefusal back first e → IsTablesRefusal pairs 0 e
+back_refused {pairs} {first} {e} front back parts many refused =
+    let k : ℕ = refused.0 in
+    let behind : length front + k ≡ first + k = ap (λ (n : ℕ). n + k) many in
+    let at = ap (λ (ps : List (TableValue × GivenTable)). slice_get ps (first + k)) parts
+    ∙ ap (slice_get (front ++ back)) (sym behind) ∙ get_back front back k ∙ refused.2 in
+    let counted : first + k ≡ 0 + (first + k) = omega arith in
+    (first + k, refused.1, at, subst (λ (n : ℕ). IsTableRefusal refused.1 n e) counted refused.3)
+
+-- as many pairs as first tables
+pub pairs_many : {A B : Type 0} (xs : List A) (ys : List B) → length xs ≤ length ys
+    → length (zip xs (take (length xs) ys)) ≡ length xs
+pairs_many [] ys le = refl
+pairs_many (a ∷ xs) [] le = absurd (omega (arith, le))
+pairs_many (a ∷ xs) (b ∷ ys) le = ap (λ (n : ℕ). suc n) (pairs_many xs ys (omega (arith, le)))
+
+-- a description is no envelope
+pub envelope_refused : (description : List ℕ) (given : List GivenTable) (f : Fault)
+    → ((n : ℕ) → f ≡ refused_by n → envelope_of description ≡ Err n)
+    → OrNoMemory (IsSectionsRefusal description given) (of_fault f)
+envelope_refused description given (refused_by n) told = inl (n, refl, told n refl)
+envelope_refused description given no_memory told = tt
+
+-- no bundle has the sections
+pub unwritten : {description : List ℕ} {given : List GivenTable} {sections : List Named} (f : Fault)
+    → AreSectionsOf description given sections → ((n : ℕ) → f ≡ refused_by n → IsUnwritten sections n)
+    → OrNoMemory (IsBundleRefusal description given) (of_fault f)
+unwritten {description} {given} {sections} (refused_by n) are told = inr (n, sections, refl, are, inl (told n refl))
+unwritten no_memory are told = tt
+
+-- the bundle that has them is no deposit
+pub unread : {description : List ℕ} {given : List GivenTable} {sections : List Named} {body : List ℕ} (f : Fault)
+    → AreSectionsOf description given sections → IsBundle body sections
+    → ((n : ℕ) → f ≡ refused_by n → reading body ≡ Err n) → OrNoMemory (IsBundleRefusal description given) (of_fault f)
+unread {description} {given} {sections} {body} (refused_by n) are bundle told =
+    inr (n, sections, refl, are, inr (body, bundle, told n refl))
+unread no_memory are bundle told = tt

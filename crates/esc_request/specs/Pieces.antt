@@ -1,0 +1,51 @@
+-- The pieces in which the bytes of a source come, one for each read.
+use Rattle.std.specs.Prelude.{
+  ◌≡◌,
+  ℕ,
+  List,
+  [],
+  ◌∷◌,
+  ◌++◌,
+  take,
+  ⊤,
+  Option,
+  Some,
+  None,
+  Result,
+  MatchResult,
+}
+
+-- the pieces that came so far, where they are known
+abbrev pub Pieces : Type 0
+Pieces = Option (List (List ℕ))
+
+-- a read added the piece that it gave; one that failed added none
+abbrev pub AddsPiece : {E : Type 0} → Pieces → Pieces → Result ℕ E → List ℕ → Type 0
+AddsPiece None new result buffer = ⊤
+AddsPiece (Some old) None result buffer = ⊥
+AddsPiece (Some old) (Some new) result buffer =
+    MatchResult result (λ n. new ≡ old ++ take n buffer ∷ []) (λ _. new ≡ old)
+
+-- these pieces were added
+abbrev pub Adds : Pieces → Pieces → List (List ℕ) → Type 0
+Adds None new more = ⊤
+Adds (Some old) None more = ⊥
+Adds (Some old) (Some new) more = new ≡ old ++ more
+
+-- these bytes, and then those of pieces
+abbrev pub joined : List ℕ → List (List ℕ) → List ℕ
+joined bytes [] = bytes
+joined bytes (piece ∷ pieces) = joined (bytes ++ piece) pieces
+
+-- each piece was read while this held of the bytes before it
+abbrev pub AreAwaited : (List ℕ → Type 0) → List ℕ → List (List ℕ) → Type 0
+AreAwaited Waits bytes [] = Unit {0}
+AreAwaited Waits bytes (piece ∷ pieces) = Waits bytes × AreAwaited Waits (bytes ++ piece) pieces
+
+-- a source was read while this held of the bytes that had come: first these, and in the end those
+pub record ReadsWhile (Waits : List ℕ → Type 0) (old new : Pieces) (first last : List ℕ) : Type 0
+  where
+    pub pieces : List (List ℕ)
+    pub added : Adds old new pieces
+    pub awaited : AreAwaited Waits first pieces
+    pub came : joined first pieces ≡ last

@@ -1,5 +1,0 @@
-use Rattle.esc_rows.proofs.Calls.{refl, makes, raises}
-use Rattle.esc_rows.proofs.info.raise_version.Goals as goal
-
-pub returns : goal.returns
-returns g c = record { part = makes g.S.Store raises c.write_within.ensures refl }

@@ -1,5 +1,0 @@
-use Rattle.esc_rows.proofs.Common.{◌≡◌, map, take, flat_map, bound, new_entry, shown_entry}
-use Rattle.esc_rows.proofs.object.object_params.Given as goal
-
-abbrev pub invariant-loop-at : goal.invariant-loop-at
-invariant-loop-at l = bound l.all.items ≡ flat_map shown_entry (map new_entry (take l.at l.rows))

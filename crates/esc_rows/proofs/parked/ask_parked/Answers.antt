@@ -1,5 +1,0 @@
-use Rattle.esc_rows.proofs.Calls.{rules, tells, finds_parked}
-use Rattle.esc_rows.proofs.parked.ask_parked.Goals as goal
-
-pub returns : goal.returns
-returns g c = record { read = tells (finds_parked _) c.query_all.ensures (search rules) }

@@ -1,7 +1,0 @@
-use Rattle.esc_rows.proofs.Calls.{rules, makes, removes_parked}
-use Rattle.esc_rows.proofs.parked.delete_parked.Goals as goal
-
-pub returns : goal.returns
-returns g c = record {
-  part = makes g.S.Store (removes_parked _) c.write_within.ensures (search rules);
-}

@@ -1,9 +1,0 @@
-use Rattle.esc_rows.proofs.Calls.{◌∙◌, shown_receipt, if_goes, reads_back, read_then}
-use Rattle.esc_rows.specs.Entries.{receipt_row}
-use Rattle.esc_rows.proofs.receipt.all_receipts.Goals as goal
-
-pub returns : goal.returns
-returns g c = record {
-  read = read_then c.in_ok-rows.ensures.read (λ db x h shows. if_goes c.read_rows.result _ _ c.read_rows.ensures
-      (λ all are. reads_back shown_receipt receipt_row x.receipts _ all.items are (c.deref.ensures.value ∙ shows)));
-}

@@ -1,7 +1,0 @@
-use Rattle.esc_rows.proofs.Calls.{rules, tells, shows_verdict_digests}
-use Rattle.esc_rows.proofs.receipt.ask_digests.Goals as goal
-
-pub returns : goal.returns
-returns g c = record {
-  read = tells (shows_verdict_digests _) c.query_all.ensures (search rules);
-}

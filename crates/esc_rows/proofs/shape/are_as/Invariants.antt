@@ -1,5 +1,0 @@
-use Rattle.esc_rows.proofs.Common.{◌≡◌, map, take}
-use Rattle.esc_rows.proofs.shape.are_as.Given as goal
-
-abbrev pub invariant-loop-at : goal.invariant-loop-at
-invariant-loop-at g l = take l.at l.all ≡ map g.W.Describes.part (take l.at l.rows)

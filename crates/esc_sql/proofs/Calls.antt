@@ -1,0 +1,20 @@
+-- The names that the answers cite, passed on from one place. Declares nothing.
+pub use Rattle.esc_sql.proofs.Common.{arith, subst, PutsListed, listed_row, ◌+◌, sym, table_at, schema_of, ◌≡◌, Ok, state, Error, IsPart, Builds, no_schema, rules, ShowsVersion, refl, ◌∙◌, shown_listed, if_goes, map, map-map, sort_by}
+pub use Rattle.esc_sql.proofs.Common.{object_entry, by_key, object_of, shown_entry, ap, length-map, get_or-map, bound, new_entry, first_of, number_value, shown_kind, zero, ◌≢◌, ObjectEntry, CountsObject, filter, take, take-map, is_kind_from}
+pub use Rattle.esc_sql.proofs.Common.{shown_object, by_digest, digest_of, shown_digest, ◌<◌, ◌++◌, ◌∷◌, [], length, shown_receipt, Some, None, slice_get, common_steps, shown_step, survives_weaker, Err, each_err, new_image, image_entry}
+pub use Rattle.esc_sql.proofs.Common.{by_image, shown_image_entry, IsTrue, RunsInside, inl}
+pub use Rattle.esc_sql.proofs.Compiled.{select_version_is}
+pub use Rattle.esc_sql.proofs.CreateLemmas.{adds_next, adds_table, builds, AddsBoth, adds_both, shows_version, makes_empty, raises}
+pub use Rattle.esc_sql.proofs.DecodeLemmas.{reads_back, reads_each, reads_numbers, numbers_are, one_more}
+pub use Rattle.esc_sql.proofs.EndLemmas.{rollback_ends, rollback_keeps, rollback_undoes, rollback_commits_none, begin_ends, begin_shows, begin_keeps, begin_commits_none, commit_shows, commit_leaves, commit_ends, fails_keeps}
+pub use Rattle.esc_sql.proofs.Forms.{opens_first, opens_store}
+pub use Rattle.esc_sql.proofs.ObjectLemmas.{finds_object, clears_objects, removes_object, inserts_objects, update_part, inserts_object, puts_set, puts_new, put_entry}
+pub use Rattle.esc_sql.proofs.ObjectLists.{lists_objects, shows_kinds, shows_objects, lists_kinds, shows_from, lists_from}
+pub use Rattle.esc_sql.proofs.ParkedLemmas.{finds_moment, clears_moment, moment_is, sets_moment, shows_digests, finds_parked, removes_parked, puts_parked, lists_parked}
+pub use Rattle.esc_sql.proofs.PartLemmas.{parts, part_as, then_part, tells, makes, read_part, read_then, refused}
+pub use Rattle.esc_sql.proofs.ReceiptLemmas.{shows_verdict_digests, shows_last, finds_receipt, shows_receipts, shows_rows, adds_receipt, last_is, none_is, lists_rows}
+pub use Rattle.esc_sql.proofs.RowTexts.{within, commits_none}
+pub use Rattle.esc_sql.proofs.ShapeLemmas.{tests_first}
+pub use Rattle.esc_sql.proofs.TableLemmas.{finds_body, holds_body, shows_listed, puts_listed, shows_steps, clears_steps_from, adds_step}
+pub use Rattle.esc_sql.proofs.UndoLemmas.{shows_images, clears_undo, removes_images, puts_images, puts_image, lists_images, of_step}
+pub use Rattle.esc_sql.proofs.Values.{bound_text, bound_number, bound_blob}

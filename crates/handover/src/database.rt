@@ -1,0 +1,214 @@
+//! `registry.sqlite`: the tables of a registry as those of a database.
+
+use esc_apply::Objects;
+use esc_bundle::NoMemory;
+use esc_handover::{Layout, text_in};
+use esc_tables::{Key, Object, Row};
+use sqlite::types::ValueRef;
+use sqlite::{Alter, Connection, Error, ErrorCode, Statement};
+use std::alloc::{AllocError, AllocFailed, Global};
+
+/// Why rows were not written to a database.
+#[derive(Drop)]
+pub enum FillFault<E> {
+    /// The source of the objects failed, and returned this.
+    Source(E),
+    /// The database failed, or refused a statement.
+    Database(Error),
+    /// Out of memory.
+    NoMemory,
+}
+
+impl<E> From<Error> for FillFault<E> {
+    fn from(error: Error) -> FillFault<E> {
+        match error {
+            Error::SqliteFailure(ErrorCode::OutOfMemory) => FillFault::NoMemory,
+            error => FillFault::Database(error),
+        }
+    }
+}
+
+impl<E> From<NoMemory> for FillFault<E> {
+    fn from(_refused: NoMemory) -> FillFault<E> {
+        FillFault::NoMemory
+    }
+}
+
+impl<E> From<AllocError> for FillFault<E> {
+    fn from(_refused: AllocError) -> FillFault<E> {
+        FillFault::NoMemory
+    }
+}
+
+impl<E, T: Drop> From<AllocFailed<T>> for FillFault<E> {
+    fn from(_refused: AllocFailed<T>) -> FillFault<E> {
+        FillFault::NoMemory
+    }
+}
+
+// A name between double quotes, which stand twice within.
+fn push_name(text: &mut String, name: &str) -> Result<(), NoMemory> {
+    text.push_str("\"")?;
+    for letter in name.chars() {
+        if letter == '"' {
+            text.push_str("\"")?;
+        }
+        text.push(letter)?;
+    }
+    text.push_str("\"")?;
+    Ok(())
+}
+
+// The statement that makes a table. The key of parent rows is the table's.
+fn table_text(alloc: Global, layout: &Layout) -> Result<String, NoMemory> {
+    let mut text = String::from_str(alloc, "CREATE TABLE ")?;
+    push_name(&mut text, layout.table.text())?;
+    text.push_str(" (\"key\" TEXT NOT NULL")?;
+    if layout.table.child.is_none() {
+        text.push_str(" PRIMARY KEY")?;
+    }
+    for column in &layout.columns {
+        text.push_str(", ")?;
+        push_name(&mut text, column.as_str())?;
+        text.push_str(" TEXT")?;
+    }
+    text.push_str(")")?;
+    Ok(text)
+}
+
+// The statement that adds a row to a table.
+fn row_text(alloc: Global, layout: &Layout) -> Result<String, NoMemory> {
+    let mut text = String::from_str(alloc, "INSERT INTO ")?;
+    push_name(&mut text, layout.table.text())?;
+    text.push_str(" VALUES (?1")?;
+    for at in 0..layout.columns.len() {
+        let number = at.saturating_add(2);
+        let place = format!(in alloc; ", ?{number}")?;
+        text.push_str(place.as_str())?;
+    }
+    text.push_str(")")?;
+    Ok(text)
+}
+
+// The statement that makes the index over the keys of child rows. No table has a point in its name.
+fn index_text(alloc: Global, name: &str) -> Result<String, NoMemory> {
+    let mut text = String::from_str(alloc, "CREATE INDEX ")?;
+    let index = format!(in alloc; "{name}.key")?;
+    push_name(&mut text, index.as_str())?;
+    text.push_str(" ON ")?;
+    push_name(&mut text, name)?;
+    text.push_str(" (\"key\")")?;
+    Ok(text)
+}
+
+// The values of a row. A field that the row doesn't have is NULL.
+fn values_of<'a>(
+    alloc: Global,
+    columns: &[String],
+    key: &'a Key,
+    row: &'a Row,
+) -> Result<Vec<ValueRef<'a>>, NoMemory> {
+    let mut values = Vec::new(alloc);
+    values.push(ValueRef::Text(key.text.as_bytes()))?;
+    for column in columns {
+        let value = match text_in(row, column.as_str()) {
+            Some(text) => ValueRef::Text(text.as_bytes()),
+            None => ValueRef::Null,
+        };
+        values.push(value)?;
+    }
+    Ok(values)
+}
+
+// A table that is being filled, and the statement that adds a row to it.
+#[derive(Clone, Copy)]
+struct Filling<'a> {
+    alloc: Global,
+    layout: &'a Layout,
+    insert: &'a Statement,
+}
+
+impl Filling<'_> {
+    fn add_row<'k, S: Alter>(
+        &self,
+        connection: &mut Connection<S>,
+        key: &'k Key,
+        row: &'k Row,
+    ) -> Result<(), Error> {
+        let layout = self.layout;
+        match values_of(self.alloc, &layout.columns, key, row) {
+            Ok(values) => {
+                self.insert.execute(connection, &values)?;
+                Ok(())
+            }
+            Err(NoMemory) => Err(Error::SqliteFailure(ErrorCode::OutOfMemory)),
+        }
+    }
+
+    fn add_children<S: Alter>(
+        &self,
+        connection: &mut Connection<S>,
+        name: &str,
+        key: &Key,
+        rows: &[Row],
+    ) -> Result<(), Error> {
+        for row in rows {
+            if row.table() == name {
+                self.add_row(connection, key, row)?;
+            }
+        }
+        Ok(())
+    }
+
+    // Adds an object's rows in the table.
+    fn add_rows<S: Alter>(
+        &self,
+        connection: &mut Connection<S>,
+        key: &Key,
+        object: &Object,
+    ) -> Result<(), Error> {
+        let layout = self.layout;
+        if key.kind != layout.table.kind {
+            return Ok(());
+        }
+        match &layout.table.child {
+            None => self.add_row(connection, key, &object.parent),
+            Some(name) => { self.add_children(connection, name.as_str(), key, &object.children) }
+        }
+    }
+}
+
+/// Makes a table, adds its rows, and then makes the index of child rows.
+pub fn fill_table<S: Alter, O: Objects>(
+    alloc: Global,
+    connection: &mut Connection<S>,
+    objects: &mut O,
+    layout: &Layout,
+) -> Result<(), FillFault<O::Error>> {
+    let create = table_text(alloc, layout)?;
+    connection.execute(create.as_str(), &[])?;
+    let insert = row_text(alloc, layout)?;
+    let insert = connection.prepare(insert.as_str())?;
+    let filling = Filling {
+        alloc,
+        layout,
+        insert: &insert,
+    };
+    add_objects(connection, objects, filling)?;
+    if let Some(name) = &layout.table.child {
+        let index = index_text(alloc, name.as_str())?;
+        connection.execute(index.as_str(), &[])?;
+    }
+    Ok(())
+}
+
+fn add_objects<S: Alter, O: Objects>(
+    connection: &mut Connection<S>,
+    objects: &mut O,
+    filling: Filling<'_>,
+) -> Result<(), FillFault<O::Error>> {
+    while let Some((key, object)) = objects.next().map_err(FillFault::Source)? {
+        filling.add_rows(connection, &key, &object)?;
+    }
+    Ok(())
+}

@@ -1,0 +1,128 @@
+//! A folder that is made beside its place, and put there when it is whole.
+
+use crate::files::write_new;
+use crate::stop::Stop;
+use esc_arguments::or_stop;
+use esc_cli::path_in;
+use esc_handover::digest_of;
+use std::fs::{self, File};
+use std::io::{Error, ErrorKind};
+
+/// A folder beside its place.
+#[derive(Drop)]
+pub struct NewFolder<'a> {
+    rt: &'a HostRuntime,
+    // Its place, as it was named.
+    place: &'a str,
+    // Where it is until then.
+    beside: String,
+}
+
+// Whether a folder has nothing in it.
+fn is_empty(rt: &HostRuntime, path: &str) -> Result<bool, Error> {
+    let mut entries = fs::read_dir(rt, path)?;
+    match entries.next() {
+        None => Ok(true),
+        Some(Ok(_)) => Ok(false),
+        Some(Err(error)) => Err(error),
+    }
+}
+
+fn find_room(rt: &HostRuntime, path: &str) -> Result<(), Error> {
+    if path.is_empty() {
+        return Err(Error::from(ErrorKind::NotFound));
+    }
+    match fs::symlink_metadata(rt, path) {
+        Ok(found) if found.is_dir() => {}
+        Ok(_) => return Err(Error::from(ErrorKind::AlreadyExists)),
+        Err(error) if error.kind() == ErrorKind::NotFound => return Ok(()),
+        Err(error) => return Err(error),
+    }
+    if is_empty(rt, path)? {
+        Ok(())
+    } else {
+        Err(Error::from(ErrorKind::DirectoryNotEmpty))
+    }
+}
+
+// A path without the slashes at its end. (That of the root is empty, which is the path of nothing.)
+fn trimmed(path: &str) -> &str {
+    path.trim_end_matches('/')
+}
+
+/// `E1` unless there is nothing at a path, or a folder with nothing in it.
+pub fn check_place(rt: &HostRuntime, place: &str) -> Result<(), Stop> {
+    Ok(or_stop(rt, place, find_room(rt, trimmed(place)))?)
+}
+
+impl<'a> NewFolder<'a> {
+    /// Makes a folder beside its place, under the name with `.part`; `E1` of that name where
+    /// something has it, as what a run that was stopped left.
+    pub fn create(rt: &'a HostRuntime, place: &'a str) -> Result<NewFolder<'a>, Stop> {
+        let path = trimmed(place);
+        let beside = format!(in rt.alloc(); "{path}.part")?;
+        match fs::create_dir(rt, beside.as_str()) {
+            Ok(()) => Ok(NewFolder { rt, place, beside }),
+            Err(error) if error.kind() == ErrorKind::AlreadyExists => {
+                Ok(or_stop(rt, beside.as_str(), Err(error))?)
+            }
+            Err(error) => Ok(or_stop(rt, place, Err(error))?),
+        }
+    }
+
+    /// The path of a file in it.
+    pub fn path_of(&self, name: &str) -> Result<String, Stop> {
+        Ok(path_in(self.rt.alloc(), self.beside.as_str(), name)?)
+    }
+
+    /// A new file in it, to be written.
+    pub fn create_file(&self, name: &str) -> Result<File, Stop> {
+        let path = self.path_of(name)?;
+        self.or_stop(File::create_new(self.rt, path.as_str()))
+    }
+
+    /// Writes a new file in it.
+    pub fn write(&self, name: &str, bytes: &[u8]) -> Result<(), Stop> {
+        let file = self.create_file(name)?;
+        self.or_stop(write_new(file, bytes))
+    }
+
+    /// The SHA-256 of a file in it.
+    pub fn digest(&self, name: &str) -> Result<[u8; 32], Stop> {
+        let path = self.path_of(name)?;
+        self.or_stop(digest_at(self.rt, path.as_str()))
+    }
+
+    /// What came of a file in it, or the stop at its place.
+    pub fn or_stop<T>(&self, found: Result<T, Error>) -> Result<T, Stop> {
+        Ok(or_stop(self.rt, self.place, found)?)
+    }
+
+    /// Puts it in its place, if all that belongs in it was written; else removes it.
+    pub fn finish(self, written: Result<(), Stop>) -> Result<(), Stop> {
+        let finished = match written {
+            Ok(()) => self.put(),
+            Err(stop) => Err(stop),
+        };
+        if finished.is_err() {
+            let _ = fs::remove_dir_all(self.rt, self.beside.as_str());
+        }
+        finished
+    }
+
+    // In one step: an empty folder that is there is replaced.
+    fn put(&self) -> Result<(), Stop> {
+        self.or_stop(sync_folder(self.rt, self.beside.as_str()))?;
+        self.or_stop(fs::rename(self.rt, self.beside.as_str(), trimmed(self.place)))
+    }
+}
+
+fn digest_at(rt: &HostRuntime, path: &str) -> Result<[u8; 32], Error> {
+    let mut file = File::open(rt, path)?;
+    digest_of(&mut file)
+}
+
+// The names in it are on the disk before it gets its own.
+fn sync_folder(rt: &HostRuntime, path: &str) -> Result<(), Error> {
+    File::open(rt, path)?.sync_all()
+}

@@ -1,0 +1,132 @@
+//! `check --manifest FILE DIR`: what `restore take` would find of a folder's files.
+
+use crate::files::{read_body, read_manifest_at};
+use crate::forecast_lines::{file_line, missing_line};
+use crate::stop::{Stop, or_stop};
+use esc_cli::{OneLine, path_in, plain_files};
+use esc_envelope::is_id;
+use esc_manifest::Manifest;
+use esc_pack::{Forecast, forecast_of, is_there};
+use std::io::Write;
+
+/// The words of the command: the manifest, and the folder of the files.
+#[derive(Clone, Copy)]
+pub struct Checking<'a> {
+    pub manifest: &'a str,
+    pub folder: &'a str,
+}
+
+/// One check: the files that were looked at so far, and the two streams that are written to.
+#[derive(Drop)]
+struct Check<'a, O, E> {
+    rt: &'a HostRuntime,
+    manifest: &'a Manifest,
+    forecasts: Vec<Forecast>,
+    out: &'a mut O,
+    err: &'a mut E,
+}
+
+/// Prints a line for each plain file of the folder, in byte order of names, and then one for each
+/// deposit that the manifest lists and none of them has. Says whether each file would be `A1`.
+pub fn check_files<O: Write, E: Write>(
+    rt: &HostRuntime,
+    words: Checking<'_>,
+    out: &mut O,
+    err: &mut E,
+) -> Result<bool, Stop> {
+    let manifest = read_manifest_at(rt, words.manifest)?;
+    check_by_rows(rt, &manifest, words.folder, out, err)
+}
+
+// The same by a manifest that was read. What a check holds is here at one lifetime.
+fn check_by_rows<'a, O: Write, E: Write>(
+    rt: &'a HostRuntime,
+    manifest: &'a Manifest,
+    folder: &str,
+    out: &'a mut O,
+    err: &'a mut E,
+) -> Result<bool, Stop> {
+    let listing = or_stop(rt, folder, plain_files(rt, folder))?;
+    let mut check = Check {
+        rt,
+        manifest,
+        forecasts: Vec::new(rt.alloc()),
+        out,
+        err,
+    };
+    check.tell_unnamed(listing.unnamed)?;
+    let are_held = check.check_names(folder, &listing.names)?;
+    check.print_missing()?;
+    Ok(listing.unnamed == 0 && are_held)
+}
+
+impl<O: Write, E: Write> Check<'_, O, E> {
+    // Prints on standard output, whose path is `-`.
+    fn print(&mut self, line: &str) -> Result<(), Stop> {
+        or_stop(self.rt, "-", self.out.write_all(line.as_bytes()))
+    }
+
+    // Prints a refusal that doesn't stop the check, in the words of `restore take`. A failure of
+    // standard error is ignored: there is nowhere to report it.
+    fn tell(&mut self, refusal: &str, name: &str) -> Result<(), Stop> {
+        let line = format!(in self.rt.alloc(); "{refusal} {}\n", OneLine(name))?;
+        let _ = self.err.write_all(line.as_bytes());
+        Ok(())
+    }
+
+    fn tell_unnamed(&mut self, count: usize) -> Result<(), Stop> {
+        for _ in 0..count {
+            self.tell("N1", "(a name that is no UTF-8)")?;
+        }
+        Ok(())
+    }
+
+    // Looks at the files of these names, and says whether each would be held.
+    fn check_names(&mut self, folder: &str, names: &[String]) -> Result<bool, Stop> {
+        let mut are_held = true;
+        for name in names {
+            are_held &= self.check_file(folder, name.as_str())?;
+        }
+        Ok(are_held)
+    }
+
+    fn check_file(&mut self, folder: &str, name: &str) -> Result<bool, Stop> {
+        if !is_id(name) {
+            self.tell("N1", name)?;
+            return Ok(false);
+        }
+        let path = path_in(self.rt.alloc(), folder, name)?;
+        let Some(body) = read_body(self.rt, path.as_str())? else {
+            self.tell("E2", name)?;
+            return Ok(false);
+        };
+        self.check_body(name, &body)
+    }
+
+    fn check_body(&mut self, name: &str, body: &[u8]) -> Result<bool, Stop> {
+        let forecast = forecast_of(self.rt.alloc(), self.manifest, body)?;
+        let line = file_line(
+            self.rt,
+            self.manifest,
+            &self.forecasts,
+            &forecast,
+            name,
+            body,
+        )?;
+        self.print(line.as_str())?;
+        let is_held = forecast.held_row().is_some();
+        self.forecasts.push(forecast)?;
+        Ok(is_held)
+    }
+
+    fn print_missing(&mut self) -> Result<(), Stop> {
+        let manifest = self.manifest;
+        for (at, row) in manifest.rows().iter().enumerate() {
+            if !is_there(&self.forecasts, at) {
+                let line = missing_line(self.rt, &row.header)?;
+                self.print(line.as_str())?;
+            }
+        }
+        Ok(())
+    }
+}

@@ -1,0 +1,206 @@
+#!/usr/bin/env python3
+"""trials/page_looks.py [--restore FILE] [--handover FILE] [--large FOLDER] OUT: pictures of what `handover page` writes, in the folder OUT.
+
+Rebuilds the samples, a release with flaws, one of 4,096 places, and the large release of docs/RUNBOOK.md if its folder is named (made by
+`samples/make_large FOLDER`), writes a page of each, and opens it from its file in headless Chromium (Debian's package `chromium`), at 400
+and at 1,600 pixels, light and dark: OUT has a picture of each, and the page as it is printed. Of each it tests that nothing but the page is
+asked for, that no script, style or message stands on the console, that the page is not wider than the window, that no two labels of the
+picture overlap, and that each text has a contrast of 4.5 at least to what is behind it, and each mark one of 3 (WCAG 2.2, AA).
+
+The last line is `N passed, M failed`."""
+import base64, json, os, select, shutil, subprocess, sys, tempfile
+
+sys.path.append(f'{sys.path[0]}/../tests')
+from cases.page import many_places
+from support import TOP, arguments_of, built
+from support.files import read, write
+from support.flawed import draw_release
+
+WIDTHS, LOOKS = (400, 1600), ('light', 'dark')
+SAMPLES = {
+    'first': ('first/manifest.csv', 'first/deposits'),
+    'release': ('release/manifest.csv', 'release/deposits'),
+    'whole': ('release/manifest.csv', 'release/deposits', 'release/missing'),
+}
+# How long the browser may take for an answer.
+SECONDS = 60
+# The texts and marks of a page whose contrast is too small, each with it.
+CONTRASTS = r"""(() => {
+  const parsed = text => (text.match(/[\d.]+/g) || []).map(Number);
+  const part = v => (v /= 255, v <= 0.03928 ? v / 12.92 : ((v + 0.055) / 1.055) ** 2.4);
+  const light = c => 0.2126 * part(c[0]) + 0.7152 * part(c[1]) + 0.0722 * part(c[2]);
+  const behind = e => { for (; e; e = e.parentElement) { const c = parsed(getComputedStyle(e).backgroundColor); if (c.length == 3 || c[3] == 1) return c; } return [255, 255, 255]; };
+  const ratio = (a, b) => { const [x, y] = [light(a), light(b)].sort((p, q) => q - p); return (x + 0.05) / (y + 0.05); };
+  const found = [];
+  const check = (e, color, least) => { const r = ratio(parsed(color), behind(e.parentElement)); if (r < least) found.push([e.tagName, (e.id || e.textContent).slice(0, 30), r]); };
+  for (const e of document.body.querySelectorAll('*')) {
+    const style = getComputedStyle(e);
+    if ([...e.childNodes].some(n => n.nodeType == 3 && n.data.trim()) && e.tagName != 'title')
+      check(e, e instanceof SVGElement ? style.fill : style.color, 4.5);
+    else if (e.closest('defs') && e.tagName != 'defs')
+      check(e, style.fill == 'none' || style.stroke != 'none' ? style.stroke : style.fill, 3);
+  }
+  return found;
+})()"""
+# The labels of the picture that overlap, in pairs.
+OVERLAPS = r"""(() => {
+  const all = [...document.querySelectorAll('svg text')].map(e => [e.textContent, e.getBoundingClientRect()]);
+  return all.flatMap(([a, r], i) => all.slice(i + 1).filter(([_, s]) => r.left < s.right && s.left < r.right && r.top < s.bottom && s.top < r.bottom)
+                     .map(([b]) => [a, b]));
+})()"""
+counts = {'passed': 0, 'failed': 0}
+
+
+def check(what, found, wanted):
+    counts['passed' if found == wanted else 'failed'] += 1
+    if found != wanted:
+        print(f'WRONG {what}: {str(found)[:400]}', flush=True)
+
+
+class Browser:
+    """Headless Chromium, which is asked through a pair of pipes (its DevTools protocol)."""
+
+    def __init__(self, program, room):
+        asked, self.asks = os.pipe()
+        self.answers, answered = os.pipe()
+
+        def prepare():
+            # The browser reads file 3 and writes file 4.
+            ends = os.dup(asked), os.dup(answered)
+            os.dup2(ends[0], 3)
+            os.dup2(ends[1], 4)
+
+        words = ['--headless=new', '--no-sandbox', '--disable-gpu', '--hide-scrollbars', '--remote-debugging-pipe', f'--user-data-dir={room}']
+        self.child = subprocess.Popen([program, *words, 'about:blank'], preexec_fn=prepare, close_fds=False, stdout=subprocess.DEVNULL,
+                                      stderr=subprocess.DEVNULL)
+        self.come, self.number, self.events, self.session = b'', 0, [], None
+        target = self.ask('Target.createTarget', url='about:blank')['targetId']
+        self.session = self.ask('Target.attachToTarget', targetId=target, flatten=True)['sessionId']
+        for it in ('Page', 'Network', 'Log', 'Runtime'):
+            self.ask(f'{it}.enable')
+
+    def next(self):
+        while b'\0' not in self.come:
+            if not select.select([self.answers], [], [], SECONDS)[0] or not (piece := os.read(self.answers, 1 << 20)):
+                sys.exit('page_looks: the browser does not answer')
+            self.come += piece
+        message, _, self.come = self.come.partition(b'\0')
+        return json.loads(message)
+
+    def ask(self, method, **params):
+        self.number += 1
+        session = {'sessionId': self.session} if self.session else {}
+        os.write(self.asks, json.dumps({'id': self.number, 'method': method, 'params': params} | session).encode() + b'\0')
+        while (message := self.next()).get('id') != self.number:
+            self.events.append(message)
+        if 'error' in message:
+            sys.exit(f'page_looks: {method}: {message["error"]}')
+        return message['result']
+
+    def value(self, expression):
+        return self.ask('Runtime.evaluate', expression=expression, returnByValue=True)['result'].get('value')
+
+    def open(self, path, width, look):
+        self.ask('Emulation.setEmulatedMedia', features=[{'name': 'prefers-color-scheme', 'value': look}])
+        self.ask('Emulation.setDeviceMetricsOverride', width=width, height=900, deviceScaleFactor=1, mobile=width < 500)
+        self.events.clear()
+        self.ask('Page.navigate', url=f'file://{path}')
+        while not any(it.get('method') == 'Page.loadEventFired' for it in self.events):
+            self.events.append(self.next())
+
+    def seen(self, *methods):
+        return [it['params'] for it in self.events if it.get('method') in methods]
+
+    def picture(self, width):
+        height = self.ask('Page.getLayoutMetrics')['cssContentSize']['height']
+        clip = {'x': 0, 'y': 0, 'width': width, 'height': min(height, 16_000), 'scale': 1}
+        return base64.b64decode(self.ask('Page.captureScreenshot', captureBeyondViewport=True, clip=clip)['data'])
+
+    def print(self):
+        return base64.b64decode(self.ask('Page.printToPDF', printBackground=False)['data'])
+
+    def close(self):
+        self.ask('Browser.close')
+        self.child.wait(SECONDS)
+
+
+def run(program, *words, statuses=(0,)):
+    done = subprocess.run([program, *words], stdout=subprocess.DEVNULL, stderr=subprocess.PIPE, text=True)
+    if done.returncode not in statuses:
+        sys.exit(f'page_looks: {program} {" ".join(words)}: status {done.returncode}: {done.stderr}')
+
+
+def rebuild(restore, store, manifests, folders, moment=None):
+    first, *more = manifests
+    run(restore, 'init', '--store', store, '--manifest', first)
+    for it in folders:
+        run(restore, 'take', '--store', store, it, statuses=(0, 1))
+    for it in more:
+        run(restore, 'amend', '--store', store, '--manifest', it)
+    if moment:
+        run(restore, 'as-of', '--store', store, moment)
+
+
+def rebuild_made(restore, store, manifest, bodies, moment=None):
+    os.mkdir(f'{store}-deposits')
+    for at, body in enumerate(bodies):
+        write(f'{store}-deposits/{at}', body)
+    write(f'{store}.csv', manifest)
+    rebuild(restore, store, [f'{store}.csv'], [f'{store}-deposits'], moment)
+
+
+def make_stores(restore, room, large):
+    """Rebuilds the stores, and gives their paths by the names of the pages."""
+    for name, (manifest, *folders) in SAMPLES.items():
+        yield name, f'{room}/{name}.db'
+        rebuild(restore, f'{room}/{name}.db', [f'{TOP}/samples/{manifest}'], [f'{TOP}/samples/{it}' for it in folders])
+    flawed = draw_release(5)
+    yield 'flawed', f'{room}/flawed.db'
+    rebuild_made(restore, f'{room}/flawed.db', flawed.manifest(), flawed.bodies, flawed.moment)
+    yield 'many', f'{room}/many.db'
+    rebuild_made(restore, f'{room}/many.db', *many_places())
+    if large:
+        yield 'large', f'{room}/large.db'
+        rebuild(restore, f'{room}/large.db', [f'{large}/mail/manifest.csv'], [f'{large}/mail/deposits'])
+
+
+def look_at(browser, name, path, out):
+    for width in WIDTHS:
+        for look in LOOKS:
+            browser.open(path, width, look)
+            what = f'{name} at {width}, {look}'
+            check(f'requests of {what}', [it['request']['url'] for it in browser.seen('Network.requestWillBeSent')], [f'file://{path}'])
+            check(f'console of {what}', browser.seen('Log.entryAdded', 'Runtime.exceptionThrown', 'Runtime.consoleAPICalled'), [])
+            check(f'width of {what}', browser.value('document.documentElement.scrollWidth'), width)
+            check(f'contrast in {what}', browser.value(CONTRASTS), [])
+            check(f'labels of {what}', browser.value(OVERLAPS), [])
+            write(f'{out}/{name}-{width}-{look}.png', browser.picture(width))
+    write(f'{out}/{name}.pdf', browser.print())
+
+
+def main():
+    arguments = arguments_of(__doc__)
+    for it in ('restore', 'handover'):
+        arguments.add_argument(f'--{it}', default=built(it), metavar='FILE')
+    arguments.add_argument('--large', metavar='FOLDER', help='what samples/make_large made')
+    arguments.add_argument('out', metavar='OUT')
+    given = arguments.parse_args()
+    if not (chromium := shutil.which('chromium') or shutil.which('google-chrome')):
+        sys.exit('page_looks: there is no chromium')
+    os.makedirs(given.out, exist_ok=True)
+    with tempfile.TemporaryDirectory(prefix='page-looks-') as room:
+        stores = dict(make_stores(given.restore, room, given.large))
+        browser = Browser(chromium, f'{room}/browser')
+        for name, store in stores.items():
+            page = os.path.abspath(f'{given.out}/{name}.html')
+            if os.path.exists(page):
+                os.remove(page)
+            run(given.handover, 'page', '--store', store, page)
+            look_at(browser, name, page, given.out)
+        browser.close()
+    print(f'{counts["passed"]} passed, {counts["failed"]} failed')
+    return 1 if counts['failed'] else 0
+
+
+if __name__ == '__main__':
+    sys.exit(main())
