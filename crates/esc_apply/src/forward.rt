@@ -99,8 +99,13 @@ pub(crate) fn apply_all<R: Registry>(
     Ok(writes)
 }
 
-// Applies a deposit as step `pos` of a chain.
-fn apply_next<R: Registry>(
+/// Applies a deposit as step `pos`, counted from 1, of a chain: as [`apply_step`], but of a first
+/// step nothing is looked up, since the registry of a chain without steps has no objects.
+///
+/// # Errors
+///
+/// The registry's error; out of memory is one of these. Nothing is said then of what it holds.
+pub fn apply_next<R: Registry>(
     alloc: Global,
     registry: &mut R,
     pos: u32,

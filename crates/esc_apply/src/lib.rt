@@ -24,6 +24,8 @@
 //!   ones applied. Where nothing is common, all is cleared at once, which is no write. The contents
 //!   of a step are put by one call, `Registry::put_all`; of a first step it is told that no key has
 //!   an object, so that it need look nothing up ([`Keys`]).
+//! - [`take_back`], [`apply_next`], [`work_of`]: the parts of a move, for a caller that reads the
+//!   deposits one at a time.
 //! - [`MemRegistry`]: a registry in memory.
 //! - [`Objects`]: objects one at a time, for a report that need not keep all of them.
 //! - [`MapObjects`]: those of a map in memory.
@@ -50,11 +52,11 @@ mod objects;
 mod registry;
 
 pub use back::undo_step;
-pub use forward::apply_step;
+pub use forward::{apply_next, apply_step};
 pub use front::{Step, common_front};
 pub use laws::{read_deposits_mention_few, tables_are_listed};
 pub use map::MapObjects;
 pub use memory::MemRegistry;
-pub use moves::{Work, move_chain};
+pub use moves::{Work, move_chain, take_back, work_of};
 pub use objects::Objects;
 pub use registry::{Keys, Registry};

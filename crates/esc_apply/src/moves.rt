@@ -79,16 +79,22 @@ pub fn move_chain<R: Registry>(
 {
     let steps = old.len() as u32;
     let front = common_front(old, new) as u32;
-    let undone = go_back(registry, alloc, steps, front)?;
-    let applied = apply_all(registry, alloc, front, deposits)?;
-    let writes = undone.saturating_add(applied);
-    Ok(work_of(steps, front, deposits.len() as u32, writes))
+    let back = take_back(alloc, registry, steps, front)?;
+    let forth = apply_all(registry, alloc, front, deposits)?;
+    Ok(work_of(steps, front, deposits.len() as u32, back, forth))
 }
 
-// Takes a chain back so that its first `front` steps stay: all at once if none stays.
-fn go_back<R: Registry>(
-    registry: &mut R,
+/// Takes a chain of `steps` steps back, so that its first `front` steps stay: the others one by
+/// one, the last first, or, if none stays, all at once, which is no write. A registry that holds
+/// the tables and before-images of the chain holds afterwards those of its first `front` steps.
+/// Returns the number of writes (at most 2^64 - 1).
+///
+/// # Errors
+///
+/// The registry's error; out of memory is one of these. Nothing is said then of what it holds.
+pub fn take_back<R: Registry>(
     alloc: Global,
+    registry: &mut R,
     steps: u32,
     front: u32,
 ) -> Result<u64, R::Error>
@@ -110,13 +116,21 @@ fn go_back<R: Registry>(
     undo_to(registry, alloc, steps, front)
 }
 
-fn is_cleared(steps: u32, front: u32) -> bool
-    ensures { result ≡ is_cleared steps front }
+/// What a move did that went from `steps` steps, of which the first `front` stayed, to a chain with
+/// `applied` others after those: `back` writes took steps back, and `forth` writes applied them.
+pub fn work_of(steps: u32, front: u32, applied: u32, back: u64, forth: u64) -> Work
+    requires { front ≤ steps }
+    ensures work { result ≡ work_of steps front applied (saturated (back + forth)) }
+    ensures exact { (c ds : List DepositValue)
+        → back ≡ saturated (sum_by mention_count (undone_of c front))
+        → forth ≡ saturated (sum_by mention_count ds) → sum_by mention_count (c ++ ds) < 2 ^ 64
+        → result ≡ work_of steps front applied
+        (sum_by mention_count (undone_of c front) + sum_by mention_count ds) }
 {
-    front == 0 && steps > 0
+    work_with(steps, front, applied, back.saturating_add(forth))
 }
 
-fn work_of(steps: u32, front: u32, applied: u32, writes: u64) -> Work
+fn work_with(steps: u32, front: u32, applied: u32, writes: u64) -> Work
     requires { front ≤ steps }
     ensures { result ≡ work_of steps front applied writes }
 {
@@ -127,4 +141,10 @@ fn work_of(steps: u32, front: u32, applied: u32, writes: u64) -> Work
         applied,
         writes,
     }
+}
+
+fn is_cleared(steps: u32, front: u32) -> bool
+    ensures { result ≡ is_cleared steps front }
+{
+    front == 0 && steps > 0
 }

@@ -8,7 +8,7 @@ use Rattle.esc_manifest.specs.ManifestRows.{row_at}
 use Rattle.esc_manifest.specs.Accepted.{IsAccepted}
 use Rattle.esc_manifest.specs.Extension.{new_rows, extended}
 use Rattle.esc_chain.specs.Laws.{LatestChainsAtAreHeldRows}
-use Rattle.esc_store.specs.StoreState.{StoreState, AreHeld, AreHeldBy, with_listed}
+use Rattle.esc_store.specs.StoreState.{StoreState, AreHeld, AreHeldBy, kept_chain, with_listed}
 use Rattle.esc_store.specs.ReplyValue.{ReceiptValue}
 use Rattle.esc_events.specs.declared.cache.Cache.{Cache}
 use Rattle.esc_events.specs.declared.plan.Plan.{Plan}
@@ -16,7 +16,7 @@ use Rattle.esc_events.specs.Amended.{judged, adopted_rows, dropped_rows, amended
 use Rattle.esc_events.specs.Events.{EventValue, union}
 use Rattle.esc_events.specs.Events.EventValue.{listed}
 use Rattle.esc_events.specs.Cache.{IsCacheOf}
-use Rattle.esc_events.specs.Plans.{AreLatestSteps, IsPlanned}
+use Rattle.esc_events.specs.Plans.{AreLatestSteps}
 use Rattle.esc_events.specs.StateAfter.{IsStateAfter, AreBooks}
 use Rattle.esc_events.specs.Works.{MentionsFew}
 use Rattle.esc_desk.proofs.AmendedBooks.{kept_bodies, books_amended}
@@ -28,7 +28,7 @@ use Rattle.esc_desk.specs.declared.judging.Judged.{Judged}
 use Rattle.esc_desk.specs.declared.edit.Storing.TheVariants.{Nothing}
 use Rattle.esc_desk.specs.Decisions.{IsDecided}
 use Rattle.esc_desk.specs.Edits.{IsSoundPlan}
-use Rattle.esc_desk.specs.DepositSources.{AreJudged}
+use Rattle.esc_desk.specs.Judging.{AreJudged}
 use Rattle.esc_desk.proofs.AmendedRows.{held_with_adopted}
 
 -- ---- what is known when the rows of a union are to be listed: the store stands for e, n is the union of its rows and more, this was
@@ -42,7 +42,7 @@ pub record IsListing (e : List EventValue) (k : StoreState) (more n : List MRow)
   pub are_judged : AreJudged n k.parked (length k.listed) told
   pub are_held : rows ≡ cache.held_rows.items ++ told.adopted.items
   pub latest : AreLatestSteps n rows k.moment plan.new.items
-  pub planned : IsPlanned k (amended_bodies n k.parked (length k.listed) k.bodies) plan
+  pub old : plan.old.items ≡ kept_chain k
 
 module _ {e : List EventValue} {k : StoreState} {more n : List MRow} {cache : Cache} {told : Judged} {rows : List ℕ} {plan : Plan} (is : IsListing e k more n cache told rows plan) where
   abbrev from : ℕ
@@ -90,13 +90,13 @@ module _ {e : List EventValue} {k : StoreState} {more n : List MRow} {cache : Ca
       ap₂ (λ (a d : List ℕ). with_all_dropped n (with_all_adopted n (with_listed k n) a) d) is.are_judged.adopted is.are_judged.dropped
       ∙ ap (λ (m : List MRow). with_all_dropped m (with_all_adopted m (with_listed k m) (adopted_rows m k.parked from)) (dropped_rows m k.parked from)) is.is_union
 
-  amend_move : IsMove e (listed more) k l (new_rows k.listed more) rows (amended_bodies n k.parked from k.bodies) plan
-  amend_move = record { stood = is.stood; books = books; begins = stays.0; keeps = keeps; held = held; same = same; latest = latest; planned = is.planned }
+  amend_move : IsMove e (listed more) k l (new_rows k.listed more) rows plan
+  amend_move = record { stood = is.stood; books = books; begins = stays.0; keeps = keeps; held = held; latest = latest; old = is.old }
 
   pub decided_amended : LatestChainsAtAreHeldRows → MentionsFew → IsSoundPlan plan → (then : Cache) → then.held_rows.items ≡ rows → then.rows_with_receipt.items ≡ cache.rows_with_receipt.items
       → IsDecided e (listed more) k (decision_by None (Some (record { union = n; judged = told })) Nothing None (Some then) (Some plan))
   decided_amended law few sound then held_is told_is =
       decided_moved None (Some (record { union = n; judged = told })) Nothing None then law few sound
-      (subst (λ (m : StoreState). IsMove e (listed more) k m (new_rows k.listed more) rows (amended_bodies n k.parked from k.bodies) plan) (sym amend_made) amend_move) held_is
+      (subst (λ (m : StoreState). IsMove e (listed more) k m (new_rows k.listed more) rows plan) (sym amend_made) amend_move) held_is
       (subst (λ (m : StoreState). AreHeldBy m.receipts then.rows_with_receipt.items) (sym amend_made)
       (subst (λ (rs : List ReceiptValue). AreHeldBy rs then.rows_with_receipt.items) (sym stays.1) (subst (AreHeldBy k.receipts) (sym told_is) is.knows.told)))

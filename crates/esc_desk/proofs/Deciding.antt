@@ -35,16 +35,16 @@ module _ (r : Option ReceiptValue) (l : Option Listing) (b : Storing) (t : Optio
   made_by plan k = books_edited (decision_by None plan).edit k
 
   -- the chain moves by a plan, and these are the rows of which a body is held then
-  pub decided_moved : (cache : Cache) → LatestChainsAtAreHeldRows → MentionsFew → {e : List EventValue} {x : EventValue} {k : StoreState} {plan : Plan} {more : List MRow} {rows : List ℕ} {bodies : ℕ → Option (List ℕ)}
-      → IsSoundPlan plan → IsMove e x k (made_by (Some plan) k) more rows bodies plan → cache.held_rows.items ≡ rows → AreHeldBy (made_by (Some plan) k).receipts cache.rows_with_receipt.items
+  pub decided_moved : (cache : Cache) → LatestChainsAtAreHeldRows → MentionsFew → {e : List EventValue} {x : EventValue} {k : StoreState} {plan : Plan} {more : List MRow} {rows : List ℕ}
+      → IsSoundPlan plan → IsMove e x k (made_by (Some plan) k) more rows plan → cache.held_rows.items ≡ rows → AreHeldBy (made_by (Some plan) k).receipts cache.rows_with_receipt.items
       → IsDecided e x k (decision_by (Some cache) (Some plan))
-  decided_moved cache law few {e = e} {x = x} {k = k} {plan = plan} {more = more} {rows = rows} {bodies = bodies} sound is held told =
+  decided_moved cache law few {e = e} {x = x} {k = k} {plan = plan} {more = more} {rows = rows} sound is held told =
       let made = made_by (Some plan) k in
       record {
-        moves = moved_from e k bodies plan is.stood is.planned;
-        stands = move_stands law e x k made more rows bodies plan is;
+        moves = moved_from e k plan is.stood is.old;
+        stands = move_stands law e x k made more rows plan is;
         knows = record { held = subst (AreHeld made.bodies) (sym held) is.held; told = told; chain = is.latest.are_steps };
-        works = move_is_work law few e x k made more rows bodies plan is sound.few_old sound.few_new;
+        works = move_is_work law few e x k made more rows plan is sound.few_old sound.few_new;
       }
 
   -- the chain stays
@@ -76,7 +76,7 @@ is_none_of edit = by_parts edit.receipt edit.listing edit.body edit.moment edit.
     by_parts None None Nothing None None is = record { receipt = refl; listing = refl; body = refl; moment = refl; plan = refl }
     by_parts (Some r) l b t p is = absurd (true≢false (sym is))
     by_parts None (Some l) b t p is = absurd (true≢false (sym is))
-    by_parts None None (Hold row body) t p is = absurd (true≢false (sym is))
+    by_parts None None (Hold row body q) t p is = absurd (true≢false (sym is))
     by_parts None None (Park digest body) t p is = absurd (true≢false (sym is))
     by_parts None None Nothing (Some t) p is = absurd (true≢false (sym is))
     by_parts None None Nothing None (Some p) is = absurd (true≢false (sym is))
@@ -93,7 +93,7 @@ nothing_done g old new {e = e} {x = x} {k = k} {d = d} is empty stands cache lea
     let none = is_none_of d.edit empty in
     let same = nothing_edited d.edit k none in
     let knows = subst (λ (m : StoreState). IfSome d.cache (IsCacheOf m)) same (subst (λ (p : Option Plan). IfSome (cache_after p d.cache) (IsCacheOf (edited d.edit k))) none.plan is.knows) in
-    let cost = subst (λ (p : Option Plan). IsCostIf p (chain_deposits k) no_work) (sym none.plan) refl in
+    let cost = subst (λ (p : Option Plan). IsCostIf p (books_edited d.edit k).bodies (chain_deposits k) no_work) (sym none.plan) refl in
     record {
       serves = record {
         serves = record { kept = k; stands = stands; stands_for = subst (IsStateAfter sha256 reading (e ++ x ∷ [])) same is.stands };

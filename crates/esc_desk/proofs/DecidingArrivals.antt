@@ -5,7 +5,7 @@ use Rattle.sha2.specs.Sha256.{sha256}
 use Rattle.esc_tables.specs.Reading.{reading}
 use Rattle.esc_manifest.specs.declared.row.MRow.{MRow}
 use Rattle.esc_apply.specs.declared.moves.Work.{Work}
-use Rattle.esc_store.specs.StoreState.{StoreState, AreHeld, AreHeldBy, body_put, step_at, with_body, with_parked, with_receipt}
+use Rattle.esc_store.specs.StoreState.{StoreState, AreHeld, AreHeldBy, body_put, kept_chain, step_at, with_body, with_parked, with_receipt}
 use Rattle.esc_store.specs.ReplyValue.{ReceiptValue, ReplyValue}
 use Rattle.esc_events.specs.declared.assessment.Assessment.{Assessment}
 use Rattle.esc_events.specs.declared.assessment.Assessment.TheVariants.{Unlisted, Unreadable, Differing, Holding}
@@ -19,7 +19,7 @@ use Rattle.esc_events.specs.Assessment.{held_row}
 use Rattle.esc_events.specs.HeldLaws.{holding_listed}
 use Rattle.esc_events.specs.Cache.{IsCacheOf}
 use Rattle.esc_events.specs.Parks.{IsParking}
-use Rattle.esc_events.specs.Plans.{AreLatestSteps, IsPlanned}
+use Rattle.esc_events.specs.Plans.{AreLatestSteps}
 use Rattle.esc_events.specs.StateAfter.{AreBooks}
 use Rattle.esc_events.specs.Taking.{IsNew, IsAgain}
 use Rattle.esc_events.specs.Works.{IsIdle}
@@ -110,11 +110,11 @@ module _ {e : List EventValue} {a : ArrivalValue} {k : StoreState} {found : Asse
     books_late = subst (λ (m : StoreState). AreBooks sha256 reading (e ++ arrived a ∷ []) (with_body m row a.body)) (noted_is receipt k) books
 
     pub late_move : {rows : List ℕ} {plan : Plan} {moment : Option ℤ} → AreHeld (body_put k.bodies row a.body) rows → moment ≡ k.moment
-        → AreLatestSteps k.listed rows moment plan.new.items → IsPlanned k (body_put k.bodies row a.body) plan
-        → IsMove e (arrived a) k (with_body (noted receipt k) row a.body) [] rows (body_put k.bodies row a.body) plan
-    late_move {rows = rows} {plan = plan} held moment latest planned =
-        subst (λ (m : StoreState). IsMove e (arrived a) k (with_body m row a.body) [] rows (body_put k.bodies row a.body) plan) (sym (noted_is receipt k))
-        (move_to e a k row (noted receipt k).receipts none is.stood books_late held refl moment latest planned)
+        → AreLatestSteps k.listed rows moment plan.new.items → plan.old.items ≡ kept_chain k
+        → IsMove e (arrived a) k (with_body (noted receipt k) row a.body) [] rows plan
+    late_move {rows = rows} {plan = plan} held moment latest old =
+        subst (λ (m : StoreState). IsMove e (arrived a) k (with_body m row a.body) [] rows plan) (sym (noted_is receipt k))
+        (move_to e a k row (noted receipt k).receipts none is.stood books_late held refl moment latest old)
 
     pub late_idle : (work : Work) → IsIdle e (arrived a) work
     late_idle = idle_by e a k row is.stood none (λ apart. books_late.bodies apart row)

@@ -1,5 +1,5 @@
 -- The parts of a change, one after another.
-use Rattle.std.proofs.Common.{inl, inr, ℤ, Option, Some, None, refl, ◌∙◌}
+use Rattle.std.proofs.Common.{◌≡◌, inl, inr, ℤ, Option, Some, None, refl, ◌∙◌}
 use Rattle.sqlite_trees.specs.declared.store.Store.{Ghosts}
 use Rattle.esc_store.specs.declared.fault.SFault.{SFault}
 use Rattle.esc_store.specs.declared.store.Store.{Store}
@@ -39,7 +39,7 @@ stays_noted (Some r) k = record { steps = refl; registry = refl }
 
 stays_stored : (b : Storing) (k : StoreState) → StaysPut k (stored b k)
 stays_stored Nothing k = record { steps = refl; registry = refl }
-stays_stored (Hold row body) k = record { steps = refl; registry = refl }
+stays_stored (Hold row body d) k = record { steps = refl; registry = refl }
 stays_stored (Park digest body) k = record { steps = refl; registry = refl }
 
 stays_timed : (t : Option (Option ℤ)) (k : StoreState) → StaysPut k (timed t k)
@@ -55,6 +55,11 @@ stays_listed (Some l) k =
       steps = (dropped_stay n first l.judged.dropped.items).3 ∙ (adopted_stay n (with_listed k n) l.judged.adopted.items).3;
       registry = (dropped_stay n first l.judged.dropped.items).4 ∙ (adopted_stay n (with_listed k n) l.judged.adopted.items).4;
     }
+
+-- a moment stays clear of the bodies
+pub timed_bodies : (t : Option (Option ℤ)) (k : StoreState) → (timed t k).bodies ≡ k.bodies
+timed_bodies None k = refl
+timed_bodies (Some t) k = refl
 
 pub stays_then : {a b c : StoreState} → StaysPut a b → StaysPut b c → StaysPut a c
 stays_then p q = record { steps = q.steps ∙ p.steps; registry = q.registry ∙ p.registry }

@@ -1,29 +1,27 @@
 -- What a store stands for once an arrival like none before it was noted, and the move where its deposit is held.
-use Rattle.std.proofs.Common.{◌≡◌, ◌⊎◌, inl, inr, ℕ, ℤ, Bool, true, false, cond, ◌==◌, List, [], ◌∷◌, ◌++◌, Option, Some, None, Result, Ok, Err, refl, sym, ap, subst, ◌∙◌, append-nil}
+use Rattle.std.proofs.Common.{◌≡◌, ◌⊎◌, inl, inr, ℕ, ℤ, Bool, true, false, cond, ◌==◌, List, [], ◌∷◌, ◌++◌, Option, Some, None, refl, sym, ap, subst, ◌∙◌, append-nil}
 use Rattle.std.proofs.lemmas.Option.{none-some}
 use Rattle.std.proofs.lemmas.Bool.{eqb-true}
 use Rattle.sha2.specs.Sha256.{sha256}
 use Rattle.esc_tables.specs.DepositValue.{DepositValue}
 use Rattle.esc_tables.specs.Reading.{reading}
 use Rattle.esc_manifest.specs.declared.row.MRow.{MRow}
-use Rattle.esc_store.specs.StoreState.{StoreState, AreHeld, AreHeldBy, body_put, with_body}
+use Rattle.esc_store.specs.StoreState.{StoreState, AreHeld, AreHeldBy, body_put, kept_chain, with_body}
 use Rattle.esc_store.specs.ReplyValue.{ReceiptValue}
 use Rattle.esc_events.specs.declared.assessment.Assessment.{Assessment}
 use Rattle.esc_events.specs.declared.assessment.Assessment.TheVariants.{Unlisted, Unreadable, Differing, Holding}
 use Rattle.esc_events.specs.declared.cache.Cache.{Cache}
 use Rattle.esc_events.specs.declared.plan.Plan.{Plan}
 use Rattle.esc_events.specs.ArrivalValue.{ArrivalValue}
-use Rattle.esc_events.specs.Events.{EventValue, union}
+use Rattle.esc_events.specs.Events.{EventValue}
 use Rattle.esc_events.specs.Events.EventValue.{arrived}
-use Rattle.esc_events.specs.Assessment.{assessment, found_at, row_of, held_row}
+use Rattle.esc_events.specs.Assessment.{held_row}
 use Rattle.esc_events.specs.Receipts.{is_among}
-use Rattle.esc_events.specs.Plans.{AreLatestSteps, IsPlanned}
+use Rattle.esc_events.specs.Plans.{AreLatestSteps}
 use Rattle.esc_events.specs.StateAfter.{AreBooks, IsStateAfter}
 use Rattle.esc_events.specs.Taking.{IsNew}
-use Rattle.esc_desk.specs.declared.plan.Source.TheVariants.{Arrived}
-use Rattle.esc_desk.specs.DepositSources.{IsSource}
 use Rattle.esc_store.specs.Holding.{IsInserted}
-use Rattle.esc_desk.proofs.KnownRows.{told_more, told_same, says_row, says_only, says_none, put_at}
+use Rattle.esc_desk.proofs.KnownRows.{told_more, told_same, says_row, says_only, says_none}
 use Rattle.esc_desk.proofs.Moving.{IsMove}
 
 -- ---- a receipt
@@ -59,33 +57,8 @@ told_held e a k row d cache receipt is more inserted =
 
 -- ---- a deposit is held
 
-abbrev deposit_in : Assessment → DepositValue → DepositValue
-deposit_in Unlisted e = e
-deposit_in (Unreadable r n) e = e
-deposit_in (Differing r) e = e
-deposit_in (Holding r d) e = d
-
--- a body whose deposit is held reads as that deposit
-pub reads_of : (m : List MRow) (body : List ℕ) (r : ℕ) (d : DepositValue) → assessment sha256 reading m body ≡ Holding r d → reading body ≡ Ok d
-reads_of m body r d is = by_row (row_of m (sha256 body)) (reading body) is
-  where
-    by_test : (q : ℕ) (e : DepositValue) (b : Bool) → cond b (Holding q e) (Differing q) ≡ Holding r d → e ≡ d
-    by_test q e true is = ap (λ (f : Assessment). deposit_in f e) is
-    by_test q e false is = absurd (cc)
-
-    by_row : (row : Option ℕ) (told : Result DepositValue ℕ) → found_at m row told ≡ Holding r d → told ≡ Ok d
-    by_row None told is = absurd (cc)
-    by_row (Some q) (Err n) is = absurd (cc)
-    by_row (Some q) (Ok e) is = ap Ok (by_test q e _ is)
-
 -- a body is held of a row whose deposit it is
 module _ (e : List EventValue) (a : ArrivalValue) (k : StoreState) (row : ℕ) where
-  -- the bodies with this one are where the deposits are read from
-  pub source_of : (d : DepositValue) → assessment sha256 reading (union e) a.body ≡ Holding row d
-      → IsSource (Arrived row (Some d)) k (body_put k.bodies row a.body)
-  source_of d is =
-      ((a.body, put_at k.bodies row a.body, reads_of (union e) a.body row d is), λ r other. ap (λ b. cond b (Some a.body) (k.bodies r)) other)
-
   still_held : k.bodies row ≡ None → (r : ℕ) (body : List ℕ) → k.bodies r ≡ Some body → body_put k.bodies row a.body r ≡ Some body
   still_held none r body some = by_test (r == row) refl
     where
@@ -97,9 +70,9 @@ module _ (e : List EventValue) (a : ArrivalValue) (k : StoreState) (row : ℕ) w
   pub move_to : {rows : List ℕ} {plan : Plan} {moment : Option ℤ} {listed : List MRow} (receipts : List ReceiptValue) → k.bodies row ≡ None
       → IsStateAfter sha256 reading e k → AreBooks sha256 reading (e ++ arrived a ∷ []) (with_body (record k { receipts = receipts }) row a.body)
       → AreHeld (body_put k.bodies row a.body) rows → listed ≡ k.listed → moment ≡ k.moment
-      → AreLatestSteps listed rows moment plan.new.items → IsPlanned k (body_put k.bodies row a.body) plan
-      → IsMove e (arrived a) k (with_body (record k { receipts = receipts }) row a.body) [] rows (body_put k.bodies row a.body) plan
-  move_to {rows} {plan} {moment} {listed} receipts none stood books held rows_are moment_is latest planned =
+      → AreLatestSteps listed rows moment plan.new.items → plan.old.items ≡ kept_chain k
+      → IsMove e (arrived a) k (with_body (record k { receipts = receipts }) row a.body) [] rows plan
+  move_to {rows} {plan} {moment} {listed} receipts none stood books held rows_are moment_is latest old =
       let latest_there = subst (λ (m : List MRow). AreLatestSteps m rows moment plan.new.items) rows_are latest in
       record {
         stood = stood;
@@ -107,7 +80,6 @@ module _ (e : List EventValue) (a : ArrivalValue) (k : StoreState) (row : ℕ) w
         begins = sym (append-nil k.listed);
         keeps = still_held none;
         held = held;
-        same = λ r. refl;
         latest = subst (λ (t : Option ℤ). AreLatestSteps k.listed rows t plan.new.items) moment_is latest_there;
-        planned = planned;
+        old = old;
       }

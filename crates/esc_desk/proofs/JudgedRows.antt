@@ -43,7 +43,7 @@ use Rattle.esc_events.specs.Amended.{judged, parked_for, is_adopted, is_dropped,
 use Rattle.esc_events.specs.HeldLaws.{same_self}
 use Rattle.esc_desk.specs.declared.judging.Judgement.{Judgement}
 use Rattle.esc_desk.specs.declared.judging.Judgement.TheVariants.{Absent, Dropped, Adopted}
-use Rattle.esc_desk.specs.DepositSources.{IsJudgement, adopted_by, dropped_by, judgement_of}
+use Rattle.esc_desk.specs.Judging.{IsJudgement, adopted_by, dropped_by, judgement_of}
 
 module _ (rows : List MRow) (parked : List ℕ → Option (List ℕ)) where
   -- ---- one row
@@ -63,7 +63,7 @@ module _ (rows : List MRow) (parked : List ℕ → Option (List ℕ)) where
 
       by_test : (b : Bool) → as_listed (row_at rows row).header d.header ≡ b
           → IsJudgement rows parked row (judgement_of (cond b (Holding row d) (Differing row)))
-      by_test true is = (text, judged_by row text _ there (found_is true is) ∙ ap (λ t. cond t (Some text) None) (same_self row), reads)
+      by_test true is = ap is_some (judged_by row text _ there (found_is true is) ∙ ap (λ t. cond t (Some text) None) (same_self row))
       by_test false is = (ap is_some there, ap is_some (judged_by row text _ there (found_is false is)))
 
   -- ---- the rows so far and those to come
@@ -82,17 +82,17 @@ module _ (rows : List MRow) (parked : List ℕ → Option (List ℕ)) where
       taken : Judgement → Bool
       taken Absent = false
       taken Dropped = false
-      taken (Adopted d) = true
+      taken Adopted = true
 
       test : (told : Judgement) → IsJudgement rows parked row told → is_adopted rows parked row ≡ taken told
       test Absent is = ap (λ (o : Option (List ℕ)). is_some (judged rows row o)) is
       test Dropped is = is.1
-      test (Adopted d) is = ap is_some is.1
+      test Adopted is = is
 
       split : (told : Judgement) → cond (taken told) (row ∷ adopted_of l) (adopted_of l) ≡ adopted_by told row ++ adopted_of l
       split Absent = refl
       split Dropped = refl
-      split (Adopted d) = refl
+      split Adopted = refl
 
   dropped_here : (row : ℕ) (told : Judgement) → IsJudgement rows parked row told → (l : List ℕ)
       → dropped_of (row ∷ l) ≡ dropped_by told row ++ dropped_of l
@@ -101,19 +101,19 @@ module _ (rows : List MRow) (parked : List ℕ → Option (List ℕ)) where
       let_go : Judgement → Bool
       let_go Absent = false
       let_go Dropped = true
-      let_go (Adopted d) = false
+      let_go Adopted = false
 
       test : (told : Judgement) → IsJudgement rows parked row told → is_dropped rows parked row ≡ let_go told
       test Absent is = ap (λ (o : Option (List ℕ)). is_some o && not (is_adopted rows parked row)) is
       test Dropped is = ap (λ b. b && not (is_adopted rows parked row)) is.0 ∙ ap not is.1
-      test (Adopted d) is =
+      test Adopted is =
           let there = is_some (parked_for rows parked row) in
-          ap (λ (o : Option (List ℕ)). there && not (is_some o)) is.1 ∙ and_right there false refl
+          ap (λ b. there && not b) is ∙ and_right there false refl
 
       split : (told : Judgement) → cond (let_go told) (row ∷ dropped_of l) (dropped_of l) ≡ dropped_by told row ++ dropped_of l
       split Absent = refl
       split Dropped = refl
-      split (Adopted d) = refl
+      split Adopted = refl
 
   -- the numbers from a row to the last one begin with it
   more_numbers : (row : ℕ) → row < length rows → numbers_from row (length rows - row) ≡ row ∷ numbers_from (row + 1) (length rows - (row + 1))

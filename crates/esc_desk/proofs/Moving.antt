@@ -22,10 +22,10 @@ use Rattle.esc_apply.specs.Front.{common_front}
 use Rattle.esc_apply.specs.Images.{chain_state}
 use Rattle.esc_apply.specs.Moves.{cost}
 use Rattle.esc_apply.specs.Tables.{mention_count}
-use Rattle.esc_store.specs.StoreState.{StoreState, AreHeld, step_at}
+use Rattle.esc_store.specs.StoreState.{StoreState, AreHeld, kept_chain, step_at}
 use Rattle.esc_events.specs.declared.plan.Plan.{Plan}
 use Rattle.esc_events.specs.Events.{EventValue, union, last_moment}
-use Rattle.esc_events.specs.Plans.{AreLatestSteps, IsPlanned, IsMovedFrom, IsCostOfMove, rows_in, moved_by}
+use Rattle.esc_events.specs.Plans.{AreLatestSteps, IsMovedFrom, IsCostOfMove, deposits_past, rows_in, moved_by}
 use Rattle.esc_events.specs.LatestTables.{IsChainOf}
 use Rattle.esc_events.specs.Works.{no_work}
 use Rattle.esc_events.specs.StateAfter.{HaveBodies, AreBooks, IsStateAfter, IsApart, deposit_of, or_no_deposit, deposits_of, held_rows, held_body}
@@ -109,11 +109,11 @@ rows_of_steps m [] = refl
 rows_of_steps m (r ∷ rows) = ap (λ (l : List ℕ). r ∷ l) (rows_of_steps m rows)
 
 -- the deposits of a store's chain are those of a plan's old one
-pub moved_from : (e : List EventValue) (k : StoreState) (bodies : ℕ → Option (List ℕ)) (plan : Plan) → IsStateAfter sha256 reading e k → IsPlanned k bodies plan
+pub moved_from : (e : List EventValue) (k : StoreState) (plan : Plan) → IsStateAfter sha256 reading e k → plan.old.items ≡ kept_chain k
     → IsMovedFrom k (deposits_of reading k.bodies k.steps) plan
-moved_from e k bodies plan stood planned = record {
-  steps = sym (ap rows_in planned.old ∙ rows_of_steps k.listed k.steps);
-  count = length-map k.steps (λ r. deposit_of reading (k.bodies r)) ∙ sym (ap length planned.old ∙ length-map k.steps (step_at k.listed));
+moved_from e k plan stood old = record {
+  steps = sym (ap rows_in old ∙ rows_of_steps k.listed k.steps);
+  count = length-map k.steps (λ r. deposit_of reading (k.bodies r)) ∙ sym (ap length old ∙ length-map k.steps (step_at k.listed));
   registry = stood.registry;
 }
 
@@ -123,8 +123,8 @@ moved_from e k bodies plan stood planned = record {
 module _ (law : LatestChainsAtAreHeldRows) (e : List EventValue) (x : EventValue) (k l : StoreState)
     (stood : IsStateAfter sha256 reading e k) (books : AreBooks sha256 reading (e ++ x ∷ []) l)
     (more : List MRow) (begins : l.listed ≡ k.listed ++ more) (keeps : (r : ℕ) (body : List ℕ) → k.bodies r ≡ Some body → l.bodies r ≡ Some body)
-    (rows : List ℕ) (held : AreHeld l.bodies rows) (bodies : ℕ → Option (List ℕ)) (same : (r : ℕ) → bodies r ≡ l.bodies r)
-    (plan : Plan) (latest : AreLatestSteps l.listed rows l.moment plan.new.items) (planned : IsPlanned k bodies plan) where
+    (rows : List ℕ) (held : AreHeld l.bodies rows)
+    (plan : Plan) (latest : AreLatestSteps l.listed rows l.moment plan.new.items) (old : plan.old.items ≡ kept_chain k) where
   abbrev front : ℕ
   front = common_front plan.old.items plan.new.items
 
@@ -168,17 +168,14 @@ module _ (law : LatestChainsAtAreHeldRows) (e : List EventValue) (x : EventValue
       one : (r : ℕ) → set.contains stood.held r ≡ true → deposit_of reading (k.bodies r) ≡ deposit_of reading (l.bodies r)
       one r there = let some = some_of r there in ap (deposit_of reading) (some.1 ∙ sym (keeps r some.0 some.1))
 
-  new_deposits : plan.deposits.items ≡ deposits_of reading l.bodies (drop front after)
-  new_deposits =
-      planned.deposits
-      ∙ same_deposits bodies l.bodies same (rows_in (drop front plan.new.items))
-      ∙ ap (deposits_of reading l.bodies) (sym (drop-map (λ (s : Step). s.row) front plan.new.items))
+  new_deposits : deposits_past plan l.bodies ≡ deposits_of reading l.bodies (drop front after)
+  new_deposits = ap (deposits_of reading l.bodies) (sym (drop-map (λ (s : Step). s.row) front plan.new.items))
 
-  -- the deposits of the old chain up to the common front, and the plan's, are those of the new
+  -- the deposits of the old chain up to the common front, and those past it, are those of the new
   -- chain
-  deposits_are : take front (deposits_of reading k.bodies k.steps) ++ plan.deposits.items ≡ deposits_of reading l.bodies after
+  deposits_are : take front (deposits_of reading k.bodies k.steps) ++ deposits_past plan l.bodies ≡ deposits_of reading l.bodies after
   deposits_are =
-      let fronts : front ≡ common_front (map (step_at l.listed) k.steps) (map (step_at l.listed) after) = ap₂ common_front (planned.old ∙ same_steps) latest.are_steps in
+      let fronts : front ≡ common_front (map (step_at l.listed) k.steps) (map (step_at l.listed) after) = ap₂ common_front (old ∙ same_steps) latest.are_steps in
       let old_within = each_of (λ r. r < length l.listed) k.steps old_in_range in
       let new_within = each_of (λ r. r < length l.listed) after new_rows.in_range in
       let rows_same : take front k.steps ≡ take front after =
@@ -210,27 +207,27 @@ module _ (law : LatestChainsAtAreHeldRows) (e : List EventValue) (x : EventValue
   }
 
   few_moved : MentionsFew → length plan.old.items ≤ 4096 → length plan.new.items ≤ 4096
-      → sum_by mention_count (deposits_of reading k.bodies k.steps ++ plan.deposits.items) < 2 ^ 64
+      → sum_by mention_count (deposits_of reading k.bodies k.steps ++ deposits_past plan l.bodies) < 2 ^ 64
   few_moved few few_old few_new =
-      let olds : length k.steps ≤ 4096 = omega (arith, few_old, ap length planned.old, length-map k.steps (step_at k.listed)) in
+      let olds : length k.steps ≤ 4096 = omega (arith, few_old, ap length old, length-map k.steps (step_at k.listed)) in
       let news : length (drop front after) ≤ 4096 = omega (arith, few_new, length-drop front after, length-map plan.new.items (λ (s : Step). s.row)) in
       subst (λ (ds : List DepositValue). sum_by mention_count (deposits_of reading k.bodies k.steps ++ ds) < 2 ^ 64) (sym new_deposits)
       (few_writes few k.bodies l.bodies k.steps (drop front after) olds news)
 
   move_cost : IsApart sha256 reading (e ++ x ∷ [])
-      → cost (deposits_of reading k.bodies k.steps) plan.old.items plan.new.items plan.deposits.items ≡ chain_cost e (e ++ x ∷ []) k.steps after
+      → cost (deposits_of reading k.bodies k.steps) plan.old.items plan.new.items (deposits_past plan l.bodies) ≡ chain_cost e (e ++ x ∷ []) k.steps after
   move_cost apart =
       let was = held_body sha256 reading e in
       let now = held_body sha256 reading (e ++ x ∷ []) in
-      let old_are : plan.old.items ≡ map (step_at (union e)) k.steps = planned.old ∙ ap (λ (m : List MRow). map (step_at m) k.steps) stood.books.listed in
+      let old_are : plan.old.items ≡ map (step_at (union e)) k.steps = old ∙ ap (λ (m : List MRow). map (step_at m) k.steps) stood.books.listed in
       let new_are : plan.new.items ≡ map (step_at (union (e ++ x ∷ []))) after = latest.are_steps ∙ ap (λ (m : List MRow). map (step_at m) after) books.listed in
       let before : deposits_of reading k.bodies k.steps ≡ deposits_of reading was k.steps = same_deposits k.bodies was (stood.books.bodies (apart_before e x apart)) k.steps in
-      let past : plan.deposits.items ≡ deposits_of reading now (drop front after) = new_deposits ∙ same_deposits l.bodies now (books.bodies apart) (drop front after) in
+      let past : deposits_past plan l.bodies ≡ deposits_of reading now (drop front after) = new_deposits ∙ same_deposits l.bodies now (books.bodies apart) (drop front after) in
       ap₂ (λ (c ds : List DepositValue). cost c plan.old.items plan.new.items ds) before past
       ∙ ap₂ (λ (a b : List Step). cost (deposits_of reading was k.steps) a b (deposits_of reading now (drop (common_front a b) after))) old_are new_are
 
   pub works_moved : MentionsFew → length plan.old.items ≤ 4096 → length plan.new.items ≤ 4096
-      → (work : Work) → IsCostOfMove plan (deposits_of reading k.bodies k.steps) work → IsWorkOf e x work
+      → (work : Work) → IsCostOfMove plan l.bodies (deposits_of reading k.bodies k.steps) work → IsWorkOf e x work
   works_moved few few_old few_new work cost apart = record {
     before = k.steps;
     after = after;
@@ -243,25 +240,24 @@ module _ (law : LatestChainsAtAreHeldRows) (e : List EventValue) (x : EventValue
 -- and k's chain and tables; its listed rows begin with those of k, and it holds the bodies that k
 -- does; the plan goes to the latest steps of the rows of which l holds a body
 pub record IsMove (e : List EventValue) (x : EventValue) (k l : StoreState) (more : List MRow)
-    (rows : List ℕ) (bodies : ℕ → Option (List ℕ)) (plan : Plan) : Type 0 where
+    (rows : List ℕ) (plan : Plan) : Type 0 where
   pub stood : IsStateAfter sha256 reading e k
   pub books : AreBooks sha256 reading (e ++ x ∷ []) l
   pub begins : l.listed ≡ k.listed ++ more
   pub keeps : (r : ℕ) (body : List ℕ) → k.bodies r ≡ Some body → l.bodies r ≡ Some body
   pub held : AreHeld l.bodies rows
-  pub same : (r : ℕ) → bodies r ≡ l.bodies r
   pub latest : AreLatestSteps l.listed rows l.moment plan.new.items
-  pub planned : IsPlanned k bodies plan
+  pub old : plan.old.items ≡ kept_chain k
 
 -- after such a move the store stands for the events with x
-pub move_stands : LatestChainsAtAreHeldRows → (e : List EventValue) (x : EventValue) (k l : StoreState) (more : List MRow) (rows : List ℕ) (bodies : ℕ → Option (List ℕ)) (plan : Plan)
-    → IsMove e x k l more rows bodies plan → IsStateAfter sha256 reading (e ++ x ∷ []) (moved_by plan l (deposits_of reading k.bodies k.steps))
-move_stands law e x k l more rows bodies plan is =
-    stands_moved law e x k l is.stood is.books more is.begins is.keeps rows is.held bodies is.same plan is.latest is.planned
+pub move_stands : LatestChainsAtAreHeldRows → (e : List EventValue) (x : EventValue) (k l : StoreState) (more : List MRow) (rows : List ℕ) (plan : Plan)
+    → IsMove e x k l more rows plan → IsStateAfter sha256 reading (e ++ x ∷ []) (moved_by plan l (deposits_of reading k.bodies k.steps))
+move_stands law e x k l more rows plan is =
+    stands_moved law e x k l is.stood is.books more is.begins is.keeps rows is.held plan is.latest is.old
 
 -- and the work is the cost of the move
-pub move_is_work : LatestChainsAtAreHeldRows → MentionsFew → (e : List EventValue) (x : EventValue) (k l : StoreState) (more : List MRow) (rows : List ℕ) (bodies : ℕ → Option (List ℕ)) (plan : Plan)
-    → IsMove e x k l more rows bodies plan → length plan.old.items ≤ 4096 → length plan.new.items ≤ 4096
-    → (work : Work) → IsCostOfMove plan (deposits_of reading k.bodies k.steps) work → IsWorkOf e x work
-move_is_work law few e x k l more rows bodies plan is =
-    works_moved law e x k l is.stood is.books more is.begins is.keeps rows is.held bodies is.same plan is.latest is.planned few
+pub move_is_work : LatestChainsAtAreHeldRows → MentionsFew → (e : List EventValue) (x : EventValue) (k l : StoreState) (more : List MRow) (rows : List ℕ) (plan : Plan)
+    → IsMove e x k l more rows plan → length plan.old.items ≤ 4096 → length plan.new.items ≤ 4096
+    → (work : Work) → IsCostOfMove plan l.bodies (deposits_of reading k.bodies k.steps) work → IsWorkOf e x work
+move_is_work law few e x k l more rows plan is =
+    works_moved law e x k l is.stood is.books more is.begins is.keeps rows is.held plan is.latest is.old few

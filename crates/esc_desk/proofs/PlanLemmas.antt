@@ -1,24 +1,23 @@
 -- Rows and steps of a plan.
-use Rattle.std.proofs.Common.{◌≡◌, ℕ, ◌+◌, ◌<◌, List, [], ◌∷◌, ◌++◌, length, map, take, drop, get_or, sym, ap, ap₂, ◌∙◌, append_assoc, length-append, arith}
+use Rattle.std.proofs.Common.{◌≡◌, ℕ, ◌+◌, ◌<◌, ◌≤◌, List, [], ◌∷◌, ◌++◌, length, map, take, drop, get_or, sym, ap, ap₂, ◌∙◌, arith}
 use Rattle.std.specs.List.{drop-map}
-use Rattle.std.proofs.lemmas.List.{take_more_same, take-append-drop, drop_more, length-map, get_or-map}
+use Rattle.std.proofs.lemmas.List.{take_more, take_more_same, take-append-drop, length-map, length-take-le, map-append, get_or-map}
 use Rattle.esc_apply.specs.declared.front.Step.{Step}
 use Rattle.esc_tables.specs.DepositValue.{DepositValue}
 use Rattle.esc_events.specs.Plans.{rows_in}
 
--- one deposit after others
-pub one_longer : (found more : List DepositValue) (d : DepositValue) (n : ℕ) → more ≡ found ++ d ∷ [] → length found ≡ n → length more ≡ n + 1
-one_longer found more d n added count = ap length added ∙ length-append found (d ∷ []) ∙ ap (λ (k : ℕ). k + 1) count
+-- the deposits of one step more
+pub deposits_more : (f : ℕ → DepositValue) (steps : List Step) (i : ℕ) (x : Step) → i < length steps
+    → map f (rows_in (take (i + 1) steps)) ≡ map f (rows_in (take i steps)) ++ f (get_or steps i x).row ∷ []
+deposits_more f steps i x within =
+    let row_of : Step → ℕ = λ (s : Step). s.row in
+    ap (λ (l : List Step). map f (rows_in l)) (take_more steps i x within)
+    ∙ ap (map f) (map-append row_of (take i steps) (get_or steps i x ∷ []))
+    ∙ map-append f (rows_in (take i steps)) ((get_or steps i x).row ∷ [])
 
--- one more deposit, of the first step that is left
-pub one_more_deposit : (f : ℕ → DepositValue) (steps : List Step) (i : ℕ) (x : Step) (found more whole : List DepositValue) (d : DepositValue)
-    → i < length steps → d ≡ f (get_or steps i x).row → more ≡ found ++ d ∷ []
-    → found ++ map f (rows_in (drop i steps)) ≡ whole → more ++ map f (rows_in (drop (i + 1) steps)) ≡ whole
-one_more_deposit f steps i x found more whole d within is added cache =
-    ap (λ (l : List DepositValue). l ++ map f (rows_in (drop (i + 1) steps))) (added ∙ ap (λ (y : DepositValue). found ++ y ∷ []) is)
-    ∙ append_assoc found (f (get_or steps i x).row ∷ []) (map f (rows_in (drop (i + 1) steps)))
-    ∙ ap (λ (l : List Step). found ++ map f (rows_in l)) (sym (drop_more steps i x within))
-    ∙ cache
+-- as many deposits as steps
+pub deposits_count : (f : ℕ → DepositValue) (steps : List Step) (i : ℕ) → i ≤ length steps → length (map f (rows_in (take i steps))) ≡ i
+deposits_count f steps i within = length-map (rows_in (take i steps)) f ∙ length-map (take i steps) (λ (s : Step). s.row) ∙ length-take-le i steps within
 
 -- one more step of the same row
 pub one_more_same_row : (old new : List Step) (i : ℕ) (x y : Step) → i < length old → i < length new → (get_or old i x).row ≡ (get_or new i y).row

@@ -41,7 +41,7 @@ use Rattle.esc_desk.specs.declared.answering.Answer.{Answer}
 use Rattle.esc_desk.specs.Again.{IsUnkept, is_missing}
 use Rattle.esc_desk.specs.Calls.{HadPlace}
 use Rattle.esc_desk.specs.Decisions.{IsDecided}
-use Rattle.esc_desk.specs.Edits.{IsCostIf, chain_deposits, is_empty}
+use Rattle.esc_desk.specs.Edits.{IsCostOfEdit, is_empty}
 
 -- a store keeps k and stands for e, this is known of its rows, if anything is, and this is the
 -- reply that it keeps for an arrival with this number and digest
@@ -69,8 +69,7 @@ pub record IsRepeat (r : ReplyValue) (p : Answer) : Type 0 where
 pub record IsAnswer (e : List EventValue) (a : ArrivalValue) (k : StoreState) (p : Answer)
     : Type 0 where
   pub decided : IsDecided e (arrived a) k p.decision
-  pub idle : (work : Work) → IsCostIf p.decision.edit.plan (chain_deposits k) work
-      → IsIdle e (arrived a) work
+  pub idle : (work : Work) → IsCostOfEdit p.decision.edit k work → IsIdle e (arrived a) work
   pub told : (n : ℕ) → IfSome p.decision.edit.receipt (λ r. n ≡ length k.receipts + 1)
       → reply_to sha256 reading (e ++ arrived a ∷ []) a
       ≡ Some (numbered (is_some p.decision.edit.receipt) n p.reply)

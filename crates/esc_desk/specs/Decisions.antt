@@ -56,10 +56,10 @@ use Rattle.esc_desk.specs.Crashes.{LeavesOnlyFor}
 use Rattle.esc_desk.specs.Edits.{
   Begins,
   IsSoundPlan,
+  IsRead,
   IsFromChainOf,
-  IsCostIf,
+  IsCostOfEdit,
   IsResult,
-  chain_deposits,
   edited,
   is_empty,
   noted,
@@ -76,6 +76,7 @@ cache_after (Some plan) (Some cache) = Some (record cache { chain = plan.new })
 pub record IsSound (rows : List MRow) (d : Decision) : Type 0 where
   pub begins : Begins d.edit.listing rows
   pub plan : IfSome d.edit.plan IsSoundPlan
+  pub read : IsRead d.edit.body
 
 -- a decision is what the event x makes of a store that keeps k and stands for the events e
 pub record IsDecided (e : List EventValue) (x : EventValue) (k : StoreState) (d : Decision)
@@ -83,7 +84,7 @@ pub record IsDecided (e : List EventValue) (x : EventValue) (k : StoreState) (d 
   pub moves : IsFromChainOf k d.edit.plan
   pub stands : IsStateAfter sha256 reading (e ++ x ∷ []) (edited d.edit k)
   pub knows : IfSome (cache_after d.edit.plan d.cache) (IsCacheOf (edited d.edit k))
-  pub works : (work : Work) → IsCostIf d.edit.plan (chain_deposits k) work → IsWorkOf e x work
+  pub works : (work : Work) → IsCostOfEdit d.edit k work → IsWorkOf e x work
 
 -- of whatever events a desk reflected before a call that decided something, this holds of what its
 -- store keeps and of the decision
@@ -125,8 +126,7 @@ pub record IsArriving (e : List EventValue) (a : ArrivalValue) (k : StoreState) 
 pub record IsDecidedArrival (e : List EventValue) (a : ArrivalValue) (k : StoreState)
     (found : Assessment) (d : Decision) : Type 0 where
   pub decided : IsDecided e (arrived a) k d
-  pub idle : (work : Work) → IsCostIf d.edit.plan (chain_deposits k) work
-      → IsIdle e (arrived a) work
+  pub idle : (work : Work) → IsCostOfEdit d.edit k work → IsIdle e (arrived a) work
   pub there : is_empty d.edit ≡ true → is_missing k.bodies k.parked (sha256 a.body) found ≡ false
 
 -- ---- a decision that was carried out

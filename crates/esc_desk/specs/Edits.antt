@@ -16,6 +16,7 @@ use Rattle.std.specs.Prelude.{
   Option,
   Some,
   None,
+  Ok,
   IfSome,
 }
 use Rattle.sqlite_trees.specs.declared.store.Store.{Ghosts}
@@ -46,10 +47,11 @@ use Rattle.esc_store.specs.Representation.{
 }
 use Rattle.esc_events.specs.declared.plan.Plan.{Plan}
 use Rattle.esc_events.specs.Amended.{with_all_adopted, with_all_dropped}
-use Rattle.esc_events.specs.Plans.{HasDepositsPast, IsMovedFrom, IsCostOfMove, moved_by}
-use Rattle.esc_events.specs.StateAfter.{deposits_of}
+use Rattle.esc_events.specs.Plans.{IsMovedFrom, IsCostOfMove, moved_by}
+use Rattle.esc_events.specs.StateAfter.{deposit_of, deposits_of}
 use Rattle.esc_events.specs.Works.{no_work}
 use Rattle.esc_desk.specs.declared.changes.Committed.{Committed}
+use Rattle.esc_desk.specs.declared.edit.AtHand.{AtHand}
 use Rattle.esc_desk.specs.declared.edit.Edit.{Edit}
 use Rattle.esc_desk.specs.declared.edit.Listing.{Listing}
 use Rattle.esc_desk.specs.declared.edit.Storing.{Storing}
@@ -65,7 +67,7 @@ noted (Some r) k = with_receipt k r
 -- a body, held for a row or parked
 abbrev pub stored : Storing → StoreState → StoreState
 stored Nothing k = k
-stored (Hold row body) k = with_body k row body.now
+stored (Hold row body d) k = with_body k row body.now
 stored (Park digest body) k = with_parked k digest (Some body.now)
 
 -- the rows of a union, where the bodies that are parked for them are held or let go
@@ -102,7 +104,7 @@ edited edit k = moved_if edit.plan (chain_deposits k) (books_edited edit k)
 -- nothing is changed
 abbrev pub is_nothing : Storing → Bool
 is_nothing Nothing = true
-is_nothing (Hold row body) = false
+is_nothing (Hold row body d) = false
 is_nothing (Park digest body) = false
 
 abbrev pub is_empty : Edit → Bool
@@ -112,11 +114,20 @@ is_empty edit =
 
 -- ---- what an edit has to be
 
--- a plan has few steps, and the deposits past the common front
+-- a plan has few steps
 pub record IsSoundPlan (plan : Plan) : Type 0 where
   pub few_old : length plan.old.items ≤ 4096
   pub few_new : length plan.new.items ≤ 4096
-  pub deposits : HasDepositsPast plan
+
+-- of a body that is to be held the deposit was read from it
+abbrev pub IsRead : Storing → Type 0
+IsRead Nothing = Unit {0}
+IsRead (Hold row body d) = reading body.now ≡ Ok d
+IsRead (Park digest body) = Unit {0}
+
+-- a deposit at hand, if it still is, is that of its row by these bodies
+abbrev pub IsAtHand : AtHand → (ℕ → Option (List ℕ)) → Type 0
+IsAtHand at bodies = IfSome at.deposit (λ d. d ≡ deposit_of reading (bodies at.row))
 
 -- a union begins with these rows, if one is listed
 abbrev pub Begins : Option Listing → List MRow → Type 0
@@ -126,11 +137,16 @@ Begins listing rows = IfSome listing (λ l. take (length rows) l.union ≡ rows)
 abbrev pub IsFromChainOf : StoreState → Option Plan → Type 0
 IsFromChainOf k plan = IfSome plan (IsMovedFrom k (chain_deposits k))
 
--- this is the work of a move, where c are the deposits of the chain before; there is none without a
--- move
-abbrev pub IsCostIf : Option Plan → List DepositValue → Work → Type 0
-IsCostIf None c work = work ≡ no_work
-IsCostIf (Some plan) c work = IsCostOfMove plan c work
+-- this is the work of a move by the bodies that are held, where c are the deposits of the chain
+-- before; there is none without a move
+abbrev pub IsCostIf : Option Plan → (ℕ → Option (List ℕ)) → List DepositValue → Work → Type 0
+IsCostIf None bodies c work = work ≡ no_work
+IsCostIf (Some plan) bodies c work = IsCostOfMove plan bodies c work
+
+-- this is the work of an edit of a store that kept k
+abbrev pub IsCostOfEdit : Edit → StoreState → Work → Type 0
+IsCostOfEdit edit k work =
+    IsCostIf edit.plan (books_edited edit k).bodies (chain_deposits k) work
 
 -- what stays where only the books are edited: the chain and its tables
 pub record StaysPut (k made : StoreState) : Type 0 where
@@ -152,7 +168,7 @@ pub record IsFilled {S : Type 0} (g : Ghosts S) (change : ChangeOf S) (before k 
 -- what came of an edit by what was kept before: the work of its move, and the number of its
 -- receipt, for which there was room
 pub record IsResult (edit : Edit) (k : StoreState) (number : ℕ) (work : Work) : Type 0 where
-  pub worked : IsCostIf edit.plan (chain_deposits k) work
+  pub worked : IsCostOfEdit edit k work
   pub numbered : IfSome edit.receipt
       (λ r. (number ≡ length k.receipts + 1) × (number ≤ MOST_RECEIPTS))
 

@@ -6,8 +6,8 @@ pub mod Calls
 pub mod Causes
 pub mod Crashes
 pub mod Decisions
-pub mod DepositSources
 pub mod Edits
+pub mod Judging
 pub mod Laws
 pub mod Lengthening
 pub mod Outcomes

@@ -52,7 +52,7 @@ use crate::decision::Decision;
 use crate::desk::{Desk, NO_WORK};
 use crate::edit::{Edit, Listing, Storing};
 use crate::judging::judge_rows;
-use crate::plan::{Source, latest_steps, plan_move};
+use crate::plan::plan_latest;
 use esc_apply::{Work, read_deposits_mention_few};
 use esc_bundle::NoMemory;
 use esc_chain::latest_chain_at_rows_are_held;
@@ -61,7 +61,7 @@ use esc_manifest::{MFault, Manifest, read_manifest};
 use esc_store::{SFault, Store};
 use sqlite::Alter;
 use std::alloc::Global;
-use std::{fmt, mem};
+use std::fmt;
 
 /// Why an amendment isn't taken in.
 #[derive(Clone, Copy, Debug, PartialEq, Eq)]
@@ -184,9 +184,7 @@ fn decide_union<'n, 'b, S: Alter>(
     let judged = judge_rows(store, alloc, union.rows(), from)?;
     append_rows(&mut cache.held_rows, &judged.adopted)?;
     let moment = store.moment()?;
-    let new = latest_steps(alloc, &union, &cache.held_rows, moment)?;
-    let old = mem::replace(&mut cache.chain, Vec::new(alloc));
-    let plan = plan_move(store, alloc, old, new, Source::Listed(union.rows(), from))?;
+    let plan = plan_latest(alloc, &union, &mut cache, moment)?;
     Ok(Decision {
         edit: Edit {
             receipt: None,

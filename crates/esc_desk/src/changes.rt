@@ -37,6 +37,7 @@ ghost use Rattle.esc_desk.specs.Edits.{
   listed_more,
   edited,
   IsSoundPlan,
+  IsRead,
   Begins,
   IsFromChainOf,
   IsFilled,
@@ -71,6 +72,7 @@ pub(crate) fn commit<S: Alter>(
 ) -> Result<Committed, SFault>
     requires begins { Begins edit.listing store.old.manifest }
     requires sound { IfSome edit.plan IsSoundPlan }
+    requires read { IsRead edit.body }
     ensures honest { IsHonest S.Store store.new → IsHonest S.Store store.old }
     ensures made { IsHonest S.Store store.new → (k : StoreState) → IsFromChainOf k edit.entry.plan
         → Represents S.Store store.old k
@@ -101,6 +103,7 @@ fn fill<S: Alter>(
 ) -> Result<Committed, SFault>
     requires begins { Begins edit.listing (listed_by change.now) }
     requires sound { IfSome edit.plan IsSoundPlan }
+    requires read { IsRead edit.body }
     ensures goes_on { IsUncommitted S.Store change.old change.new }
     ensures fills { IsHonest S.Store change.new.store.now → (k : StoreState)
         → IsFromChainOf k edit.entry.plan
@@ -122,7 +125,7 @@ fn fill<S: Alter>(
     list_rows(change, alloc, listing)?;
     store_body(change, &body)?;
     set_moment(change, moment)?;
-    let work = move_if_planned(change, alloc, &plan)?;
+    let work = move_if_planned(change, alloc, &plan, body.at_hand())?;
     Ok(Committed { number, work, plan })
 }
 
@@ -224,7 +227,7 @@ fn store_body<S: Alter>(change: &mut Change<'_, S>, body: &Storing<'_>) -> Resul
 {
     match body {
         Storing::Nothing => Ok(()),
-        Storing::Hold(row, body) => change.hold(*row, body),
+        Storing::Hold(row, body, _) => change.hold(*row, body),
         Storing::Park(digest, body) => change.park(digest, body),
     }
 }

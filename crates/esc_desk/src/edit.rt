@@ -1,12 +1,16 @@
 //! Edits: what an event changes of what the store keeps.
 
-ghost use Rattle.std.specs.Prelude.{◌≡◌};
-ghost use Rattle.esc_desk.specs.Edits.{is_empty};
+ghost use Rattle.std.specs.Prelude.{◌≡◌, ℕ, List, Option, IfSome};
+ghost use Rattle.esc_tables.specs.Reading.{reading};
+ghost use Rattle.esc_store.specs.StoreState.{StoreState};
+ghost use Rattle.esc_events.specs.StateAfter.{deposit_of};
+ghost use Rattle.esc_desk.specs.Edits.{is_empty, stored, IsRead, IsAtHand};
 
 use crate::judging::Judged;
 use esc_events::Plan;
 use esc_manifest::Manifest;
 use esc_store::Receipt;
+use esc_tables::Deposit;
 
 /// What an event changes of what the store keeps: each part that is there, and then the chain.
 #[derive(Drop)]
@@ -41,8 +45,8 @@ impl Edit<'_, '_> {
 pub(crate) enum Storing<'a> {
     /// Nothing: there is none, or it is there already.
     Nothing,
-    /// It is held for a row that has none yet.
-    Hold(usize, &'a [u8]),
+    /// It is held for a row that has none yet, and this deposit was read from it.
+    Hold(usize, &'a [u8], Deposit),
     /// It is parked under its digest.
     Park([u8; 32], &'a [u8]),
 }
@@ -53,4 +57,46 @@ pub(crate) enum Storing<'a> {
 pub(crate) struct Listing {
     pub(crate) union: Manifest,
     pub(crate) judged: Judged,
+}
+
+/// The deposit of the body that an edit holds for a row, until it is used: so it isn't read again.
+#[derive(Drop)]
+pub(crate) struct AtHand {
+    row: usize,
+    deposit: Option<Deposit>,
+}
+
+impl Storing<'_> {
+    /// The deposit of the body that is held, if one is.
+    pub(crate) fn at_hand(self) -> AtHand
+        ensures { IsRead self.entry → (k : StoreState)
+            → IsAtHand result (stored self.entry k).bodies }
+    {
+        match self {
+            Storing::Hold(row, _, deposit) => AtHand {
+                row,
+                deposit: Some(deposit),
+            },
+            Storing::Nothing | Storing::Park(..) => AtHand {
+                row: 0,
+                deposit: None,
+            },
+        }
+    }
+}
+
+impl AtHand {
+    /// Gives the deposit away, if it is that of this row.
+    pub(crate) fn take(&mut self, row: usize) -> Option<Deposit>
+        ensures left { (bodies : ℕ → Option (List ℕ)) → IsAtHand self.old bodies
+            → IsAtHand self.new bodies }
+        ensures taken { IfSome result (λ d. (bodies : ℕ → Option (List ℕ))
+            → IsAtHand self.old bodies → d ≡ deposit_of reading (bodies row)) }
+    {
+        if self.row == row {
+            self.deposit.take()
+        } else {
+            None
+        }
+    }
 }

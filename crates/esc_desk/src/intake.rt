@@ -29,7 +29,7 @@ ghost use Rattle.esc_desk.specs.Decisions.{IsSound, IsArriving, IsDecidedArrival
 use crate::decision::Decision;
 use crate::edit::{Edit, Storing};
 use crate::parking::parking_of;
-use crate::plan::{Source, plan_arrived};
+use crate::plan::plan_arrived;
 use crate::reread::Reread;
 use esc_apply::read_deposits_mention_few;
 use esc_chain::latest_chain_at_rows_are_held;
@@ -164,6 +164,7 @@ fn decide_late<'n, 'b, S: Alter>(
     deposit: Deposit,
     body: &'b [u8],
 ) -> Result<Decision<'n, 'b>, SFault>
+    requires read { reading body.now ≡ Ok deposit }
     ensures same { IsAsBefore S.Store store.old store.new }
     ensures sound { IfOk result (IsSound store.new.manifest) }
     ensures receipt { IfOk result (λ d. d.edit.receipt ≡ receipt.entry) }
@@ -180,13 +181,12 @@ fn decide_late<'n, 'b, S: Alter>(
     let mut cache = cache;
     insert_row(&mut cache.held_rows, row)?;
     let moment = store.moment()?;
-    let source = Source::Arrived(row, Some(deposit));
-    let plan = plan_arrived(store, alloc, &mut cache, moment, row, source)?;
+    let plan = plan_arrived(alloc, store.manifest(), &mut cache, moment, row)?;
     Ok(Decision {
         edit: Edit {
             receipt,
             listing: None,
-            body: Storing::Hold(row, body),
+            body: Storing::Hold(row, body, deposit),
             moment: None,
             plan: Some(plan),
         },

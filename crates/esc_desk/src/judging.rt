@@ -4,26 +4,26 @@ ghost use Rattle.std.specs.Prelude.{◌≡◌, ◌<◌, ◌≤◌, ◌++◌, len
 ghost use Rattle.esc_store.specs.Faults.{IsS1OrS2};
 ghost use Rattle.esc_store.specs.StoreState.{StoreState};
 ghost use Rattle.esc_store.specs.Representation.{Represents, IsHonest, IsAsBefore};
-ghost use Rattle.esc_desk.specs.DepositSources.{IsJudgement, AreJudged, adopted_by, dropped_by};
+ghost use Rattle.esc_desk.specs.Judging.{IsJudgement, AreJudged, adopted_by, dropped_by};
 
 use crate::assessment::compare;
 use esc_bundle::{Fault, NoMemory};
 use esc_events::Assessment;
 use esc_manifest::MRow;
 use esc_store::{SFault, Store};
-use esc_tables::{Deposit, read_deposit};
+use esc_tables::read_deposit;
 use sqlite::Alter;
 use std::alloc::Global;
 
 /// What is judged of the body that is parked under the digest of a row.
-#[derive(Debug, Drop)]
+#[derive(Clone, Copy, Debug)]
 pub(crate) enum Judgement {
     /// There is none.
     Absent,
     /// It isn't the deposit of the row.
     Dropped,
     /// It is the deposit of the row.
-    Adopted(Deposit),
+    Adopted,
 }
 
 /// The new rows whose parked body is their deposit, and those whose parked body isn't; both in
@@ -45,7 +45,7 @@ impl Judged {
         match judgement {
             Judgement::Absent => Ok(()),
             Judgement::Dropped => Ok(self.dropped.push(row)?),
-            Judgement::Adopted(_) => Ok(self.adopted.push(row)?),
+            Judgement::Adopted => Ok(self.adopted.push(row)?),
         }
     }
 }
@@ -74,8 +74,8 @@ pub(crate) fn judge_rows<S: Alter>(
     Ok(judged)
 }
 
-/// Judges the body that is parked for a row.
-pub(crate) fn judge<S: Alter>(
+// Judges the body that is parked for a row.
+fn judge<S: Alter>(
     store: &mut Store<S>,
     alloc: Global,
     rows: &[MRow],
@@ -102,11 +102,11 @@ fn judgement_of(assessment: Assessment) -> Judgement
     ensures { result ≡ judgement_of assessment }
 {
     match assessment {
-        Assessment::Holding(_, deposit) => Judgement::Adopted(deposit),
+        Assessment::Holding(..) => Judgement::Adopted,
         Assessment::Unlisted | Assessment::Unreadable(..) | Assessment::Differing(_) => {
             Judgement::Dropped
         }
     }
 }
 
-ghost use Rattle.esc_desk.specs.DepositSources.{judgement_of};
+ghost use Rattle.esc_desk.specs.Judging.{judgement_of};

@@ -138,7 +138,8 @@
 //! arrival, answered or lost, had the very same body, of 64 KiB at most, and was the deposit of a
 //! row that was held already, its deposit is remembered, and the bodies are compared in place of
 //! that. Of the new chain's steps only the bodies past the front that both chains have in common
-//! are parsed again. A transaction is begun only for an event that changes something, and none for
+//! are parsed again, one at a time, so a move needs as much memory as its longest deposit and that
+//! of the arrival. A transaction is begun only for an event that changes something, and none for
 //! one that is refused by `S5`. The latest chain is made anew from all held rows, except where the
 //! row of an arrival comes after all of them, builds on the chain's end and isn't later than the
 //! moment: then the chain stays, with that row at its end.

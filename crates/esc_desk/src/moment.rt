@@ -12,7 +12,7 @@ ghost use Rattle.esc_desk.specs.Reflection.{TakesIn};
 use crate::decision::Decision;
 use crate::desk::Desk;
 use crate::edit::{Edit, Storing};
-use crate::plan::{Source, plan_latest};
+use crate::plan::plan_latest;
 use esc_apply::{Work, read_deposits_mention_few};
 use esc_chain::latest_chain_at_rows_are_held;
 use esc_store::SFault;
@@ -58,7 +58,7 @@ impl<S: Alter> Desk<S> {
         latest_chain_at_rows_are_held();
         read_deposits_mention_few();
         let mut cache = self.take_cache(alloc)?;
-        let plan = plan_latest(&mut self.store, alloc, &mut cache, moment, Source::Stored)?;
+        let plan = plan_latest(alloc, self.store.manifest(), &mut cache, moment)?;
         Ok(Decision {
             edit: Edit {
                 receipt: None,

@@ -1,15 +1,19 @@
-//! How the tables of a change are moved from the chain that the store keeps to another one.
+//! How the tables of a change are moved from the chain that the store keeps to another one. Of the
+//! deposits of that chain one at a time is in memory.
 
 ghost use Rattle.std.specs.Prelude.{
   ◌≡◌,
   ◌≢◌,
   ◌<◌,
   ◌≤◌,
-  ◌-◌,
   ◌+◌,
   ◌++◌,
+  ◌∷◌,
   ◌^◌,
+  [],
+  ℕ,
   List,
+  Option,
   length,
   take,
   slice_get,
@@ -20,11 +24,10 @@ ghost use Rattle.std.specs.Prelude.{
   OnOk,
 };
 ghost use Rattle.esc_tables.specs.DepositValue.{DepositValue};
-ghost use Rattle.esc_apply.specs.Registry.{saturated};
+ghost use Rattle.esc_tables.specs.Reading.{reading};
+ghost use Rattle.esc_apply.specs.Registry.{State, saturated};
 ghost use Rattle.esc_apply.specs.Tables.{mention_count};
-ghost use Rattle.esc_apply.specs.Moves.{cost};
 ghost use Rattle.esc_apply.specs.Images.{chain_state};
-ghost use Rattle.esc_apply.specs.Front.{common_front};
 ghost use Rattle.esc_store.specs.StoreState.{StoreState};
 ghost use Rattle.esc_store.specs.Representation.{
   IsHonest,
@@ -35,15 +38,18 @@ ghost use Rattle.esc_store.specs.Representation.{
 };
 ghost use Rattle.esc_store.specs.Faults.{IsS1OrS2};
 ghost use Rattle.esc_events.specs.Plans.{
-  HasDepositsPast,
   IsMovedFrom,
   IsCostOfMove,
+  deposits_past,
+  front_of,
   moved_by,
   rows_in,
 };
+ghost use Rattle.esc_events.specs.StateAfter.{deposit_of, deposits_of};
 ghost use Rattle.esc_desk.specs.Edits.{
   chain_deposits,
   moved_if,
+  IsAtHand,
   IsSoundPlan,
   IsFromChainOf,
   IsCostIf,
@@ -52,58 +58,71 @@ ghost use Rattle.esc_desk.specs.Edits.{
 };
 
 use crate::desk::NO_WORK;
-use esc_apply::{Step, Work, move_chain};
+use crate::edit::AtHand;
+use esc_apply::{Step, Work, apply_next, common_front, take_back, work_of};
+use esc_bundle::Fault;
 use esc_events::Plan;
 use esc_store::{Change, SFault};
-use esc_tables::Deposit;
+use esc_tables::{Deposit, read_deposit};
 use sqlite::Alter;
 use std::alloc::Global;
 
-/// Moves the chain, if there is a plan. Returns the work.
+/// Moves the chain, if there is a plan. Returns the work. `S1`, also if the body of a new step past
+/// the common front is missing or isn't a deposit; `S2`.
 pub(crate) fn move_if_planned<S: Alter>(
     change: &mut Change<'_, S>,
     alloc: Global,
     plan: &Option<Plan>,
+    at_hand: AtHand,
 ) -> Result<Work, SFault>
     requires sound { IfSome plan.now IsSoundPlan }
     ensures goes_on { IsUncommitted S.Store change.old change.new }
     ensures filled { OnOk result ((before k made : StoreState) → IsFromChainOf k plan.now
-        → StaysPut k made → HasMadeBooks S.Store change.old before made
+        → StaysPut k made → IsAtHand at_hand made.bodies
+        → HasMadeBooks S.Store change.old before made
         → HasMadeTables S.Store change.old k.registry
         → IsFilled S.Store change.new before (moved_if plan.now (chain_deposits k) made)) }
     ensures worked { IfOk result (λ work. IsHonest S.Store change.new.store.now
-        → (k : StoreState) → IsFromChainOf k plan.now → HasMadeTables S.Store change.old k.registry
-        → IsCostIf plan.now (chain_deposits k) work) }
+        → (before k made : StoreState) → IsFromChainOf k plan.now → IsAtHand at_hand made.bodies
+        → HasMadeBooks S.Store change.old before made
+        → HasMadeTables S.Store change.old k.registry
+        → IsCostIf plan.now made.bodies (chain_deposits k) work) }
     ensures counted { IfOk result (λ work. saturated change.new.count
         ≡ saturated (saturated change.old.count + work.writes)) }
     ensures cause { IfErr result IsS1OrS2 }
 {
     match plan {
-        Some(plan) => move_by(change, alloc, plan),
+        Some(plan) => move_by(change, alloc, plan, at_hand),
         None => Ok(NO_WORK),
     }
 }
 
 // Moves the tables of a change by a plan, and sets its new chain.
 #[tactic(auto, using(esc_store::specs::StandingLaws::goes_then))]
-fn move_by<S: Alter>(change: &mut Change<'_, S>, alloc: Global, plan: &Plan) -> Result<Work, SFault>
+fn move_by<S: Alter>(
+    change: &mut Change<'_, S>,
+    alloc: Global,
+    plan: &Plan,
+    at_hand: AtHand,
+) -> Result<Work, SFault>
     requires few_old { length plan.now.old.items ≤ 4096 }
     requires few_new { length plan.now.new.items ≤ 4096 }
-    requires deposits { HasDepositsPast plan.now }
     ensures goes_on { IsUncommitted S.Store change.old change.new }
     ensures filled { OnOk result ((before k made : StoreState) (c : List DepositValue)
-        → IsMovedFrom k c plan.now → made.steps ≡ k.steps
+        → IsMovedFrom k c plan.now → made.steps ≡ k.steps → IsAtHand at_hand made.bodies
         → HasMadeBooks S.Store change.old before made
         → HasMadeTables S.Store change.old k.registry
         → IsFilled S.Store change.new before (moved_by plan.now made c)) }
     ensures worked { IfOk result (λ work. IsHonest S.Store change.new.store.now
-        → (k : StoreState) (c : List DepositValue) → IsMovedFrom k c plan.now
-        → HasMadeTables S.Store change.old k.registry → IsCostOfMove plan.now c work) }
+        → (before k made : StoreState) (c : List DepositValue) → IsMovedFrom k c plan.now
+        → IsAtHand at_hand made.bodies → HasMadeBooks S.Store change.old before made
+        → HasMadeTables S.Store change.old k.registry
+        → IsCostOfMove plan.now made.bodies c work) }
     ensures counted { IfOk result (λ work. saturated change.new.count
         ≡ saturated (saturated change.old.count + work.writes)) }
     ensures cause { IfErr result IsS1OrS2 }
 {
-    let work = move_here(change, alloc, &plan.old, &plan.new, &plan.deposits)?;
+    let work = move_tables(change, alloc, plan, at_hand)?;
     let front = same_rows(&plan.old, &plan.new);
     change.replace_chain_from(front, &plan.new[front..])?;
     Ok(work)
@@ -127,31 +146,149 @@ fn same_rows(old: &[Step], new: &[Step]) -> usize
     old.len()
 }
 
-// Moves the tables from one chain to the other.
-fn move_here<S: Alter>(
+// Moves the tables from the old chain of a plan to the new one.
+#[tactic(auto, using(esc_store::specs::StandingLaws::follows_then))]
+fn move_tables<S: Alter>(
     change: &mut Change<'_, S>,
     alloc: Global,
-    old: &[Step],
-    new: &[Step],
-    deposits: &[Deposit],
+    plan: &Plan,
+    at_hand: AtHand,
 ) -> Result<Work, SFault>
-    requires few_old { length old.now ≤ 4096 }
-    requires few_new { length new.now ≤ 4096 }
-    requires deposits { length deposits.now ≡ length new.now - common_front old.now new.now }
+    requires few_old { length plan.now.old.items ≤ 4096 }
+    requires few_new { length plan.now.new.items ≤ 4096 }
     ensures follows { Follows S.Store change.old change.new }
     ensures counted { IfOk result (λ work. saturated change.new.count
         ≡ saturated (saturated change.old.count + work.writes)) }
     ensures moved { OnOk result (IsHonest S.Store change.new.store.now
-        → (c : List DepositValue) → length c ≡ length old.now
-        → HasMadeTables S.Store change.old (chain_state c)
-        → HasMadeTables S.Store change.new
-        (chain_state (take (common_front old.now new.now) c ++ deposits.now))) }
+        → (before k : StoreState) (c : List DepositValue) → length c ≡ length plan.now.old.items
+        → IsAtHand at_hand k.bodies → HasMadeBooks S.Store change.old before k
+        → HasMadeTables S.Store change.old (chain_state c) → HasMadeTables S.Store change.new
+        (chain_state (take (front_of plan.now) c ++ deposits_past plan.now k.bodies))) }
     ensures cost { IfOk result (λ work. IsHonest S.Store change.new.store.now
-        → (c : List DepositValue) → length c ≡ length old.now
+        → (before k : StoreState) (c : List DepositValue) → length c ≡ length plan.now.old.items
+        → IsAtHand at_hand k.bodies → HasMadeBooks S.Store change.old before k
         → HasMadeTables S.Store change.old (chain_state c)
-        → sum_by mention_count (c ++ deposits.now) < 2 ^ 64
-        → work ≡ cost c old.now new.now deposits.now) }
+        → IsCostOfMove plan.now k.bodies c work) }
     ensures cause { IfErr result IsS1OrS2 }
 {
-    move_chain(alloc, change, old, new, deposits)
+    let steps = plan.old.len() as u32;
+    let front = common_front(&plan.old, &plan.new);
+    let past = &plan.new[front..];
+    let back = take_back(alloc, change, steps, front as u32)?;
+    let forth = apply_held(change, alloc, front as u32, past, at_hand)?;
+    Ok(work_of(steps, front as u32, past.len() as u32, back, forth))
+}
+
+// Applies the deposits that are held for the rows of these steps after a chain of `front` steps.
+// Returns the number of writes (at most 2^64 - 1).
+fn apply_held<S: Alter>(
+    change: &mut Change<'_, S>,
+    alloc: Global,
+    front: u32,
+    steps: &[Step],
+    at_hand: AtHand,
+) -> Result<u64, SFault>
+    requires few { front + length steps.now < 2 ^ 32 }
+    ensures follows { Follows S.Store change.old change.new }
+    ensures counted { IfOk result (λ n. saturated change.new.count
+        ≡ saturated (saturated change.old.count + n)) }
+    ensures number { IfOk result (λ n. IsHonest S.Store change.new.store.now
+        → (before k : StoreState) → IsAtHand at_hand k.bodies
+        → HasMadeBooks S.Store change.old before k
+        → n ≡ saturated (sum_by mention_count (deposits_of reading k.bodies (rows_in steps.now)))) }
+    ensures applied { OnOk result (IsHonest S.Store change.new.store.now
+        → (before k : StoreState) (c : List DepositValue) → length c ≡ front
+        → IsAtHand at_hand k.bodies → HasMadeBooks S.Store change.old before k
+        → HasMadeTables S.Store change.old (chain_state c) → HasMadeTables S.Store change.new
+        (chain_state (c ++ deposits_of reading k.bodies (rows_in steps.now)))) }
+    ensures cause { IfErr result IsS1OrS2 }
+{
+    let mut at_hand = at_hand;
+    let mut pos = front;
+    let mut writes: u64 = 0;
+    for step in steps {
+        pos += 1;
+        let more = apply_row(change, alloc, pos, step.row, &mut at_hand)?;
+        writes = writes.saturating_add(more);
+    }
+    Ok(writes)
+}
+
+// Applies the deposit that is held for a row as step `pos` of a chain.
+#[tactic(auto, using(esc_store::specs::StandingLaws::follows_then))]
+fn apply_row<S: Alter>(
+    change: &mut Change<'_, S>,
+    alloc: Global,
+    pos: u32,
+    row: usize,
+    at_hand: &mut AtHand,
+) -> Result<u64, SFault>
+    ensures follows { Follows S.Store change.old change.new }
+    ensures left { OnOk result ((bodies : ℕ → Option (List ℕ)) → IsAtHand at_hand.old bodies
+        → IsAtHand at_hand.new bodies) }
+    ensures counted { IfOk result (λ n. saturated change.new.count
+        ≡ saturated (saturated change.old.count + n)) }
+    ensures number { IfOk result (λ n. IsHonest S.Store change.new.store.now
+        → (before k : StoreState) → IsAtHand at_hand.old k.bodies
+        → HasMadeBooks S.Store change.old before k
+        → n ≡ mention_count (deposit_of reading (k.bodies row))) }
+    ensures applied { OnOk result (IsHonest S.Store change.new.store.now
+        → (before k : StoreState) (c : List DepositValue) → length c + 1 ≡ pos
+        → IsAtHand at_hand.old k.bodies → HasMadeBooks S.Store change.old before k
+        → HasMadeTables S.Store change.old (chain_state c) → HasMadeTables S.Store change.new
+        (chain_state (c ++ deposit_of reading (k.bodies row) ∷ []))) }
+    ensures cause { IfErr result IsS1OrS2 }
+{
+    let deposit = next_deposit(change, alloc, row, at_hand)?;
+    apply_next(alloc, change, pos, &deposit)
+}
+
+// The deposit that is held for a row: the one at hand, if it is that, or else read from its body.
+#[tactic(auto, using(esc_store::specs::StandingLaws::follows_same))]
+fn next_deposit<S: Alter>(
+    change: &mut Change<'_, S>,
+    alloc: Global,
+    row: usize,
+    at_hand: &mut AtHand,
+) -> Result<Deposit, SFault>
+    ensures follows { Follows S.Store change.old change.new }
+    ensures count { change.new.count ≡ change.old.count }
+    ensures left { (bodies : ℕ → Option (List ℕ)) → IsAtHand at_hand.old bodies
+        → IsAtHand at_hand.new bodies }
+    ensures found { IfOk result (λ d. IsHonest S.Store change.new.store.now
+        → (before k : StoreState) → IsAtHand at_hand.old k.bodies
+        → HasMadeBooks S.Store change.old before k → d ≡ deposit_of reading (k.bodies row)) }
+    ensures holds { OnOk result ((s : State) → HasMadeTables S.Store change.old s
+        → HasMadeTables S.Store change.new s) }
+    ensures cause { IfErr result IsS1OrS2 }
+{
+    match at_hand.take(row) {
+        Some(deposit) => Ok(deposit),
+        None => held_deposit(change, alloc, row),
+    }
+}
+
+// The deposit of the body that a change holds for a row. `S1` if there is none to be read.
+fn held_deposit<S: Alter>(
+    change: &mut Change<'_, S>,
+    alloc: Global,
+    row: usize,
+) -> Result<Deposit, SFault>
+    ensures follows { Follows S.Store change.old change.new }
+    ensures count { change.new.count ≡ change.old.count }
+    ensures found { IfOk result (λ d. IsHonest S.Store change.new.store.now
+        → (before k : StoreState) → HasMadeBooks S.Store change.old before k
+        → d ≡ deposit_of reading (k.bodies row)) }
+    ensures holds { OnOk result ((s : State) → HasMadeTables S.Store change.old s
+        → HasMadeTables S.Store change.new s) }
+    ensures cause { IfErr result IsS1OrS2 }
+{
+    let Some(body) = change.body_of(row)? else {
+        return Err(SFault::S1);
+    };
+    match read_deposit(alloc, &body) {
+        Ok(deposit) => Ok(deposit),
+        Err(Fault::Refused(_)) => Err(SFault::S1),
+        Err(Fault::NoMemory) => Err(SFault::S2),
+    }
 }

@@ -4,7 +4,6 @@ use Rattle.std.specs.Prelude.{
   ℤ,
   ℕ,
   ◌<◌,
-  ◌-◌,
   ◌^◌,
   List,
   ◌++◌,
@@ -28,7 +27,7 @@ use Rattle.esc_apply.specs.Images.{chain_state}
 use Rattle.esc_apply.specs.Moves.{cost}
 use Rattle.esc_apply.specs.Tables.{mention_count}
 use Rattle.esc_apply.specs.declared.moves.Work.{Work}
-use Rattle.esc_store.specs.StoreState.{StoreState, kept_chain, step_at, with_steps, with_registry}
+use Rattle.esc_store.specs.StoreState.{StoreState, step_at, with_steps, with_registry}
 use Rattle.esc_events.specs.declared.plan.Plan.{Plan}
 use Rattle.esc_events.specs.StateAfter.{deposits_of}
 
@@ -56,26 +55,17 @@ pub record AreLatestSteps (m : List MRow) (rows : List ℕ) (moment : Option ℤ
   pub in_range : InRange m (set.from_list rows)
   pub latest : IsLatestChainAt m (set.from_list rows) moment (rows_in steps)
 
--- the plan goes from the chain that the store keeps to another one; its deposits are those past the
--- common front, by these bodies
-pub record IsPlanned (k : StoreState) (bodies : ℕ → Option (List ℕ)) (plan : Plan) : Type 0 where
-  pub old : plan.old.items ≡ kept_chain k
-  pub deposits : plan.deposits.items
-      ≡ deposits_of reading bodies (rows_in (drop (front_of plan) plan.new.items))
-
--- the deposits of a plan's new chain, where c are those of its old chain
-abbrev pub deposits_by : Plan → List DepositValue → List DepositValue
-deposits_by plan c = take (front_of plan) c ++ plan.deposits.items
+-- the deposits of a plan's new steps past the common front, by the bodies that are held
+abbrev pub deposits_past : Plan → (ℕ → Option (List ℕ)) → List DepositValue
+deposits_past plan bodies =
+    deposits_of reading bodies (rows_in (drop (front_of plan) plan.new.items))
 
 -- what is kept once a plan was carried out: the plan's new chain, and the tables and before-images
 -- of that chain, where c are the deposits of the old chain
 abbrev pub moved_by : Plan → StoreState → List DepositValue → StoreState
 moved_by plan k c =
-    with_registry (with_steps k (new_chain plan)) (chain_state (deposits_by plan c))
-
--- a plan has as many deposits as steps past the common front
-abbrev pub HasDepositsPast : Plan → Type 0
-HasDepositsPast plan = length plan.deposits.items ≡ length plan.new.items - front_of plan
+    with_registry (with_steps k (new_chain plan))
+    (chain_state (take (front_of plan) c ++ deposits_past plan k.bodies))
 
 -- the chain that is kept is a plan's old one, whose deposits are c, and the tables and
 -- before-images are those of that chain
@@ -84,8 +74,9 @@ pub record IsMovedFrom (k : StoreState) (c : List DepositValue) (plan : Plan) : 
   pub count : length c ≡ length plan.old.items
   pub registry : k.registry ≡ chain_state c
 
--- this is the cost of a plan's move, where c are the deposits of the old chain; nothing is said if
--- c and the plan's deposits mention 2^64 keys or more
-abbrev pub IsCostOfMove : Plan → List DepositValue → Work → Type 0
-IsCostOfMove plan c work = sum_by mention_count (c ++ plan.deposits.items) < 2 ^ 64
-    → work ≡ cost c plan.old.items plan.new.items plan.deposits.items
+-- this is the cost of a plan's move by the bodies that are held, where c are the deposits of the
+-- old chain; nothing is said if c and the deposits past the common front mention 2^64 keys or more
+abbrev pub IsCostOfMove : Plan → (ℕ → Option (List ℕ)) → List DepositValue → Work → Type 0
+IsCostOfMove plan bodies c work =
+    let past = deposits_past plan bodies in
+    sum_by mention_count (c ++ past) < 2 ^ 64 → work ≡ cost c plan.old.items plan.new.items past

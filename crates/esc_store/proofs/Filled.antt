@@ -1,8 +1,8 @@
 -- Rows of objects that are put many at a time, after what their keys had is noted.
 use Rattle.esc_store.proofs.Common.{◌≡◌, ℕ, Bool, true, false, cond, ◌&&◌, List, [], ◌∷◌, ◌++◌, map, Option, None, Some, is_some, refl, sym, ap, subst, ◌∙◌, arith, ◌<◌, ◌+◌, length, drop, get_or, ◌==◌, same_key}
 use Rattle.esc_store.proofs.Common.{IsSome, IfSome, cases_Bool, inl, inr, option_or, unwrap_or, AllByRecursion, All-from_recursion, get_or-map, length-map, lookup, keys_of, append-nil, map-append, kind_rank, option_and_then}
-use Rattle.esc_store.proofs.Common.{KeyName, key_eq, keys_alike, ObjectValue, record_of, Entry, State, Keys, with_object, CanBePut, Content, NewObject, new_entry, ObjectEntry, drop_more, Ghosts}
-use Rattle.esc_store.proofs.Common.{ImageEntry, is_entry_at, entry_at, entry_row, stored_row, AreRowsOf, kind_at, record_at, IsRegistry, after_filling, after_noting, image_now, ChangeOf, Follows, goes_then, map_push, GainsObjects, GainsImages, AreFree, Objects, Undo}
+use Rattle.esc_store.proofs.Common.{KeyName, key_eq, keys_alike, ObjectValue, record_of, Entry, State, Keys, with_object, CanBePut, Content, NewObject, new_entry, ObjectEntry, drop_more}
+use Rattle.esc_store.proofs.Common.{ImageEntry, is_entry_at, entry_at, entry_row, stored_row, AreRowsOf, kind_at, record_at, IsRegistry, after_filling, after_noting, image_now, map_push, GainsObjects, GainsImages, AreFree, Objects, Undo}
 use Rattle.std.proofs.Common.{append_assoc, All}
 use Rattle.esc_apply.specs.Changes.{Change, AreNew}
 pub use Rattle.esc_apply.specs.ChangeLaws.{Fills, fills_more, fills_last, Returns, returns_last, written_by-noted}
@@ -10,7 +10,7 @@ use Rattle.esc_apply.specs.ChangeLaws.{content-changed_by, undo-new}
 use Rattle.esc_sql.specs.Changes.{image_entry_at}
 use Rattle.esc_apply.specs.declared.registry.Keys.TheVariants.{Vacant, Unknown}
 use Rattle.std.proofs.lemmas.List.Elements.{All-head, All-get_or}
-pub use Rattle.esc_store.proofs.Parking.{follows_same}
+pub use Rattle.esc_store.specs.StandingLaws.{follows_same, follows_then}
 use Rattle.esc_store.proofs.Gathering.{tests_alike}
 use Rattle.esc_store.proofs.Registries.{no_kind, record_found, record_here, has_record, Replaces, Reads, ReadsNote, reads_note, none_both, objects_then, images_then}
 
@@ -113,8 +113,6 @@ module _ {es : List Entry} {rows : List ObjectEntry} (are : AreRowsOf es rows) {
       found (both o bytes p q r is) was = rw (p, q) (sym is, has_record o bytes is)
 
 -- ---- one part after another
-pub follows_then : {S : Type 0} {g : Ghosts S} {a b c : ChangeOf S} → Follows g a b → Follows g b c → Follows g a c
-follows_then p q = record { goes_on = goes_then p.goes_on q.goes_on; listed = q.listed ∙ p.listed; rest = λ before k h. q.rest before k (p.rest before k h) }
 
 -- the entries of these rows are still to be put, and then those after them, and this holds of what is left
 pub record Pending (Left : List Change → Type 0) (rows : List ObjectEntry) (after : List Entry) : Type 0 where

@@ -1,6 +1,6 @@
 -- What parts of a change do to parked bodies and to the moment.
 use Rattle.esc_store.proofs.Common.{◌≡◌, ℕ, ℤ, true, List, [], ◌∷◌, Option, None, Some, refl, sym, ap, subst, ◌∙◌, Result, Ok, IsSome, ◌↔◌, if◌then◌else◌, bytes_eq, Contains, nat_cmp, Less, slice_cmp, All-from_recursion, IfOk-at_ok, Ghosts}
-use Rattle.esc_store.proofs.Common.{IsAscending, Database, state, HasCleanDisk, MRow, Content, content_in, Store, StoreState, with_parked, AreParked, IsBooks, ChangeOf, IsStep, IsStoreRead, Follows, survives_same}
+use Rattle.esc_store.proofs.Common.{IsAscending, Database, state, HasCleanDisk, MRow, Content, content_in, Store, StoreState, with_parked, AreParked, IsBooks, IsStep, IsStoreRead}
 use Rattle.esc_store.proofs.Common.{was_clean, parked_at, HasMadeBooksIn}
 use Rattle.esc_sql.specs.Content.{moment_of}
 use Rattle.esc_sql.specs.Rows.{MomentRow}
@@ -55,16 +55,11 @@ moment_turns v old new made = become_turns _ old new (λ c holds. (made c holds)
 
 -- ---- a change
 
--- nothing was called
-pub follows_same : {S : Type 0} (g : Ghosts S) (c : ChangeOf S) → Follows g c c
-follows_same g c = record { goes_on = record { same_reference = refl; manifest = refl; writes = refl; survives = survives_same; began = λ k h. h }; listed = refl; rest = λ before k h. h }
-
--- what a read in a change found is what the change keeps
-pub found_parked : {S X E : Type 0} {g : Ghosts S} {old new : Store S} {digest : List ℕ} (view : X → Option (List ℕ)) {r : Result X E} {x : X} → r ≡ Ok x → old.conn.in_transaction ≡ true
-    → IsStoreRead g old new (λ c found. view found ≡ parked_at digest c.parked) r → HasCleanDisk (state g new.conn) → (listing : Option (List MRow)) (before k : StoreState) → HasMadeBooksIn g old listing before k → view x ≡ k.parked digest
+-- what a read in a change says, of rows that are those of what the change keeps
+pub found_books : {S X E : Type 0} {g : Ghosts S} {old new : Store S} {P : Content → X → Type 0} {r : Result X E} {x : X} → r ≡ Ok x → old.conn.in_transaction ≡ true
+    → IsStoreRead g old new P r → HasCleanDisk (state g new.conn) → (listing : Option (List MRow)) (before k : StoreState) → HasMadeBooksIn g old listing before k → (c : Content) × P c x × IsBooks c k
 unfolding HasMadeBooksIn
-found_parked {g = g} {old} {new} {digest} view {r} {x} is on read clean listing before k made =
+found_books {g = g} {old} is on read clean listing before k made =
     let was = was_clean read.look.survives clean in
-    let tables = (made.begun.on was on).2 in
-    let s = IfOk-at_ok _ is (read.look.said clean) in
-    s.0 (content_in (state g old.conn).now.trees) tables ∙ (made.books was on).parked digest
+    let c = content_in (state g old.conn).now.trees in
+    (c, (IfOk-at_ok _ is (read.look.said clean)).0 c (made.begun.on was on).2, made.books was on)

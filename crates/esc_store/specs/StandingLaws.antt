@@ -16,6 +16,7 @@ use Rattle.esc_store.specs.Representation.{
   IsAsBefore,
   IsUncommitted,
   IsChangePart,
+  Follows,
 }
 
 -- nothing was called
@@ -59,6 +60,29 @@ goes_then p q = record {
   writes = q.writes ∙ p.writes;
   survives = survives_then _ _ _ _ _ _ (λ _ db none. none) (λ _ db none. none) p.survives q.survives;
   began = λ k h. q.began k (p.began k h);
+}
+
+-- nothing was called
+pub follows_same : {S : Type 0} (g : Ghosts S) (c : ChangeOf S) → Follows g c c
+follows_same g c = record {
+  goes_on = record {
+    same_reference = refl;
+    manifest = refl;
+    writes = refl;
+    survives = survives_same;
+    began = λ k h. h;
+  };
+  listed = refl;
+  rest = λ before k h. h;
+}
+
+-- what follows from what followed before
+pub follows_then : {S : Type 0} {g : Ghosts S} {a b c : ChangeOf S} → Follows g a b
+    → Follows g b c → Follows g a c
+follows_then p q = record {
+  goes_on = goes_then p.goes_on q.goes_on;
+  listed = q.listed ∙ p.listed;
+  rest = λ before k h. q.rest before k (p.rest before k h);
 }
 
 -- a change that is honest after a part was honest before it

@@ -7,6 +7,7 @@ ghost use Rattle.std.specs.Prelude.{
   ◌++◌,
   None,
   map,
+  option_map,
   take,
   length,
   OnOk,
@@ -22,6 +23,7 @@ ghost use Rattle.esc_store.specs.Representation.{
   HasMadeTables,
   IsUncommitted,
   IsChangePart,
+  Follows,
   IsCommitOf,
   IsRollbackOf,
   StoreLeavesOr,
@@ -97,6 +99,36 @@ impl<'a, S: Alter> Change<'a, S> {
     {
         let done = insert_held(&mut self.store.conn, row, body);
         self.store.settle(done)
+    }
+
+    /// The body of the row with this index, from 0, if the change holds one. `S1`, `S2`.
+    pub fn body_of(&mut self, row: usize) -> Result<Option<Vec<u8>>, SFault>
+        ensures follows { Follows S.Store self.old self.new }
+        ensures count { count_of self.new ≡ count_of self.old }
+        ensures found { IfOk result (λ found. IsHonest S.Store (store_in self.new)
+            → (before k : StoreState) → HasMadeBooks S.Store self.old before k
+            → option_map (λ b. b.items) found ≡ k.bodies row) }
+        ensures holds { OnOk result ((s : State) → HasMadeTables S.Store self.old s
+            → HasMadeTables S.Store self.new s) }
+        ensures cause { IfErr result IsS1OrS2 }
+    {
+        let row = small(row)?;
+        self.find_held(row)
+    }
+
+    // The body of a row, if the change holds one.
+    fn find_held(&mut self, row: u32) -> Result<Option<Vec<u8>>, SFault>
+        ensures follows { Follows S.Store self.old self.new }
+        ensures count { self.new.count ≡ self.old.count }
+        ensures found { IfOk result (λ found. IsHonest S.Store self.new.store.now
+            → (before k : StoreState) → HasMadeBooks S.Store self.old before k
+            → option_map (λ b. b.items) found ≡ k.bodies row) }
+        ensures holds { OnOk result ((s : State) → HasMadeTables S.Store self.old s
+            → HasMadeTables S.Store self.new s) }
+        ensures cause { IfErr result IsS1OrS2 }
+    {
+        self.store.goes_on()?;
+        self.store.body_here(row)
     }
 
     /// Makes these the steps of the chain; their rows have to be held, and no two are the same.

@@ -14,8 +14,8 @@ impl<'a, S: Alter> Registry for Change<'a, S> {
     ghost use Rattle.esc_apply.specs.Registry.{saturated};
     ghost use Rattle.esc_store.specs.Faults.{IsS1OrS2};
     ghost use Rattle.esc_store.specs.Representation.{HasMadeTables, Follows, IsHonest, store_in, count_of};
-    ghost use Rattle.std.proofs.Common.{inl, inr, refl, ◌∙◌, arith};
-    ghost use Rattle.sqlite.proofs.StateLemmas.{survives_then};
+    ghost use Rattle.esc_store.specs.StandingLaws.{follows_same, follows_then};
+    ghost use Rattle.std.proofs.Common.{inr, arith};
 
     type Error = SFault;
 
@@ -105,37 +105,9 @@ impl<'a, S: Alter> Registry for Change<'a, S> {
 
     ghost bounded = { λ r. Prim.omega arith };
 
-    ghost stays = { λ r. record {
-      goes_on = record {
-        same_reference = refl;
-        manifest = refl;
-        writes = refl;
-        survives = record {
-          clean = Prim.omega arith;
-          shield = λ h. h;
-          counts = Prim.omega arith;
-          limit = refl;
-          closes = λ _ up. inl up;
-          crash = λ _ db may. inl may;
-        };
-        began = λ k h. h;
-      };
-      listed = refl;
-      rest = λ before k h. h;
-    } };
+    ghost stays = { λ r. follows_same _ r };
 
-    ghost goes_on = { λ a b c p q. record {
-      goes_on = record {
-        same_reference = q.goes_on.same_reference ∙ p.goes_on.same_reference;
-        manifest = q.goes_on.manifest ∙ p.goes_on.manifest;
-        writes = q.goes_on.writes ∙ p.goes_on.writes;
-        survives = survives_then _ _ _ _ _ _ (λ _ db none. none)
-            (λ _ db none. none) p.goes_on.survives q.goes_on.survives;
-        began = λ k h. q.goes_on.began k (p.goes_on.began k h);
-      };
-      listed = q.listed ∙ p.listed;
-      rest = λ before k h. q.rest before k (p.rest before k h);
-    } };
+    ghost goes_on = { λ a b c p q. follows_then p q };
 
     ghost was_honest = { λ a b p clean. Prim.omega (arith, p.goes_on.survives.clean, clean) };
 }

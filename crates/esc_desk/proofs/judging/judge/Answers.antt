@@ -3,7 +3,7 @@ use Rattle.std.proofs.lemmas.List.{get_or_default}
 use Rattle.esc_tables.specs.Reading.{reading}
 use Rattle.esc_manifest.specs.declared.row.MRow.{MRow}
 use Rattle.esc_manifest.specs.ManifestRows.{row_at, no_row}
-use Rattle.esc_desk.specs.DepositSources.{IsJudgement, judgement_of}
+use Rattle.esc_desk.specs.Judging.{IsJudgement, judgement_of}
 use Rattle.esc_desk.proofs.JudgedRows.{readable}
 use Rattle.esc_desk.proofs.judging.judge.Goals as goal
 
