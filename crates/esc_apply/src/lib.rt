@@ -41,8 +41,7 @@
 //! an `Err` nothing is said of the content.
 #![tactic(auto)]
 
-mod back;
-mod forward;
+mod apply;
 mod front;
 mod laws;
 mod map;
@@ -50,9 +49,9 @@ mod memory;
 mod moves;
 mod objects;
 mod registry;
+mod undo;
 
-pub use back::undo_step;
-pub use forward::{apply_next, apply_step};
+pub use apply::{apply_next, apply_step};
 pub use front::{Step, common_front};
 pub use laws::{read_deposits_mention_few, tables_are_listed};
 pub use map::MapObjects;
@@ -60,3 +59,4 @@ pub use memory::MemRegistry;
 pub use moves::{Work, move_chain, take_back, work_of};
 pub use objects::Objects;
 pub use registry::{Keys, Registry};
+pub use undo::undo_step;

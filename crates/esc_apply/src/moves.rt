@@ -23,10 +23,10 @@ ghost use Rattle.esc_apply.specs.Images.{chain_state};
 ghost use Rattle.esc_apply.specs.Front.{common_front};
 ghost use Rattle.esc_apply.specs.Moves.{is_cleared, undone_of, work_of, cost};
 
-use crate::back::undo_to;
-use crate::forward::apply_all;
+use crate::apply::apply_all;
 use crate::front::{Step, common_front};
 use crate::registry::Registry;
+use crate::undo::undo_to;
 use esc_tables::Deposit;
 use std::alloc::Global;
 

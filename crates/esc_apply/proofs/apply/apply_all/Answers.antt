@@ -3,7 +3,7 @@ use Rattle.std.proofs.lemmas.List.{take_more}
 use Rattle.esc_tables.specs.DepositValue.{DepositValue}
 use Rattle.esc_apply.specs.Registry.{saturated}
 use Rattle.esc_apply.proofs.Chains.{next_step, one_more, one_more_sum}
-use Rattle.esc_apply.proofs.forward.apply_all.Goals as goal
+use Rattle.esc_apply.proofs.apply.apply_all.Goals as goal
 
 pub loop-deposit-preserved : goal.loop-deposit-preserved
 loop-deposit-preserved g c =

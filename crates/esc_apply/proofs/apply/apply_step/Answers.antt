@@ -9,8 +9,8 @@ use Rattle.esc_apply.specs.Images.{chain_state}
 use Rattle.esc_apply.proofs.Chains.{fresh-chain, applied_next}
 use Rattle.esc_apply.proofs.Mentions.{changes_made, changes_counted}
 use Rattle.esc_apply.proofs.Runs.{AreChangesOf, step_made}
-use Rattle.esc_apply.proofs.forward.apply_step.Given as given
-use Rattle.esc_apply.proofs.forward.apply_step.Goals as goal
+use Rattle.esc_apply.proofs.apply.apply_step.Given as given
+use Rattle.esc_apply.proofs.apply.apply_step.Goals as goal
 
 abbrev Made : (g : given.Over) (c : goal.After-drop-deletes-2 g) → Type 0
 Made g c = AreChangesOf c.args.deposit.now (map with_object c.deposit.inside.contents.entries ++ map without c.in_ok-deletes.deletes.keys)

@@ -3,7 +3,7 @@ use Rattle.std.proofs.lemmas.List.{take_more}
 use Rattle.std.specs.BTreeSet as sorted
 use Rattle.esc_tables.specs.KeyName.{KeyName, key_cmp, key_eq}
 use Rattle.esc_apply.proofs.Mentions.{skip_delete, add_delete}
-use Rattle.esc_apply.proofs.forward.plain_deletes.Goals as goal
+use Rattle.esc_apply.proofs.apply.plain_deletes.Goals as goal
 
 pub loop-key-preserved-then-contains_key : goal.loop-key-preserved-then-contains_key
 loop-key-preserved-then-contains_key c = record {

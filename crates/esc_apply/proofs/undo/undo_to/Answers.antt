@@ -1,7 +1,7 @@
 use Rattle.std.proofs.Common.{◌≡◌, ◌+◌, ◌-◌, ◌<◌, ℕ, suc, length, arith}
 use Rattle.esc_apply.specs.Registry.{saturated}
 use Rattle.esc_apply.proofs.Chains.{one_less}
-use Rattle.esc_apply.proofs.back.undo_to.Goals as goal
+use Rattle.esc_apply.proofs.undo.undo_to.Goals as goal
 
 counted_on : (before was now n writes all : ℕ) → was ≡ saturated (before + writes) → now ≡ saturated (was + n) → all ≡ saturated (writes + n) → now ≡ saturated (before + all)
 counted_on before was now n writes all counted made sum = omega (arith, counted, made, sum)

@@ -3,7 +3,7 @@ use Rattle.esc_tables.specs.DepositValue.{DepositValue}
 use Rattle.esc_apply.specs.Tables.{mention_count}
 use Rattle.esc_apply.specs.Registry.{saturated}
 use Rattle.esc_apply.specs.Images.{chain_state}
-use Rattle.esc_apply.proofs.forward.apply_all.Given as goal
+use Rattle.esc_apply.proofs.apply.apply_all.Given as goal
 
 abbrev pub invariant-loop-deposit : goal.invariant-loop-deposit
 invariant-loop-deposit g l =

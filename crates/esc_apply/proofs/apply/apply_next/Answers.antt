@@ -1,6 +1,6 @@
 use Rattle.std.proofs.lemmas.Result.{on_ok_weaker}
 use Rattle.esc_apply.proofs.Chains.{first_applied}
-use Rattle.esc_apply.proofs.forward.apply_next.Goals as goal
+use Rattle.esc_apply.proofs.apply.apply_next.Goals as goal
 
 pub returns-then-pos-eq1-clause-applied : goal.returns-then-pos-eq1-clause-applied
 returns-then-pos-eq1-clause-applied g c = on_ok_weaker c.apply_first.result (λ made honest k at held.

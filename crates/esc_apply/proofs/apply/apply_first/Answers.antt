@@ -7,8 +7,8 @@ use Rattle.esc_apply.specs.Images.{chain_state}
 use Rattle.esc_apply.proofs.Chains.{fresh-chain, applied_next}
 use Rattle.esc_apply.proofs.Mentions.{changes_made, changes_counted}
 use Rattle.esc_apply.proofs.Runs.{AreChangesOf, first_all, step_made}
-use Rattle.esc_apply.proofs.forward.apply_first.Given as given
-use Rattle.esc_apply.proofs.forward.apply_first.Goals as goal
+use Rattle.esc_apply.proofs.apply.apply_first.Given as given
+use Rattle.esc_apply.proofs.apply.apply_first.Goals as goal
 
 made : (g : given.Over) (c : goal.After-drop-deletes-2 g) → AreChangesOf c.args.deposit.now (map with_object c.deposit.inside.contents.entries ++ map without c.in_ok-deletes.deletes.keys)
 made g c = changes_made c.args.deposit.now c.deposit.inside.contents.entries c.deletes_of.result.now c.in_ok-deletes.deletes.keys

@@ -3,7 +3,7 @@ use Rattle.esc_tables.specs.KeyName.{KeyName}
 use Rattle.esc_apply.specs.Changes.{without, changed_by}
 use Rattle.esc_apply.proofs.Counts.{one_counted}
 use Rattle.esc_apply.proofs.Runs.{leads_more}
-use Rattle.esc_apply.proofs.forward.remove_deletes.Goals as goal
+use Rattle.esc_apply.proofs.apply.remove_deletes.Goals as goal
 
 pub loop-key-preserved : goal.loop-key-preserved
 loop-key-preserved g c =

@@ -6,7 +6,7 @@ use Rattle.std.proofs.lemmas.List.{nil_from_length}
 use Rattle.esc_apply.proofs.Chains.{undone_last}
 use Rattle.esc_apply.specs.ChangeLaws.{returns_last}
 use Rattle.esc_apply.proofs.Runs.{returns_first}
-use Rattle.esc_apply.proofs.back.undo_step.Goals as goal
+use Rattle.esc_apply.proofs.undo.undo_step.Goals as goal
 
 pub loop-entry-init : goal.loop-entry-init
 loop-entry-init g c = rw c.deref-entry-items.ensures.value (record {

@@ -1,7 +1,7 @@
 use Rattle.std.proofs.Common.{◌≡◌, ◌+◌, drop, length}
 use Rattle.esc_apply.specs.Registry.{State, restored, saturated, IsEntriesOf}
 use Rattle.esc_apply.specs.ChangeLaws.{Returns}
-use Rattle.esc_apply.proofs.back.undo_step.Given as goal
+use Rattle.esc_apply.proofs.undo.undo_step.Given as goal
 
 abbrev pub invariant-loop-entry : goal.invariant-loop-entry
 invariant-loop-entry g l =

@@ -2,7 +2,7 @@ use Rattle.std.proofs.Common.{◌≡◌, ◌+◌, map, length}
 use Rattle.esc_apply.specs.Registry.{State, saturated}
 use Rattle.esc_apply.specs.Changes.{without, changed_by, AreNew}
 use Rattle.esc_apply.proofs.Runs.{Leads}
-use Rattle.esc_apply.proofs.forward.remove_deletes.Given as goal
+use Rattle.esc_apply.proofs.apply.remove_deletes.Given as goal
 
 -- the keys that are left lead to where all of them lead
 abbrev pub invariant-loop-key : goal.invariant-loop-key
