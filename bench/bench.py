@@ -2,14 +2,15 @@
 """bench/bench.py [PROGRAM ..] [--times N] [--only PART] [--keep FOLDER]: how long the program takes, and how much memory.
 
 Makes a large release (seeded: every run has the same bytes) and lets the program do each task: takes of Fulls, of Differentials, of
-a late revision, of an Incremental and of repeats; each report and two exports; a desk on a socket of this machine; a chain of
-4,095 tiny Differentials, in order; and bodies that no row lists yet, parked and then adopted. It prints for each task the time
+a late revision, of an Incremental and of repeats; each report and two exports; a late revision under six Differentials of 15 MB;
+a desk on a socket of this machine, and one with 50,000 receipts; a chain of 4,095 tiny Differentials, in order; and bodies that
+no row lists yet, parked and then adopted. It prints for each task the time
 by the clock, the processor time and the peak memory, with a column of these for each PROGRAM (the one that was built in this
 checkout, if none is named), which do each task in turn; and of two the ratio of the second to the first. With --times the least of N
 runs stands there. Beside a Full stands what the C library takes to write the same rows, one a statement (`raw.py`).
 
 Times of a busy machine say little; the ratios within one run say more."""
-import os, shutil, subprocess, sys, tempfile, time
+import contextlib, os, shutil, sqlite3, subprocess, sys, tempfile, time
 
 from running import Program, Use, arrivals_where, ask, made_release
 from support import TOP, arguments_of, built, program
@@ -48,9 +49,35 @@ def days(release, restore):
     for command, names in (('report', ('status', 'gaps', 'links', 'receipts')), ('export', ('domain', 'contact'))):
         for name in names:
             yield f'{command} of {name}', restore.run(command, '--store', store, name)
-    first, later, use = restore.status_of(store)
-    yield 'GET /status of that store', Use(0, first, use.memory)
-    yield '  each later one', Use(0, later, use.memory)
+    first, later = restore.asked_again(store, '/status')
+    yield 'GET /status of that store', first
+    yield '  each later one', later
+
+
+def moves(release, restore):
+    """A late revision of the first of so many Differentials of 15 MB: all are taken back, and applied again."""
+    heavy = f'{release}/heavy'
+    store = restore.fresh('heavy', f'{heavy}/manifest.csv')
+    restore.take(store, f'{heavy}/full')
+    for at in range(1, 7):
+        restore.take(store, f'{heavy}/diffs/{at}')
+        if at in (1, 2, 4, 6):
+            yield f'a late revision under {at} Differentials of 15 MB', restore.take(copy(store, restore.at('moved')), f'{heavy}/revision')
+
+
+def receipts(release, restore):
+    """What receipts add to a report and to an arrival."""
+    small = f'{release}/small'
+    for count in (0, 10_000, 50_000):
+        store = restore.fresh('many', f'{small}/manifest.csv')
+        restore.take(store, f'{small}/full')
+        with contextlib.closing(sqlite3.connect(store)) as database, database:
+            # The receipt of the Full, under other numbers.
+            database.executemany('insert into receipt select ?, ?, digest, verdict, fault, row, 1, orphans from receipt where receipt = 1',
+                                 ((2 + at, f'again{at}') for at in range(count)))
+        yield f'GET /status with {count} receipts, from the second on', restore.asked_again(store, '/status')[1]
+        yield '  PUT of a small Differential, 500 listed rows', restore.put_each(store, f'{small}/puts')
+        yield '  GET /gaps with 501 places, from the second on', restore.asked_again(store, '/gaps')[1]
 
 
 def socket(release, restore):
@@ -102,7 +129,7 @@ def adopted(release, restore):
             sys.exit('bench: the gaps after the amendment are others than where all was listed')
 
 
-PARTS = {it.__name__: it for it in (fulls, days, socket, chain, adopted)}
+PARTS = {it.__name__: it for it in (fulls, days, moves, socket, receipts, chain, adopted)}
 
 
 def tell(task, uses):

@@ -4,6 +4,7 @@ from dataclasses import dataclass
 
 sys.path.append(f'{sys.path[0]}/../tests')
 from support import TOP
+from support.files import read
 from support.sockets import HOST, free_port
 from support.stores import copy
 
@@ -72,17 +73,28 @@ class Program:
             sys.exit(f'{self.path}: the desk does not listen')
         return child, port, lambda: self.ended(child, words, begun)
 
-    def status_of(self, store):
-        """Asks a desk over a store for its status, again and again: the processor time of the first response, the mean of the others,
+    def asked_again(self, store, path):
+        """Asks a desk over a store for a report, again and again: the processor time of the first response, the mean of the others,
         and what the run used."""
-        asked = 51
-        child, port, ended = self.serve(store, asked + 1)
+        clock, use = self.answered(store, [('GET', path, None)] * 52)
+        return Use(0, clock[1] - clock[0], use.memory), Use(0, (clock[-1] - clock[1]) / (len(clock) - 2), use.memory)
+
+    def put_each(self, store, folder):
+        """PUTs the files of a folder to a desk over a store, in order: the mean processor time of a request."""
+        names = sorted(os.listdir(folder))
+        clock, use = self.answered(store, [('PUT', f'/arrivals/{it}', read(f'{folder}/{it}')) for it in names])
+        return Use(0, (clock[-1] - clock[0]) / (len(clock) - 1), use.memory)
+
+    def answered(self, store, requests):
+        """The processor time of a desk over a store before these requests and after each but the last one, with which it ends; and
+        what the run used."""
+        child, port, ended = self.serve(store, len(requests))
         clock = [spent(child)]
-        for _ in range(asked):
-            ask(port, 'GET', '/status')
+        for request in requests[:-1]:
+            ask(port, *request)
             clock.append(spent(child))
-        ask(port, 'GET', '/status')
-        return clock[1] - clock[0], (clock[-1] - clock[1]) / (asked - 1), ended()
+        ask(port, *requests[-1])
+        return clock, ended()
 
 
 def made_release(folder):
