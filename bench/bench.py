@@ -4,10 +4,10 @@
 Makes a large release (seeded: every run has the same bytes) and lets the program do each task: takes of Fulls, of Differentials, of
 a late revision, of an Incremental and of repeats; each report and two exports; a late revision under six Differentials of 15 MB;
 a desk on a socket of this machine, and one with 50,000 receipts; a chain of 4,095 tiny Differentials, in order; and bodies that
-no row lists yet, parked and then adopted. It prints for each task the time
-by the clock, the processor time and the peak memory, with a column of these for each PROGRAM (the one that was built in this
-checkout, if none is named), which do each task in turn; and of two the ratio of the second to the first. With --times the least of N
-runs stands there. Beside a Full stands what the C library takes to write the same rows, one a statement (`raw.py`).
+no row lists yet, parked and then adopted. It prints for each task the time by the clock, the processor time and the peak memory,
+with a column of these for each PROGRAM (the one that was built in this checkout, if none is named), which do each task in turn;
+and of two the ratio of the second to the first. With --times the least of N runs stands there. Beside a Full stands what the C
+library takes to write the same rows, one a statement (`raw.py`).
 
 Times of a busy machine say little; the ratios within one run say more."""
 import contextlib, os, shutil, sqlite3, subprocess, sys, tempfile, time
