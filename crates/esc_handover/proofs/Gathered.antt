@@ -1,13 +1,12 @@
 -- Names are gathered, and lines written, from one row after another.
-use Rattle.std.proofs.Common.{◌≡◌, ℕ, ◌+◌, ◌<◌, true, false, List, [], ◌∷◌, ◌++◌, length, get_or, take, drop, map, refl, sym, ap, ◌∙◌}
-use Rattle.std.specs.List.{filter, flat_map, fold}
+use Rattle.std.proofs.Common.{◌≡◌, ℕ, ◌+◌, ◌<◌, List, [], ◌∷◌, ◌++◌, length, get_or, take, drop, map, refl, sym, ap, ◌∙◌}
+use Rattle.std.specs.List.{flat_map, fold}
 use Rattle.std.proofs.lemmas.List.{drop_more}
 use Rattle.std.proofs.lemmas.List.Sums.{fold-append}
 use Rattle.esc_tables.specs.KeyName.{KeyName}
 use Rattle.esc_tables.specs.ObjectValue.{RowValue}
 use Rattle.esc_apply.specs.ObjectStreams.{Entry}
 use Rattle.esc_csv.specs.Lines.{Line, line_text, text_of}
-use Rattle.esc_check.specs.Export.{is_in}
 use Rattle.esc_handover.specs.Layouts.{TableNameValue, LayoutValue, row_fields, row_line, fields_in, columns_of, layout_of}
 use Rattle.esc_handover.specs.Gathering.{with_name, with_names, bare, with_fields, finished}
 use Rattle.esc_handover.proofs.Names.{once_each}
@@ -27,16 +26,6 @@ names_added old new whole left piece rest parts known wrote =
 -- the first of the rows that are left, and the others
 pub next_row : (rows : List RowValue) (i : ℕ) (x : RowValue) → i < length rows → x ≡ get_or rows i x → drop i rows ≡ x ∷ drop (i + 1) rows
 next_row rows i x within is = drop_more rows i x within ∙ ap (λ (y : RowValue). y ∷ drop (i + 1) rows) (sym is)
-
--- of the rows that are left, the first one has this name
-pub named_row : (name : List ℕ) (rows : List RowValue) (i : ℕ) (x : RowValue) → i < length rows → x ≡ get_or rows i x → is_in name x ≡ true
-    → filter (is_in name) (drop i rows) ≡ x ∷ filter (is_in name) (drop (i + 1) rows)
-named_row name rows i x within is named = ap (filter (is_in name)) (next_row rows i x within is) ∙ rw named refl
-
--- of the rows that are left, the first one has another name
-pub other_row : (name : List ℕ) (rows : List RowValue) (i : ℕ) (x : RowValue) → i < length rows → x ≡ get_or rows i x → is_in name x ≡ false
-    → filter (is_in name) (drop i rows) ≡ filter (is_in name) (drop (i + 1) rows)
-other_row name rows i x within is other = ap (filter (is_in name)) (next_row rows i x within is) ∙ rw other refl
 
 -- a table has the fields of the first object that is left, and then those of the others
 pub object_finished : (e : Entry) (es : List Entry) (l : LayoutValue) → finished es (with_fields e l) ≡ finished (e ∷ es) l

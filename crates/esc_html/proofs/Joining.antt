@@ -1,5 +1,5 @@
 -- Markup after markup is markup, and so is an element around it.
-use Rattle.std.proofs.Common.{◌≡◌, ℕ, List, [], ◌++◌, Option, Some, None, refl, sym, ap, ap₂, ◌∙◌, subst, append_assoc, append-nil, arith}
+use Rattle.std.proofs.Common.{◌≡◌, ℕ, List, ◌++◌, Option, Some, None, refl, sym, ap, ap₂, ◌∙◌, subst, append_assoc, append-nil, arith}
 use Rattle.std.specs.Prelude.{IfSome, option_map}
 use Rattle.std.proofs.lemmas.Option.{same_Some}
 use Rattle.esc_html.specs.declared.tag.Tag.{Tag}
@@ -23,10 +23,6 @@ written-join (element tag attributes inside rest) n =
 
 both : (a b : List ℕ) → IsMarkup a → IsMarkup b → IsMarkup (a ++ b)
 both a b m n = (join m.0 n.0, written-join m.0 n.0 ∙ ap₂ (λ (x y : List ℕ). x ++ y) m.1 n.1)
-
--- nothing is markup
-pub empty_markup : IsMarkup []
-empty_markup = (nothing, refl)
 
 -- an escaped text is markup
 pub text_markup : (t : List ℕ) → IsMarkup (escaped t)

@@ -1,6 +1,6 @@
 -- What is gathered of the elements so far, with one more.
-use Rattle.std.proofs.Common.{◌≡◌, ℕ, ◌+◌, ◌<◌, ◌≤◌, List, [], ◌∷◌, ◌++◌, length, take, drop, get_or, filter_map, Option, Some, None, sym, ap, ◌∙◌}
-use Rattle.std.proofs.lemmas.List.{take_more, take_all, take-append-drop, append-nil}
+use Rattle.std.proofs.Common.{◌≡◌, ℕ, ◌+◌, ◌<◌, List, [], ◌∷◌, ◌++◌, length, take, drop, get_or, filter_map, Option, Some, None, sym, ap, ◌∙◌}
+use Rattle.std.proofs.lemmas.List.{take_more, take-append-drop, append-nil}
 use Rattle.std.proofs.lemmas.List.Elements.{filter_map-append}
 use Rattle.esc_csv.specs.Lines.{Line}
 use Rattle.esc_pack.specs.Describing.{first}
@@ -17,11 +17,6 @@ module _ {A B : Type 0} (f : A → Option B) (xs : List A) (i : ℕ) (x d : A) (
   -- another one adds nothing
   pub none_added : None ≡ f x → filter_map f (take (i + 1) xs) ≡ filter_map f (take i xs)
   none_added made = let whole = one_more in (rw (sym made) at whole) ∙ append-nil (filter_map f (take i xs))
-
--- what is gathered of all of them
-pub all_gathered : {A B : Type 0} (f : A → Option B) (xs : List A) (i : ℕ) → length xs ≤ i
-    → filter_map f (take i xs) ≡ filter_map f xs
-all_gathered f xs i all = ap (filter_map f) (take_all i xs all)
 
 -- the first one of which something is made
 pub first_made : {A : Type 0} (f : A → Option Line) (xs : List A) (i : ℕ) (x : A) (y : Line) → i < length xs → x ≡ get_or xs i x

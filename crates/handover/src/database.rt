@@ -47,30 +47,21 @@ impl<E, T: Drop> From<AllocFailed<T>> for FillFault<E> {
 }
 
 // A name between double quotes, which stand twice within.
-fn push_name(text: &mut String, name: &str) -> Result<(), NoMemory> {
-    text.push_str("\"")?;
-    for letter in name.chars() {
-        if letter == '"' {
-            text.push_str("\"")?;
-        }
-        text.push(letter)?;
-    }
-    text.push_str("\"")?;
-    Ok(())
+fn quoted(alloc: Global, name: &str) -> Result<String, NoMemory> {
+    let doubled = name.replace(alloc, '"', "\"\"")?;
+    Ok(format!(in alloc; "\"{doubled}\"")?)
 }
 
 // The statement that makes a table. The key of parent rows is the table's.
 fn table_text(alloc: Global, layout: &Layout) -> Result<String, NoMemory> {
-    let mut text = String::from_str(alloc, "CREATE TABLE ")?;
-    push_name(&mut text, layout.table.text())?;
-    text.push_str(" (\"key\" TEXT NOT NULL")?;
+    let table = quoted(alloc, layout.table.text())?;
+    let mut text = format!(in alloc; "CREATE TABLE {table} (\"key\" TEXT NOT NULL")?;
     if layout.table.child.is_none() {
         text.push_str(" PRIMARY KEY")?;
     }
     for column in &layout.columns {
-        text.push_str(", ")?;
-        push_name(&mut text, column.as_str())?;
-        text.push_str(" TEXT")?;
+        let column = quoted(alloc, column.as_str())?;
+        text.push_str(format!(in alloc; ", {column} TEXT")?.as_str())?;
     }
     text.push_str(")")?;
     Ok(text)
@@ -78,13 +69,11 @@ fn table_text(alloc: Global, layout: &Layout) -> Result<String, NoMemory> {
 
 // The statement that adds a row to a table.
 fn row_text(alloc: Global, layout: &Layout) -> Result<String, NoMemory> {
-    let mut text = String::from_str(alloc, "INSERT INTO ")?;
-    push_name(&mut text, layout.table.text())?;
-    text.push_str(" VALUES (?1")?;
+    let table = quoted(alloc, layout.table.text())?;
+    let mut text = format!(in alloc; "INSERT INTO {table} VALUES (?1")?;
     for at in 0..layout.columns.len() {
         let number = at.saturating_add(2);
-        let place = format!(in alloc; ", ?{number}")?;
-        text.push_str(place.as_str())?;
+        text.push_str(format!(in alloc; ", ?{number}")?.as_str())?;
     }
     text.push_str(")")?;
     Ok(text)
@@ -92,13 +81,9 @@ fn row_text(alloc: Global, layout: &Layout) -> Result<String, NoMemory> {
 
 // The statement that makes the index over the keys of child rows. No table has a point in its name.
 fn index_text(alloc: Global, name: &str) -> Result<String, NoMemory> {
-    let mut text = String::from_str(alloc, "CREATE INDEX ")?;
-    let index = format!(in alloc; "{name}.key")?;
-    push_name(&mut text, index.as_str())?;
-    text.push_str(" ON ")?;
-    push_name(&mut text, name)?;
-    text.push_str(" (\"key\")")?;
-    Ok(text)
+    let index = quoted(alloc, format!(in alloc; "{name}.key")?.as_str())?;
+    let table = quoted(alloc, name)?;
+    Ok(format!(in alloc; "CREATE INDEX {index} ON {table} (\"key\")")?)
 }
 
 // The values of a row. A field that the row doesn't have is NULL.
