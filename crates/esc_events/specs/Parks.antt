@@ -1,7 +1,6 @@
--- Whether a body that no row lists is to be parked, what is kept then, and all parked bodies.
-use Rattle.std.specs.Prelude.{◌≡◌, ℕ, List, length, map, All, Option, Some, None, IsSome}
-use Rattle.esc_store.specs.StoreState.{StoreState, IsFull, AreParked, with_parked}
-use Rattle.esc_events.specs.declared.parked.ParkedBody.{ParkedBody}
+-- Whether a body that no row lists is to be parked, and what is kept then.
+use Rattle.std.specs.Prelude.{◌≡◌, ℕ, List, Option, Some, None, IsSome}
+use Rattle.esc_store.specs.StoreState.{StoreState, IsFull, with_parked}
 use Rattle.esc_events.specs.declared.parking.Parking.{Parking}
 use Rattle.esc_events.specs.declared.parking.Parking.TheVariants.{Needless, Free, Crowded}
 
@@ -17,13 +16,3 @@ abbrev pub with_parking : StoreState → List ℕ → Parking → List ℕ → S
 with_parking k digest Needless body = k
 with_parking k digest Free body = with_parked k digest (Some body)
 with_parking k digest Crowded body = k
-
--- a body is parked under this digest, and has this number of bytes
-abbrev pub IsParkedBody : (List ℕ → Option (List ℕ)) → ParkedBody → Type 0
-IsParkedBody parked p = (body : List ℕ) × (parked p.digest ≡ Some body) × (p.bytes ≡ length body)
-
--- these are the bodies that are parked, in the order of their digests
-pub record AreParkedBodies (parked : List ℕ → Option (List ℕ))
-    (bodies : List ParkedBody) : Type 0 where
-  pub digests : AreParked parked (map (λ (p : ParkedBody). p.digest) bodies)
-  pub each : All (IsParkedBody parked) bodies

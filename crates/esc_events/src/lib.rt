@@ -25,10 +25,10 @@
 //! - the chain is the latest one of the held rows whose last deposit is not later than the moment
 //!   that is set (`IsChainOf`), and the tables are those of its deposits.
 //!
-//! `IsStateAfter` says all of this of what a store keeps. Which body is held or parked under a digest
-//! is fixed only if no two different bodies that count have the same digest (`IsApart`). In any case
-//! each body that is held did come and is the row's deposit, each that is parked did come (`came`,
-//! `waits`), and a receipt accounts for it (`held_told`, `parked_told`).
+//! `IsStateAfter` says all of this of what a store keeps. Which body is held or parked under a
+//! digest is fixed only if no two different bodies that count have the same digest (`IsApart`). In
+//! any case each body that is held did come and is the row's deposit, each that is parked did come
+//! (`came`, `waits`), and a receipt accounts for it (`held_told`, `parked_told`).
 //!
 //! # What is promised
 //!
@@ -48,12 +48,11 @@
 
 mod assessment;
 mod cache;
-mod parked;
 mod parking;
 mod plan;
 
 pub use assessment::Assessment;
 pub use cache::Cache;
-pub use parked::ParkedBody;
+pub use esc_store::ParkedBody;
 pub use parking::Parking;
 pub use plan::Plan;

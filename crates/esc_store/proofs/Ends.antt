@@ -1,5 +1,5 @@
 -- The beginning and the ends of a change.
-use Rattle.esc_store.proofs.Common.{◌≡◌, inl, inr, true, false, true≢false, List, Option, sym, ap, subst, ◌∙◌, IsTrue, Result, Ok, Err, OnErr, IsErr, cases_Bool, Trees, Database, HasCleanDisk, Survives, KeepsCommit, IsUnchanged, Shows, survives_weaker, survives_then, MRow}
+use Rattle.esc_store.proofs.Common.{◌≡◌, inl, inr, true, false, true≢false, List, sym, ap, subst, ◌∙◌, IsTrue, Result, Ok, Err, OnErr, IsErr, cases_Bool, Trees, Database, HasCleanDisk, Survives, KeepsCommit, IsUnchanged, Shows, survives_weaker, survives_then, MRow}
 use Rattle.esc_store.proofs.Common.{Content, HoldsContent, content_is, content_in, Remembered, IsRemembered, nothing_read, StoreState, IsBooks, IsRegistry, IsStoreDatabase, HoldsTables, IsAtRest, IsAtRestIfClean, IsStanding, IsBegun, IsMade, IsUnderWay, was_clean, IsSettled, IsStore}
 use Rattle.esc_store.proofs.Common.{ConnState as State, State as Tables}
 use Rattle.std.proofs.Common.{rules}

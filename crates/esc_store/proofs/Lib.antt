@@ -10,6 +10,9 @@ pub mod Manifests
 pub mod OpeningLemmas
 pub mod Parts
 pub mod Reading
+pub mod Readers
+pub mod ReaderRows
+pub mod ReaderKeys
 pub mod Registries
 pub mod Sure
 pub mod Paging

@@ -9,14 +9,8 @@ use Rattle.esc_store.specs.FirstVersion.{IsFirstAtRest, IsFirstStore, IsOfFirstV
 use Rattle.esc_store.specs.StoreTables.{IsOfVersion}
 use Rattle.esc_store.proofs.Ends.{none_remembered, still_stands, unchanged_settled}
 use Rattle.std.proofs.Common.{inl, inr, Result, Err, IfErr}
-use Rattle.sqlite_schema.specs.declared.schema.Schema.{Schema}
 use Rattle.sqlite_trees.specs.declared.store.Store.{Ghosts}
 use Rattle.sqlite.specs.Held.{Held, state}
-use Rattle.esc_sql.specs.Schema.{no_schema}
-use Rattle.esc_store.specs.declared.fault.SFault.{SFault}
-use Rattle.esc_store.specs.declared.fault.SFault.TheVariants.{S1, S3}
-use Rattle.esc_store.specs.Faults.{IsS1OrS2, IsS1ToS3}
-use Rattle.esc_store.specs.Opening.{IsOpeningFault, IsFoundingFault}
 use Rattle.esc_store.specs.Representation.{LeavesOr}
 
 -- a database whose last commit is a store of a version has its tables
@@ -25,16 +19,16 @@ pub tables_refused : (Has : Trees → Content → Type 0) (content : Trees → C
 tables_refused Has content {now = now} found same lacks up stored =
     let yes = (found up (content now.trees) (subst (λ (db : Database). Has db.trees (content db.trees)) (sym same) stored)).0 in cc
 
+pub differ : {n : ℤ} (v : Option ℤ) → true ≡ not (option_eq int_eq v (Some n)) → option_map Int v ≡ Some (Int n) → ⊥
+differ None other is = let no : ⊥ = cc in no
+differ {n} (Some m) other is = let e : m ≡ n = cc in true≢false (rw ((Decides-int_eq m n).1 e) at other)
+
 -- and the version
 pub version_refused : (version : Option ℤ) {n : ℤ} {row : Row} {now committed : Database} → now ≡ committed → TellsVersion now version → IsOfSomeVersion now.schema → committed.trees info_tree ≡ row ∷ [] → column row 2 ≡ Int n
     → true ≡ not (option_eq int_eq version (Some n)) → ⊥
 version_refused version {n} {row} {now} same tells some info is other = differ version other (tells some (rw here (omega arith)) ∙ (ap (λ (rows : List Row). option_map (λ (r : Row). column r 2) (slice_get rows 0)) here ∙ ap Some is)) where
   here : now.trees info_tree ≡ row ∷ []
   here = ap (λ (db : Database). db.trees info_tree) same ∙ info
-
-  differ : (v : Option ℤ) → true ≡ not (option_eq int_eq v (Some n)) → option_map Int v ≡ Some (Int n) → ⊥
-  differ None other is = let no : ⊥ = cc in no
-  differ (Some m) other is = let e : m ≡ n = cc in true≢false (rw ((Decides-int_eq m n).1 e) at other)
 
 -- what a call that asks whether no transaction is on makes known where none is
 pub at_rest : {b on : Bool} {P : Type 0} → b ≡ not on → (IsTrue b → P) → IsTrue b → (on ≡ false) × P
@@ -66,24 +60,6 @@ sees_committed s settled stored clean up = rw (settled.1 up) stored
 -- with its schema, once that was found
 pub tested : {old mid : State} {k : StoreState} → Survives old mid (λ _. ⊥) → (HasCleanDisk mid → IsUnchanged old mid × IsOfFirstVersion old.now) → SeesFirst old k → HasCleanDisk mid → IsFirstDatabase mid.now k
 tested survives version sees clean = let it = version clean in rw it.0.0.now_is (record { schema = it.1.schema; kept = sees (was_clean survives clean) it.0.0.was_open })
-
--- ---- why a database is not opened or made a store
-
--- a call that answers one of three faults, and S1 only where it tested the tables
-pub opening_fault : {tables : Schema} {s : State} {fault : SFault} → IsS1ToS3 fault → (fault ≡ S1 → s.now.schema ≡ tables) → IsOpeningFault tables s fault
-opening_fault kinds tested = record { kinds = kinds; tested = λ is. inr (tested is) }
-
--- in a transaction it answers S1
-pub busy_fault : {tables : Schema} {s : State} → true ≡ not (not s.in_transaction) → IsOpeningFault tables s S1
-busy_fault busy = record { kinds = inr (inl refl); tested = λ _. inl (grind arith) }
-
--- where there was nothing, it fails by S1 or S2
-pub founding_fault : {db : Database} {fault : SFault} → db.schema ≡ no_schema → IsS1OrS2 fault → IsFoundingFault db fault
-founding_fault unused kinds = record { kinds = inr kinds; unused = λ _. unused; used = λ is. absurd (elim kinds [ inl s1 ↦ cc | inr s2 ↦ cc ]) }
-
--- and where there was something, by S3
-pub used_fault : {db : Database} → (db.schema ≡ no_schema → ⊥) → IsFoundingFault db S3
-used_fault used = record { kinds = inl refl; unused = λ is. cc; used = λ _. used }
 
 -- what a crash leaves of a store of version 1 that was just opened
 pub first_or : {S : Type 0} (g : Ghosts S) → ((s : S) (trees : Trees) → IsTrue (g.view s).is_open → g.recovers s trees → trees ≡ (g.view s).committed) → (old new : Held S) (k : StoreState)

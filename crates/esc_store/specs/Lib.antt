@@ -6,11 +6,15 @@ pub mod StoreState
 pub mod Holding
 pub mod Opening
 pub mod Pages
+pub mod Parks
+pub mod Reading
+pub mod ReadingLaws
 pub mod Remembered
 pub mod ReplyValue
 pub mod Representation
 pub mod ChangeParts
 pub mod StoreTables
+pub mod TableKeys
 pub mod TypedRows
 pub mod StandingLaws
 pub mod ResultLaws

@@ -19,7 +19,8 @@ pub enum SFault {
     /// Out of memory, here or in the database.
     S2,
     /// `create`: the database has a table, an index or a view. `open`: it is no store of this
-    /// version. `migrate`: it is no store of version 1.
+    /// version. `from_trees`: the trees have another version or none. `migrate`: it is no store of
+    /// version 1.
     S3,
     /// The store has 1,000,000,000 receipts, so there is no room for one more.
     S4,

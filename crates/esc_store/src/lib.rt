@@ -14,12 +14,16 @@
 //! failed, `S2` out of memory, `S3` the database is not what the call is for, `S4` no room for a
 //! receipt. `S5`, no room for a parked body, is for the desk above, which counts them.
 //!
+//! A report that reads whole tables needs no connection: a `StoreReader` has a store's trees and
+//! its manifest, and only reads.
+//!
 //! | Module | What it has |
 //! |---|---|
 //! | `store`, `founding`, `opening` | a store, how it is made, and how one is found |
 //! | `migrating` | a store of version 1, which becomes one of this version |
 //! | `reads`, `counts`, `remembered` | what a store returns of what it keeps, and what it remembers of it |
 //! | `held` | which rows a store holds |
+//! | `reader` | receipts, bodies, moment, chain, keys and objects of a store's trees, without SQL |
 //! | `change`, `books` | a change: its receipt, body and chain |
 //! | `registry`, `records`, `filling` | a change as a registry: objects, one or many at a time |
 //! | `parked`, `moment` | parked bodies and the moment: reads, and parts of a change |
@@ -45,23 +49,29 @@
 //!
 //! # What a contract means
 //!
-//! - A `StoreState` (`specs/StoreState.antt`) is what a store keeps. `Represents g store k` says that the store
-//!   keeps exactly k: its database is committed, no transaction is on, and its tables hold the rows
-//!   of k and nothing else. It speaks of stores whose disk gave back what was written (`IsHonest`)
-//!   while their connection is open.
+//! - A `StoreState` (`specs/StoreState.antt`) is what a store keeps. `Represents g store k` says
+//!   that the store keeps exactly k: its database is committed, no transaction is on, and its
+//!   tables hold the rows of k and nothing else. It speaks of stores whose disk gave back what was
+//!   written (`IsHonest`) while their connection is open.
 //! - A read leaves the store as it was (`IsAsBefore`), whatever it returns, and what it returns is
 //!   a function of each k that the store stood for. A store remembers what it read of its receipts
 //!   and its chain, and how many objects of each kind it has, until a change ends: that these are
 //!   k's is part of `Represents`.
-//! - A change that was begun on a store of k has `Began`: nothing is committed. `HasMadeBooks` says what it
-//!   has made of rows, receipts, bodies, parked bodies, moment and chain, and `HasMadeTables` what of
-//!   tables and before-images. `commit` turns `HasMadeBooks` and `HasMadeTables` into `Represents`; at `Err`, and
-//!   where a change is dropped, the store stands for what it stood for. `listed_by` are the rows
-//!   that the store lists once the change is committed.
+//! - `ReaderRepresents g reader k` (`specs/Reading.antt`) says the same of a reader: its trees are
+//!   read as those of a store that keeps k (`AreReadAs`). A read that succeeds leaves it so
+//!   (`IsReadOnly`). The trees of files that hold a store that keeps k are read so
+//!   (`specs/ReadingLaws.antt`).
+//! - A change that was begun on a store of k has `Began`: nothing is committed. `HasMadeBooks` says
+//!   what it has made of rows, receipts, bodies, parked bodies, moment and chain, and
+//!   `HasMadeTables` what of tables and before-images. `commit` turns `HasMadeBooks` and
+//!   `HasMadeTables` into `Represents`; at `Err`, and where a change is dropped, the store stands
+//!   for what it stood for. `listed_by` are the rows that the store lists once the change is
+//!   committed.
 //! - What a crash leaves is in `LeavesOnly`, `LeavesOr` and `LeavesNoMore`.
-//! - Each clause `cause` says which faults a call returns: `S3` comes of `create`, `open` and
-//!   `migrate` alone, and `S4` of `record_receipt` alone, where the store has 1,000,000,000
-//!   receipts. No call of the store returns `S5`, and `park` parks any number of bodies.
+//! - Each clause `cause` says which faults a call returns: `S3` comes of `create`, `open`,
+//!   `migrate` and `from_trees` alone, and `S4` of `record_receipt` alone, where the store has
+//!   1,000,000,000 receipts. No call of the store returns `S5`, and `park` parks any number of
+//!   bodies.
 #![tactic(auto, using(crate::proofs::Survival::survivals))]
 
 mod books;
@@ -79,6 +89,7 @@ mod moment;
 mod numbers;
 mod opening;
 mod parked;
+mod reader;
 mod reads;
 mod records;
 mod registry;
@@ -93,7 +104,9 @@ pub use fault::SFault;
 pub use form::number;
 pub use held::insert_row;
 pub use numbers::{N1, Number};
-pub use parked::MOST_PARKED;
+pub use parked::{MOST_PARKED, ParkedBody};
+pub use reader::StoreReader;
+pub use reader::objects::TableKey;
 pub use reads::MOST_ON_PAGE;
 pub use reply::{Receipt, Reply, Verdict};
 pub use store::Store;

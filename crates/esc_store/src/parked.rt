@@ -40,6 +40,15 @@ use std::alloc::Global;
 /// The most bodies that may be parked. The desk tests it: `park` parks any number.
 pub const MOST_PARKED: usize = 1024;
 
+/// A body that is parked, since no row lists it.
+#[derive(Clone, Copy, Debug)]
+pub struct ParkedBody {
+    /// Its SHA-256.
+    pub digest: [u8; 32],
+    /// Its length in bytes.
+    pub bytes: u64,
+}
+
 impl<S: Alter> Store<S> {
     // The body that is parked under a digest, if one is.
     #[tactic(auto, using(crate::proofs::Sure::read_here))]
@@ -129,8 +138,9 @@ impl<'a, S: Alter> Change<'a, S> {
         self.store.settle(found)
     }
 
-    /// Moves the body that is parked under a SHA-256 to a listed row: it is the row's body then, and
-    /// is parked no more. `S1`, also if none is parked under it or the row has a body already; `S2`.
+    /// Moves the body that is parked under a SHA-256 to a listed row: it is the row's body then,
+    /// and is parked no more. `S1`, also if none is parked under it or the row has a body already;
+    /// `S2`.
     pub fn adopt(&mut self, row: usize, digest: &[u8; 32]) -> Result<(), SFault>
         ensures part { IsChangePart S.Store self.old self.new result
             (λ k. with_adopted k row digest.now (k.parked digest.now)) }

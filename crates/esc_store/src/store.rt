@@ -236,8 +236,8 @@ impl<S: Alter> Store<S> {
             → HasMadeBooksIn S.Store self.old listing before (with_registry k s)
             → HasMadeTablesIn S.Store self.old k.registry
             → LeavesOr S.Store self.old.conn self.new.conn k }
-        ensures left { OnOk result ((listing : Option (List MRow)) (before k : StoreState) (s : State)
-            → HasMadeBooksIn S.Store self.old listing before (with_registry k s)
+        ensures left { OnOk result ((listing : Option (List MRow)) (before k : StoreState)
+            (s : State) → HasMadeBooksIn S.Store self.old listing before (with_registry k s)
             → HasMadeTablesIn S.Store self.old k.registry → LeavesOnly S.Store self.new k) }
         ensures cause { IfErr result IsS1OrS2 }
     {

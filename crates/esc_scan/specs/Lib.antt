@@ -1,0 +1,10 @@
+pub mod Scanning
+pub mod ScannedStore
+pub mod Bodies
+pub mod Kinds
+pub mod ObjectKeys
+pub mod Moments
+pub mod Versions
+pub mod Numbers
+pub mod Reads
+pub mod Opening

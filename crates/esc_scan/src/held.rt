@@ -1,0 +1,91 @@
+//! The table of held bodies.
+
+ghost use Rattle.std.specs.Prelude.{◌≡◌, map, option_map};
+ghost use Rattle.sqlite_trees.specs.View.{IsClean};
+ghost use Rattle.esc_sql.specs.StoreTable.{Held};
+ghost use Rattle.esc_sql.specs.Changes.{body_of};
+ghost use Rattle.esc_scan.specs.Scanning.{ReadsRow, IsScan};
+ghost use Rattle.esc_scan.specs.Bodies.{
+  body_read,
+  body_of_row,
+  held_bytes,
+  index_read,
+  index_of_row,
+};
+
+use crate::cursor::{read_all, read_at};
+use crate::rows::{FromEntry, ScanError, value_at};
+use sqlite_trees::store::{Shape, Store};
+use sqlite_value::row::Row;
+use std::alloc::Global;
+
+/// The number of the table's tree.
+pub const HELD_TREE: u32 = 6;
+
+/// A held body: the index of the manifest's row, from 0, and the bytes.
+#[derive(Debug, Drop)]
+pub struct HeldBody {
+    pub row: u32,
+    pub body: Vec<u8>,
+}
+
+impl FromEntry for HeldBody {
+    ghost is_read = { ReadsRow Held body_read body_of_row };
+
+    fn from_entry(alloc: Global, row: &Row) -> Result<HeldBody, ScanError> {
+        Ok(HeldBody {
+            row: value_at(alloc, row, 0)?,
+            body: value_at(alloc, row, 2)?,
+        })
+    }
+}
+
+/// A row of the manifest that has a body: its index, from 0.
+#[derive(Clone, Copy, Debug)]
+pub struct HeldIndex {
+    pub row: u32,
+}
+
+impl FromEntry for HeldIndex {
+    ghost is_read = { ReadsRow Held index_read index_of_row };
+
+    fn from_entry(alloc: Global, row: &Row) -> Result<HeldIndex, ScanError> {
+        Ok(HeldIndex {
+            row: value_at(alloc, row, 0)?,
+        })
+    }
+}
+
+/// The rows of the manifest that have a body, in the order of their indices. Each body is read, one
+/// at a time, and none is kept.
+pub fn all_held<S: Store>(alloc: Global, store: &mut S) -> Result<Vec<HeldIndex>, ScanError>
+    ensures read { IsScan S.Store store.old store.new
+        (λ c found. map index_read found.items ≡ map index_of_row c.held) result }
+{
+    read_all(alloc, store, HELD_TREE)
+}
+
+// The bytes of a held body, if there is one.
+fn bytes_in(found: Option<HeldBody>) -> Option<Vec<u8>>
+    ensures { option_map (λ b. b.items) result ≡ option_map held_bytes found }
+{
+    match found {
+        Some(HeldBody { row: _, body }) => Some(body),
+        None => None,
+    }
+}
+
+/// The body of the row with this index, from 0, if it is held. No other body is read.
+pub fn find_body<S: Store>(
+    alloc: Global,
+    store: &mut S,
+    row: u32,
+) -> Result<Option<Vec<u8>>, ScanError>
+    requires { IsClean (S.Store.view store.old)
+        → (S.Store.view store.old).shape HELD_TREE ≡ Shape.Table }
+    ensures read { IsScan S.Store store.old store.new
+        (λ c found. option_map (λ b. b.items) found ≡ body_of row c.held) result }
+{
+    let found = read_at(alloc, store, HELD_TREE, i64::from(row))?;
+    Ok(bytes_in(found))
+}

@@ -1,0 +1,56 @@
+//! Reads of a store's tables without SQL: row by row, in the order of rowids.
+//!
+//! # What it is for
+//!
+//! A report reads whole tables and writes nothing. A cursor at the table's tree gives it the rows
+//! one after the other, with no plan of a query and no sort. `esc_sql` knows the same tables by
+//! SQL: it says what their rows are, and this crate reads them.
+//!
+//! # What goes in and out
+//!
+//! In: a store of trees of any kind (`S: Store`). Out: `esc_sql`'s rows as Rust values (`Receipt`,
+//! `Listed`, `ChainStep`, `StoredObject`), or a part of a row where the rest isn't asked for
+//! (`HeldIndex`, `ParkedSize`, `ObjectKind`, `ObjectKey`, `ReceiptNumber`). A failure is a
+//! `ScanError`: the store's, out of memory among them, or a row that is none of its table.
+//!
+//! | Module | What it has |
+//! |---|---|
+//! | `cursor` | a scan of a table, one row or one value at a time |
+//! | `rows` | how a row is read as a value |
+//! | `version`, `listed`, `receipt`, `held`, `step`, `object`, `parked`, `moment` | reads of each table |
+//! | `opening` | the trees of a store's two files, without an audit of their rows |
+//!
+//! # An example
+//!
+//! Each body is read over the last one, so no more than the largest is in memory.
+//!
+//! ```text
+//! fn longest_parked<S: Store>(alloc: Global, store: &mut S) -> Result<u64, ScanError> {
+//!     let bodies = all_parked(alloc, store)?;
+//!     Ok(bodies.iter().map(|body| body.size).max().unwrap_or(0))
+//! }
+//! ```
+//!
+//! # What a contract means
+//!
+//! - `HoldsRows trees c` of `esc_sql` says that the trees are those of version 2 with the rows of a
+//!   content `c`. It is the premise of each read; `find_version` also says what version other trees
+//!   have.
+//! - A read has one clause, `read`: `IsScan S.Store old new Says result`. Where the call succeeds and
+//!   the disk has answered truly, `Says` holds of the content and the result, and nothing but cursors
+//!   has moved. In every case nothing is committed, and a crash leaves nothing new.
+//! - A scan's clauses speak of the rows that its cursor has left (`left_of`): all of the tree's at
+//!   the start, and at each step all but the first of those before.
+#![tactic(auto)]
+
+mod cursor;
+pub mod held;
+pub mod listed;
+pub mod moment;
+pub mod object;
+pub mod opening;
+pub mod parked;
+pub mod receipt;
+pub mod rows;
+pub mod step;
+pub mod version;
