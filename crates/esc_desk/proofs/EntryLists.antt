@@ -136,7 +136,7 @@ turned : (a b : KeyName) (o : Ordering) → key_cmp a b ≡ o → key_cmp b a �
 turned a b o e = keys_total.antisymm b a ∙ ap ordering_reverse e
 
 -- nothing is found of a key below all
-none_above : (q : KeyName) (es : List Entry) → AreAbove q es → lookup (key_eq q) es ≡ None
+pub none_above : (q : KeyName) (es : List Entry) → AreAbove q es → lookup (key_eq q) es ≡ None
 none_above q [] all = refl
 none_above q (e ∷ es) all = rw all.0 (none_above q es all.1)
 
@@ -145,7 +145,7 @@ below_rest k q [] low all = tt
 below_rest k q (f ∷ es) low all = (keys_total.trans k q f.0 low all.0, below_rest k q es low all.1)
 
 -- what is found at the first key
-first_found : (e : Entry) (es : List Entry) → lookup (key_eq e.0) (e ∷ es) ≡ Some e.1
+pub first_found : (e : Entry) (es : List Entry) → lookup (key_eq e.0) (e ∷ es) ≡ Some e.1
 first_found e es = rw (key_itself e.0) refl
 
 abbrev SameLookups : List Entry → List Entry → Type 0

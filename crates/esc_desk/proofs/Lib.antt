@@ -36,6 +36,8 @@ pub mod OneArrival
 pub mod ParkedDigests
 pub mod PlanLemmas
 pub mod ReadLemmas
+pub mod ReaderLemmas
+pub mod ReaderWalks
 pub mod RunLemmas
 pub mod SameHeld
 pub mod SameRows

@@ -35,7 +35,8 @@ use Rattle.esc_manifest.specs.declared.row.MRow.{MRow}
 use Rattle.esc_apply.specs.declared.front.Step.{Step}
 use Rattle.esc_apply.specs.Registry.{State, Content, IsEntriesOf}
 use Rattle.esc_apply.specs.Tables.{tables}
-use Rattle.esc_store.specs.StoreState.{StoreState, kept_chain, step_at, AreHeld}
+use Rattle.esc_store.specs.StoreState.{StoreState, kept_chain, step_at, AreHeld, AreCounts}
+use Rattle.esc_store.specs.ReplyValue.{ReceiptValue}
 use Rattle.esc_store.specs.declared.store.Store.{Store}
 use Rattle.esc_store.specs.Representation.{IsAsBefore}
 use Rattle.esc_store.specs.StandingLaws.{as_before_then}
@@ -48,11 +49,12 @@ use Rattle.esc_desk.proofs.Moving.{chain_of}
 use Rattle.esc_desk.proofs.MovingLemmas.{same_deposits}
 use Rattle.esc_desk.specs.declared.desk.Desk.{Desk}
 use Rattle.esc_desk.specs.declared.status.End.{End}
+use Rattle.esc_desk.specs.declared.status.Status.{Status}
 use Rattle.esc_desk.specs.Calls.{IsUnchangedDesk}
 use Rattle.esc_desk.proofs.StoreFacts.{still_stays}
-use Rattle.esc_events.specs.declared.parked.ParkedBody.{ParkedBody}
-use Rattle.esc_events.specs.Parks.{AreParkedBodies}
-use Rattle.esc_desk.specs.Reads.{last, AreHeldRows, AreParkedOf, SaysEnd, IsEndAt, IsEnd}
+use Rattle.esc_store.specs.declared.parked.ParkedBody.{ParkedBody}
+use Rattle.esc_store.specs.Parks.{AreParkedBodies}
+use Rattle.esc_desk.specs.Reads.{last, AreHeldRows, AreParkedOf, SaysEnd, IsEndAt, IsEnd, IsStatus}
 
 -- a desk whose store was read, and that remembers what it did
 pub read_stays : {S : Type 0} (g : Ghosts S) (old : Desk S) (store : Store S) → IsAsBefore g old.store store
@@ -110,6 +112,25 @@ module _ (e : List EventValue) (k : StoreState) (stood : IsStateAfter sha256 rea
   -- the steps of a store are those of its chain
   pub same_chain : (steps : List Step) → steps ≡ kept_chain k → steps ≡ map (step_at (union e)) k.steps
   same_chain steps are = are ∙ ap (λ (x : List MRow). map (step_at x) k.steps) stood.books.listed
+
+  -- the numbers of what a store keeps, by its held rows and the steps of its chain
+  pub same_status : (status : Status) (rows : List ℕ) (steps : List Step) → AreHeld k.bodies rows → steps ≡ kept_chain k
+      → status.listed ≡ length k.listed → status.receipts ≡ length k.receipts → status.held ≡ length rows → status.chain ≡ length steps
+      → status.end ≡ option_map (λ (s : Step). (s.place, s.resend)) (last steps) → AreCounts k.registry.content status.objects.entries → IsStatus e status
+  same_status status rows steps held are listed receipts held_count step_count end counts = record {
+    listed_count = listed ∙ ap (λ (x : List MRow). length x) stood.books.listed;
+    receipt_count = receipts ∙ ap (λ (x : List ReceiptValue). length x) stood.books.receipts;
+    counts = λ apart. record {
+      rows = rows;
+      are_held = same_held rows held apart;
+      chain = k.steps;
+      latest = chain_of e k stood apart;
+      held_count = held_count;
+      step_count = step_count ∙ ap length (same_chain steps are) ∙ length-map k.steps (step_at (union e));
+      end_is = end ∙ ap (λ (x : List Step). option_map (λ (s : Step). (s.place, s.resend)) (last x)) (same_chain steps are);
+      objects_are = subst (λ (f : Content). AreCounts f status.objects.entries) (same_content apart) counts;
+    };
+  }
 
   last_row_is : (steps : List Step) → steps ≡ kept_chain k → option_map (λ (s : Step). s.row) (last steps) ≡ last k.steps
   last_row_is steps are = ap (λ (x : List Step). option_map (λ (s : Step). s.row) (last x)) (same_chain steps are) ∙ last_of_steps (union e) k.steps

@@ -12,9 +12,13 @@ pub mod Laws
 pub mod Lengthening
 pub mod Outcomes
 pub mod Places
+pub mod Readers
+pub mod ReaderLaws
+pub mod ReaderWalks
 pub mod Reads
 pub mod Receiving
 pub mod Running
 pub mod Reflection
+pub mod UnwrittenLaws
 pub mod Walking
 pub mod Worked

@@ -11,6 +11,7 @@ use Rattle.std.specs.Prelude.{
   None,
   option_map,
   slice_get,
+  Ok,
 }
 use Rattle.sha2.specs.Sha256.{sha256}
 use Rattle.esc_tables.specs.DepositValue.{DepositValue}
@@ -18,10 +19,10 @@ use Rattle.esc_tables.specs.Reading.{reading}
 use Rattle.esc_apply.specs.declared.front.Step.{Step}
 use Rattle.esc_store.specs.StoreState.{step_at, AreHeld, AreCounts}
 use Rattle.esc_store.specs.ReplyValue.{ReplyValue, replies_from}
-use Rattle.esc_events.specs.declared.parked.ParkedBody.{ParkedBody}
+use Rattle.esc_store.specs.declared.parked.ParkedBody.{ParkedBody}
 use Rattle.esc_events.specs.Apart.{WhereApart}
 use Rattle.esc_events.specs.Events.{EventValue, union}
-use Rattle.esc_events.specs.Parks.{AreParkedBodies}
+use Rattle.esc_store.specs.Parks.{AreParkedBodies}
 use Rattle.esc_events.specs.LatestTables.{IsChainOf, tables_of}
 use Rattle.esc_events.specs.Receipts.{receipts_of}
 use Rattle.esc_events.specs.StateAfter.{deposit_of, held_body, parked_body}
@@ -36,6 +37,11 @@ last xs = slice_get xs (length xs - 1)
 pub record SaysEnd (d : DepositValue) (end : End) : Type 0 where
   pub watermark : end.watermark ≡ d.header.place.watermark
   pub counts : end.counts.entries ≡ d.counts
+
+-- there is a body, and the end is what its deposit says, if it is one
+abbrev pub SaysOfBody : Option (List ℕ) → End → Type 0
+SaysOfBody body end = (bytes : List ℕ) × (body ≡ Some bytes)
+    × ((d : DepositValue) → reading bytes ≡ Ok d → SaysEnd d end)
 
 module _ (e : List EventValue) where
   -- the replies of the receipts that the events leave

@@ -34,6 +34,12 @@
 //! [`Desk::parked`], [`Desk::moment`], [`Desk::tables`], [`Desk::end`] and [`Desk::writes`].
 //! [`Desk::walk`] gives the objects of the tables one at a time.
 //!
+//! A report that writes nothing needs no desk. A [`DeskReader`] goes over a store's trees
+//! ([`StoreReader`](esc_store::StoreReader)), without SQL, and gives what a desk over that store
+//! would: [`DeskReader::status`], [`DeskReader::receipts`], [`DeskReader::manifest`],
+//! [`DeskReader::held`], [`DeskReader::parked`], [`DeskReader::moment`] and [`DeskReader::end`].
+//! [`DeskReader::walk`] gives the objects of the tables one at a time.
+//!
 //! # Example
 //!
 //! ```text
@@ -86,6 +92,11 @@
 //! as it was. So an arrival that was refused by `S1` (the store failed), `S2` (out of memory), `S4`
 //! (there are 1,000,000,000 receipts) or `S5` (1,024 bodies are parked) is as one that never came,
 //! and runs compose, whatever came before them and however they were cut.
+//!
+//! A reader has words of its own, in `specs/Readers.antt`: `ReaderReflects` says of its store what
+//! `StoreReflects` says of a desk's, and the clauses of its reads are those of the desk's reads,
+//! with `OkForReaderEvents` and `IsUnchangedReader`. After an `Err` nothing is said of what later
+//! reads of that reader return.
 //!
 //! What was answered is kept through a crash. An event is *in doubt* once it was refused by `S1` or
 //! `S2`, until another changes a table: a crash may leave it taken in. The clauses `left` of
@@ -173,6 +184,7 @@ mod moment;
 mod moves;
 mod parking;
 mod plan;
+mod reader;
 mod reads;
 mod receipt;
 mod receiving;
@@ -192,5 +204,7 @@ pub use laws::{
     same_rows_same_tables, stands_for_manifest_and_arrivals, tables_are_of_events,
     worked_migration, worked_migration_unlisted, worked_replies,
 };
+pub use reader::DeskReader;
+pub use reader::walk::{KeysLeft, ReaderWalk};
 pub use status::{End, Status};
 pub use walk::{Pages, Walk};

@@ -125,8 +125,8 @@ fn step_of(rows: &[MRow], row: usize) -> Step
 }
 
 /// Plans the move from the cached chain, which is taken, to the latest chain of the held rows up to
-/// a moment. `S1` if the cached chain has more steps than a manifest may have rows, or if one of the
-/// held rows isn't the manifest's; `S2`.
+/// a moment. `S1` if the cached chain has more steps than a manifest may have rows, or if one of
+/// the held rows isn't the manifest's; `S2`.
 pub(crate) fn plan_latest(
     alloc: Global,
     manifest: &Manifest,

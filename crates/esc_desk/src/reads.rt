@@ -2,10 +2,7 @@
 
 ghost use Rattle.std.specs.Prelude.{
   ◌≡◌,
-  ℕ,
   List,
-  Ok,
-  Some,
   length,
   option_map,
   IfOk,
@@ -13,15 +10,13 @@ ghost use Rattle.std.specs.Prelude.{
   map,
   All,
 };
-ghost use Rattle.esc_tables.specs.DepositValue.{DepositValue};
-ghost use Rattle.esc_tables.specs.Reading.{reading};
 ghost use Rattle.esc_apply.specs.declared.front.Step.{Step};
 ghost use Rattle.esc_store.specs.Faults.{IsS1OrS2};
+ghost use Rattle.esc_store.specs.Parks.{IsParkedBody};
 ghost use Rattle.esc_store.specs.StoreState.{StoreState};
 ghost use Rattle.esc_store.specs.Representation.{Represents, IsHonest, IsAsBefore, listed_rows_of};
 ghost use Rattle.esc_desk.specs.Calls.{store_of, writes_of, OkForStoreEvents, IsUnchangedDesk};
 ghost use Rattle.esc_events.specs.Events.{EventValue, union, last_moment};
-ghost use Rattle.esc_events.specs.Parks.{IsParkedBody};
 ghost use Rattle.esc_events.specs.LatestTables.{AreTables};
 ghost use Rattle.esc_desk.specs.Reflection.{StoreReflects};
 ghost use Rattle.esc_desk.specs.Reads.{
@@ -29,7 +24,7 @@ ghost use Rattle.esc_desk.specs.Reads.{
   replies_of,
   AreHeldRows,
   AreParkedOf,
-  SaysEnd,
+  SaysOfBody,
   IsEnd,
   IsStatus,
 };
@@ -162,9 +157,9 @@ impl<S: Alter> Desk<S> {
     }
 }
 
-// The status of a store, by the number of its listed rows and receipts, its held rows, its chain's
-// steps, and the number of its objects.
-fn status_of(
+/// The status of a store, by the number of its listed rows and receipts, its held rows, its chain's
+/// steps, and the number of its objects.
+pub(crate) fn status_of(
     listed: usize,
     receipts: u64,
     held: &[usize],
@@ -189,7 +184,7 @@ fn status_of(
 }
 
 // The row of the last step, if any.
-fn last_row(steps: &[Step]) -> Option<usize>
+pub(crate) fn last_row(steps: &[Step]) -> Option<usize>
     ensures { result ≡ option_map (λ (s : Step). s.row) (last steps.now) }
 {
     let last = steps.last().copied()?;
@@ -240,16 +235,24 @@ fn parked_body<S: Alter>(store: &mut Store<S>, digest: &[u8; 32]) -> Result<Park
     })
 }
 
-// What the deposit of the body that the store keeps for a row says of the registry. Its envelope
-// alone is parsed.
+// What the deposit of the body that the store keeps for a row says of the registry.
 fn stored_end<S: Alter>(store: &mut Store<S>, alloc: Global, row: usize) -> Result<End, SFault>
     ensures same { IsAsBefore S.Store store.old store.new }
     ensures says { IsHonest S.Store store.new → (k : StoreState) → Represents S.Store store.old k
-        → IfOk result (λ end. (body : List ℕ) × (k.bodies row ≡ Some body) × ((d : DepositValue)
-        → reading body ≡ Ok d → SaysEnd d end)) }
+        → IfOk result (SaysOfBody (k.bodies row)) }
     ensures cause { IfErr result IsS1OrS2 }
 {
-    let Some(body) = store.body_of(alloc, row)? else {
+    let body = store.body_of(alloc, row)?;
+    end_in(alloc, body)
+}
+
+// What the deposit of a body says of the registry. Its envelope alone is parsed. `S1` where there is
+// no body.
+pub(crate) fn end_in(alloc: Global, body: Option<Vec<u8>>) -> Result<End, SFault>
+    ensures says { IfOk result (SaysOfBody (option_map (λ b. b.items) body)) }
+    ensures cause { IfErr result IsS1OrS2 }
+{
+    let Some(body) = body else {
         return Err(SFault::S1);
     };
     match read_bundled_envelope(alloc, &body) {

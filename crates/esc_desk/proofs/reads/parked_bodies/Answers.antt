@@ -2,8 +2,8 @@ use Rattle.std.proofs.Common.{◌++◌, List, [], ◌∷◌, ℕ, map, sym, ap, 
 use Rattle.std.proofs.lemmas.List.{take_more, map-append}
 use Rattle.std.proofs.lemmas.List.Elements.{All-push}
 use Rattle.esc_store.specs.StandingLaws.{was_honest, as_before_then}
-use Rattle.esc_events.specs.declared.parked.ParkedBody.{ParkedBody}
-use Rattle.esc_events.specs.Parks.{IsParkedBody}
+use Rattle.esc_store.specs.declared.parked.ParkedBody.{ParkedBody}
+use Rattle.esc_store.specs.Parks.{IsParkedBody}
 use Rattle.esc_desk.proofs.reads.parked_bodies.Goals as goal
 
 pub loop-digest-preserved : goal.loop-digest-preserved

@@ -1,8 +1,8 @@
 use Rattle.std.proofs.Common.{◌≡◌, map, take, All}
 use Rattle.esc_store.specs.StoreState.{StoreState}
 use Rattle.esc_store.specs.Representation.{Represents, IsHonest, IsAsBefore}
-use Rattle.esc_events.specs.declared.parked.ParkedBody.{ParkedBody}
-use Rattle.esc_events.specs.Parks.{IsParkedBody}
+use Rattle.esc_store.specs.declared.parked.ParkedBody.{ParkedBody}
+use Rattle.esc_store.specs.Parks.{IsParkedBody}
 use Rattle.esc_desk.proofs.reads.parked_bodies.Given as goal
 
 -- the bodies of the digests so far
