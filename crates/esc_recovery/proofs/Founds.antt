@@ -16,8 +16,8 @@ use Rattle.sqlite_store.specs.declared.store.FileStore.{FileStore}
 use Rattle.sqlite_store.specs.FileStore.{view, faults, recovers, is_shielded, files}
 use Rattle.sqlite_trees.specs.declared.store.Store as store
 use Rattle.sqlite.specs.Held.{Held, state, AreDatabases}
-use Rattle.sqlite.specs.State.{State, HasCleanDisk, Survives, IsLive, Opens}
-use Rattle.sqlite.specs.Files.{over_files, image_of, HoldsDatabase}
+use Rattle.sqlite.specs.State.{HasCleanDisk, IsLive, Opens}
+use Rattle.sqlite.specs.Files.{over_files, HoldsDatabase}
 use Rattle.sqlite.specs.Closing.{IsCopied, HoldsAlone}
 use Rattle.sqlite.proofs.Theorems.{opens_again}
 use Rattle.esc_store.specs.StoreState.{StoreState}
@@ -71,7 +71,7 @@ blank_or g settled old new k survives opens live blank clean trees may = elim (s
 ]
 
 -- one of the stores is that of one of the lists
-pick : (trees : Trees) (e doubtful : List EventValue) → IsStoreForOneOf trees e doubtful → (x : List EventValue) × IsOneOf x e doubtful × IsStoreFor trees x
+pub pick : (trees : Trees) (e doubtful : List EventValue) → IsStoreForOneOf trees e doubtful → (x : List EventValue) × IsOneOf x e doubtful × IsStoreFor trees x
 pick trees e [] it = (e, refl, it)
 pick trees e (y ∷ doubtful) (inl it) = (e ++ y ∷ [], inl refl, it)
 pick trees e (y ∷ doubtful) (inr more) = let found = pick trees e doubtful more in (found.0, inr found.1, found.2)

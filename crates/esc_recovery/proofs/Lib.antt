@@ -1,1 +1,3 @@
 pub mod Founds
+pub mod Readings
+pub mod Untouched

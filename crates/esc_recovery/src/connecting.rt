@@ -38,8 +38,13 @@ pub(crate) fn connection_at<S: Start>(
     }
 }
 
-// The files at a path. A path that means something else to SQLite than a file isn't opened.
-fn files_at<S: Start>(rt: &HostRuntime, path: &str, start: S) -> Result<Files<FileFrom<S>>, Error>
+/// The files at a path, which are made where there are none. `CannotOpen` where the system doesn't
+/// let them be read and written, or where the path means something else to SQLite than a file.
+pub(crate) fn files_at<S: Start>(
+    rt: &HostRuntime,
+    path: &str,
+    start: S,
+) -> Result<Files<FileFrom<S>>, Error>
     ensures log { IfOk result (λ files. IsTrue (file_is_usable S.Start files.log)) }
     ensures db { IfOk result (λ files. IsTrue (file_is_usable S.Start files.db)) }
     ensures fresh { IfOk result (λ files. IsFresh true files.log × IsFresh false files.db) }
@@ -65,8 +70,8 @@ fn why_unopened(error: OpenError) -> Error {
     }
 }
 
-// The options of a connection, with a seed that is drawn at random.
-fn options(rt: &HostRuntime) -> Result<Options, Error> {
+/// What files are opened with: a seed that is drawn at random, for the salts of a log.
+pub(crate) fn options(rt: &HostRuntime) -> Result<Options, Error> {
     let Ok(state) = RandomState::new(rt) else {
         return Err(CANNOT_OPEN);
     };

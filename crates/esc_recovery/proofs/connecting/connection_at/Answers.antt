@@ -1,20 +1,11 @@
-use Rattle.std.proofs.Common.{Bool, cond, List, ℕ, ap₂, subst}
-use Rattle.sqlite_disk.specs.Events.{Event, replay}
-use Rattle.sqlite_wal.specs.Recovery.{Image}
+use Rattle.std.proofs.Common.{subst}
 use Rattle.sqlite.specs.Files.{file_state}
 use Rattle.sqlite.specs.Start.{FindsIn}
+use Rattle.esc_recovery.proofs.Untouched.{untouched}
 use Rattle.esc_recovery.proofs.connecting.connection_at.Goals as goal
-
--- two files hold what was said of them, where nothing was written to them
-abbrev image : List ℕ → List ℕ → Image
-image log db = record { log = log; db = db }
-
-abbrev seen : List ℕ → List ℕ → Bool → List Event → List ℕ
-seen log db is_log history = (replay (cond is_log log db) history).seen
 
 pub returns-in-Ok-clause-found : goal.returns-in-Ok-clause-found
 returns-in-Ok-clause-found g c = λ clean.
     let (log, db) = c.in_ok-files.ensures.fresh in
     let found = c.in-Ok.ensures.found clean in
-    let same = ap₂ image (ap₂ (seen g.S.Start.log g.S.Start.db) log.0 log.1) (ap₂ (seen g.S.Start.log g.S.Start.db) db.0 db.1) in
-    subst (λ i. FindsIn i (file_state c.in-Ok.connection)) same (record { holds = found.holds; reads = found.reads })
+    subst (λ i. FindsIn i (file_state c.in-Ok.connection)) (untouched g.S.Start.log g.S.Start.db log db) (record { holds = found.holds; reads = found.reads })
