@@ -1,13 +1,17 @@
 //! The commands, from the words to the status.
 
 use crate::ended::Ended;
+use crate::reader::read_report;
 use crate::run::Run;
 use esc_arguments::{
     Command, Invocation, Stop, check_access, invocation_of, matches_of, print_error, print_stop,
 };
 use esc_cli::USAGE;
 use esc_desk::{Desk, SFault};
-use esc_recovery::{PathFault, close_desk, migrated_desk_at, new_desk_at, open_desk_at};
+use esc_recovery::{
+    PathFault, StoreAt, close_desk, migrated_desk_at, new_desk_at, open_desk_at, reader_at,
+};
+use esc_reports::Report;
 use sqlite::{File, FileStore, Unknown};
 use std::alloc::{AllocError, Global};
 use std::io::Write;
@@ -62,15 +66,49 @@ where
         Ok(ended.status)
     }
 
-    // Opens the store at a path, or makes it, does a command with its desk, and closes it: what is
-    // still in its log is copied into the database. What was answered before a stop is kept, and a
-    // stop is reported rather than a close that fails after it.
+    // Does a command with the store at a path: a report with a reader, and every other command with
+    // a desk.
     fn use_store(&mut self, path: &str, command: &Command<'_>) -> Result<Ended, Stop> {
+        match command {
+            Command::Report(report) => self.read_store(path, command, *report),
+            _ => self.use_desk_at(path, command),
+        }
+    }
+
+    // Makes a report of the store at a path, which is opened by its trees, and not closed: nothing
+    // was written. Files that aren't opened so are the desk's.
+    fn read_store(
+        &mut self,
+        path: &str,
+        command: &Command<'_>,
+        report: Report,
+    ) -> Result<Ended, Stop> {
+        let alloc = self.rt.alloc();
+        match reader_at(self.rt, path, Unknown) {
+            Ok(StoreAt::Reader(mut reader)) => read_report(alloc, &mut reader, report),
+            Ok(StoreAt::Desk(desk)) => self.finish_desk(desk, command, Vec::new(alloc)),
+            Err(fault) => Err(stop_of(self.rt, path, fault)),
+        }
+    }
+
+    // Opens the store at a path, or makes it, and does a command with its desk.
+    fn use_desk_at(&mut self, path: &str, command: &Command<'_>) -> Result<Ended, Stop> {
         let line = made_line(self.rt.alloc(), command)?;
-        let mut desk = match opened(self.rt, path, command) {
-            Ok(desk) => desk,
-            Err(fault) => return Err(stop_of(self.rt, path, fault)),
-        };
+        match opened(self.rt, path, command) {
+            Ok(desk) => self.finish_desk(desk, command, line),
+            Err(fault) => Err(stop_of(self.rt, path, fault)),
+        }
+    }
+
+    // Does a command with the desk of its store, and closes it: what is still in its log is copied
+    // into the database. What was answered before a stop is kept, and a stop is reported rather
+    // than a close that fails after it.
+    fn finish_desk(
+        &mut self,
+        mut desk: Desk<FileStore<File>>,
+        command: &Command<'_>,
+        line: Vec<u8>,
+    ) -> Result<Ended, Stop> {
         let outcome = self.use_desk(&mut desk, command, line);
         let closed = close_desk(desk);
         let ended = outcome?;
@@ -117,8 +155,8 @@ fn opened(
     }
 }
 
-// Why there is no desk: `E1` if the system doesn't let the files be read and written, else the
-// store's fault.
+// Why there is no desk and no reader: `E1` if the system doesn't let the files be read and written,
+// else the store's fault.
 fn stop_of(rt: &HostRuntime, path: &str, fault: PathFault) -> Stop {
     match fault {
         PathFault::Store(fault) => Stop::Store(fault),

@@ -69,7 +69,7 @@ fn move_to<S: Alter>(
     Ok(Ended::done(line.into_bytes()))
 }
 
-// `report --store FILE WHAT` and `export --store FILE KIND`: the text of a report.
+// The same text as that of a reader, where the files are opened by a desk alone.
 fn report_text<S: Alter>(alloc: Global, desk: &mut Desk<S>, what: Report) -> Result<Ended, Stop> {
     match report(alloc, desk, what) {
         Ok(text) => Ok(Ended::done(text)),

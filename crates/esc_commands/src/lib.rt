@@ -13,6 +13,7 @@
 //! |---|---|
 //! | `commands` | from the words to the status: opens the store at a path, or makes it, and closes it |
 //! | `desk` | what a command does with the desk of its store |
+//! | `reader` | what a report does with a reader of its store |
 //! | `take` | takes the plain files of a folder, in byte order of names |
 //! | `serve` | serves connections on a port, one after the other, each within a time |
 //! | `run` | one run of the program: the runtime, the network and its two streams |
@@ -29,6 +30,10 @@
 //! // 0, and the report is printed; 3 and `S3` on standard error, if there is no store desk.db
 //! ```
 //!
+//! A report and an export read the store by its trees ([`esc_recovery::reader_at`]), and leave the
+//! files as they are. All other commands, also `serve`, have a desk: as its store is opened,
+//! indexes and references are tested, too. A row that no store writes is met where it is read.
+//!
 //! # Order of refusals
 //!
 //! The first of these that fails is reported: the words (status 2), the moment (`E3`, status 1),
@@ -43,19 +48,21 @@
 //!
 //! By proof: that no call is unsafe and that each ends, whatever the words, files and requests are.
 //! What the desk of a path reflects, and what is left of it, is the contract of
-//! [`esc_recovery::open_desk_at`], [`esc_recovery::new_desk_at`] and [`esc_recovery::close_desk`];
-//! what it stands for after an arrival, an amendment or a moment that of
-//! [`esc_desk::Desk::arrive`], [`esc_desk::Desk::amend`] and [`esc_desk::Desk::as_of`], and after a
-//! migration that of [`esc_recovery::migrated_desk`]. What a request is answered is that of
-//! [`esc_http::serve_one`], how long its client is waited for that of [`esc_client::TimedStream`],
-//! and the texts of reports are that of [`esc_reports::report`]. No contract can say what a file
-//! holds or what is printed, so the texts, statuses and the order of refusals are tested on the
-//! built program, by the cases of `tests/`.
+//! [`esc_recovery::open_desk_at`], [`esc_recovery::new_desk_at`] and [`esc_recovery::close_desk`],
+//! and what a reader of it reflects that of [`esc_recovery::reader_at`]; what it stands for after
+//! an arrival, an amendment or a moment that of [`esc_desk::Desk::arrive`],
+//! [`esc_desk::Desk::amend`] and [`esc_desk::Desk::as_of`], and after a migration that of
+//! [`esc_recovery::migrated_desk`]. What a request is answered is that of [`esc_http::serve_one`],
+//! how long its client is waited for that of [`esc_client::TimedStream`], and the texts of reports
+//! are those of [`esc_reports::report`] and [`esc_reports::stored_report`]. No contract can say
+//! what a file holds or what is printed, so the texts, statuses and the order of refusals are
+//! tested on the built program, by the cases of `tests/`.
 #![tactic(auto)]
 
 mod commands;
 mod desk;
 mod ended;
+mod reader;
 mod run;
 mod serve;
 mod take;

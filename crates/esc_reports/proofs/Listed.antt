@@ -1,8 +1,7 @@
--- The objects of a desk as one list by key.
+-- The objects of a store as one list by key.
 use Rattle.std.proofs.Common.{◌≡◌, Bool, true, false, cond, List, [], ◌∷◌, filter, refl, ap, ◌∙◌}
 use Rattle.std.specs.List.{flat_map}
 use Rattle.sha2.specs.Sha256.{sha256}
-use Rattle.sqlite_trees.specs.declared.store.Store.{Ghosts}
 use Rattle.esc_envelope.specs.declared.kind.Kind.{Kind}
 use Rattle.esc_tables.specs.DepositValue.{DepositValue}
 use Rattle.esc_tables.specs.Reading.{reading}
@@ -11,24 +10,23 @@ use Rattle.esc_apply.specs.Registry.{IsEntriesOf}
 use Rattle.esc_apply.specs.Tables.{tables}
 use Rattle.esc_check.specs.Export.{heading, object_lines, is_of, export_text}
 use Rattle.esc_csv.specs.Lines.{text_of}
-use Rattle.esc_store.specs.declared.store.Store.{Store}
+use Rattle.esc_store.specs.StoreState.{StoreState}
 use Rattle.esc_events.specs.Events.{EventValue}
 use Rattle.esc_events.specs.LatestTables.{AreEntries}
 use Rattle.esc_desk.specs.Laws.{TablesAreOfEvents}
-use Rattle.esc_desk.specs.Reflection.{StoreReflects}
-use Rattle.esc_events.specs.StateAfter.{IsApart, deposits_of, held_body}
+use Rattle.esc_events.specs.StateAfter.{IsApart, IsStateAfter, deposits_of, held_body}
 
 -- the tables of any deposits have a listing by key
 abbrev pub AreListed : Type 0
 AreListed = (ds : List DepositValue) → (es : List Entry) × InOrder es × IsEntriesOf (tables ds) es
 
--- so have those of what a store stands for
-pub listing : {S : Type 0} (g : Ghosts S) (store : Store S) (e : List EventValue) → AreListed → TablesAreOfEvents
-    → StoreReflects g store e → IsApart sha256 reading e → (es : List Entry) × AreEntries e es × InOrder es
-listing g store e listed of_events serves apart =
-    let entries = listed (deposits_of reading (held_body sha256 reading e) serves.kept.steps) in
-    let latest = (of_events e serves.kept serves.stands_for apart).latest in
-    (entries.0, record { chain = serves.kept.steps; latest = latest; objects = entries.2 }, entries.1)
+-- so have those of the state after these events
+pub listing : (e : List EventValue) (kept : StoreState) → AreListed → TablesAreOfEvents
+    → IsStateAfter sha256 reading e kept → IsApart sha256 reading e → (es : List Entry) × AreEntries e es × InOrder es
+listing e kept listed of_events stands_for apart =
+    let entries = listed (deposits_of reading (held_body sha256 reading e) kept.steps) in
+    let latest = (of_events e kept stands_for apart).latest in
+    (entries.0, record { chain = kept.steps; latest = latest; objects = entries.2 }, entries.1)
 
 filter_again : {X : Type 0} (p : X → Bool) (xs : List X) → filter p (filter p xs) ≡ filter p xs
 filter_again p [] = refl

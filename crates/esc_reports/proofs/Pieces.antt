@@ -6,7 +6,7 @@ use Rattle.esc_check.specs.FindingValue.{FindingValue}
 use Rattle.esc_csv.specs.Lines.{line_text}
 use Rattle.esc_chain.specs.declared.gap.GapLine.{GapLine}
 use Rattle.esc_reports.specs.GapsText.{gap_line, gap_lines_text}
-use Rattle.esc_events.specs.declared.parked.ParkedBody.{ParkedBody}
+use Rattle.esc_store.specs.declared.parked.ParkedBody.{ParkedBody}
 use Rattle.esc_reports.specs.LinksText.{finding_line, findings_text}
 use Rattle.esc_reports.specs.ParkedText.{parked_line, parked_lines}
 use Rattle.esc_reports.specs.ReceiptsText.{receipt_line, replies_text}

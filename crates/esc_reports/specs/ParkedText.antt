@@ -3,7 +3,7 @@ use Rattle.std.specs.Prelude.{ℕ, List, [], ◌∷◌, ◌++◌, map, codes}
 use Rattle.std.specs.Fmt.{decimal}
 use Rattle.hex.specs.Hex.{encode_lower}
 use Rattle.esc_csv.specs.Lines.{Line, line_text, text_of}
-use Rattle.esc_events.specs.declared.parked.ParkedBody.{ParkedBody}
+use Rattle.esc_store.specs.declared.parked.ParkedBody.{ParkedBody}
 
 -- the first line
 abbrev pub heading : Line

@@ -1,6 +1,5 @@
--- The texts of the reports of a desk that reflects a list of events.
+-- The texts of the reports of a desk or a reader that reflects a list of events.
 use Rattle.std.specs.Prelude.{◌≡◌, ◌↔◌, ℕ, List, [], Option, Some, None}
-use Rattle.std.specs.FinSet as set
 use Rattle.std.specs.List.{Contains}
 use Rattle.std.specs.List.Sorted.{IsStrictlySortedBy}
 use Rattle.sha2.specs.Sha256.{sha256}
@@ -9,8 +8,6 @@ use Rattle.esc_tables.specs.KeyName.{KeyName}
 use Rattle.esc_tables.specs.ObjectValue.{ObjectValue}
 use Rattle.esc_tables.specs.Reading.{reading}
 use Rattle.esc_apply.specs.ObjectStreams.{InOrder}
-use Rattle.esc_chain.specs.declared.gap.GapLine.{GapLine}
-use Rattle.esc_chain.specs.Gap.{AreGapLinesAt}
 use Rattle.esc_check.specs.Export.{export_text}
 use Rattle.esc_check.specs.FindingValue.{FindingValue, listing_cmp}
 use Rattle.esc_check.specs.Findings.{IsFinding}
@@ -18,10 +15,10 @@ use Rattle.esc_check.specs.TableMap.{tables_of}
 use Rattle.esc_store.specs.StoreState.{AreHeld}
 use Rattle.esc_desk.specs.declared.status.End.{End}
 use Rattle.esc_desk.specs.declared.status.Status.{Status as Numbers}
-use Rattle.esc_events.specs.declared.parked.ParkedBody.{ParkedBody}
+use Rattle.esc_store.specs.declared.parked.ParkedBody.{ParkedBody}
 use Rattle.esc_events.specs.Apart.{WhereApart}
 use Rattle.esc_events.specs.Events.{EventValue, union, last_moment}
-use Rattle.esc_events.specs.Parks.{AreParkedBodies}
+use Rattle.esc_store.specs.Parks.{AreParkedBodies}
 use Rattle.esc_events.specs.LatestTables.{AreEntries}
 use Rattle.esc_desk.specs.Reads.{replies_of, IsEndOfChain, IsStatus}
 use Rattle.esc_events.specs.StateAfter.{held_body, parked_body}
@@ -35,7 +32,7 @@ use Rattle.esc_reports.specs.declared.catalog.Report.TheVariants.{
   Moment,
   Export,
 }
-use Rattle.esc_reports.specs.GapsText.{gaps_text}
+use Rattle.esc_reports.specs.GapsText.{IsGapsReport}
 use Rattle.esc_reports.specs.LinksText.{links_text}
 use Rattle.esc_reports.specs.MomentText.{moment_line}
 use Rattle.esc_reports.specs.ParkedText.{parked_text}
@@ -81,9 +78,7 @@ module _ (e : List EventValue) where
   pub record IsGapsText (text : List ℕ) : Type 0 where
     pub rows : List ℕ
     pub are_held : AreHeld (held_body sha256 reading e) rows
-    pub lines : List GapLine
-    pub gaps : AreGapLinesAt (union e) (set.from_list rows) (last_moment e) lines
-    pub is : text ≡ gaps_text lines
+    pub report : IsGapsReport (union e) rows (last_moment e) text
 
   -- the report of a line for each body that no row lists
   pub record IsParkedText (text : List ℕ) : Type 0 where

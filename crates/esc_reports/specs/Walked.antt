@@ -1,4 +1,4 @@
--- What a report finds on a walk over a desk's objects.
+-- What a report finds on a walk over the objects of a desk or a reader.
 use Rattle.std.specs.Prelude.{List, Option}
 use Rattle.esc_apply.specs.ObjectStreams.{Entry}
 use Rattle.esc_check.specs.FindingValue.{FindingValue}

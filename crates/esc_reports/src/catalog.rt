@@ -2,7 +2,7 @@
 
 use esc_envelope::Kind;
 
-/// A report of a desk.
+/// A report of a store, by its desk or by a reader.
 #[derive(Clone, Copy, Debug, PartialEq, Eq)]
 pub enum Report {
     Status,

@@ -14,21 +14,43 @@ ghost use Rattle.std.specs.Prelude.{
 ghost use Rattle.esc_chain.specs.GapTexts.{state_text, blocker_text};
 ghost use Rattle.esc_csv.specs.Lines.{line_text};
 ghost use Rattle.esc_store.specs.Faults.{IsS1OrS2};
-ghost use Rattle.esc_reports.specs.GapsText.{heading, gap_line, gap_lines_text, gaps_text};
+ghost use Rattle.esc_reports.specs.GapsText.{
+  heading,
+  gap_line,
+  gap_lines_text,
+  gaps_text,
+  IsGapsReport,
+};
 ghost use Rattle.esc_reports.specs.ReceiptsText.{or_empty};
 
 use crate::receipts::resend_text;
 use crate::watermark::printed_watermark;
 use esc_bundle::NoMemory;
-use esc_chain::{Blocker, GapLine, State};
+use esc_chain::{Blocker, GapLine, Held, State, gaps_at};
 use esc_csv::Lines;
+use esc_manifest::Manifest;
 use esc_store::SFault;
 use std::alloc::{AllocError, Global};
 
-/// The report of gaps: the heading `watermark,type,used,state,blocker,awaited`, and a line for each
-/// of these places. `S1` if a watermark is outside the years 1970 to 2261, as no listed one is;
-/// `S2`.
-pub(crate) fn gaps_text(alloc: Global, gaps: &[GapLine]) -> Result<Vec<u8>, SFault>
+/// The report of gaps of a manifest, by the rows of it that are held, as indices from 0, and the
+/// moment that is set, if one is. `S1` if one of the rows isn't listed, or if a watermark is
+/// outside the years 1970 to 2261, as no listed one is; `S2`.
+pub(crate) fn gaps_report(
+    alloc: Global,
+    manifest: &Manifest,
+    rows: &[usize],
+    moment: Option<i64>,
+) -> Result<Vec<u8>, SFault>
+    ensures text { IfOk result (λ text. IsGapsReport manifest.now rows.now moment text.items) }
+    ensures cause { IfErr result IsS1OrS2 }
+{
+    let held = Held::from_rows(alloc, manifest, rows)?.ok_or(SFault::S1)?;
+    let lines = gaps_at(alloc, manifest, &held, moment)?;
+    gaps_text(alloc, &lines)
+}
+
+// The heading `watermark,type,used,state,blocker,awaited`, and a line for each of these places.
+fn gaps_text(alloc: Global, gaps: &[GapLine]) -> Result<Vec<u8>, SFault>
     ensures text { IfOk result (λ text. text.items ≡ gaps_text gaps.now) }
     ensures cause { IfErr result IsS1OrS2 }
 {

@@ -1,23 +1,22 @@
 //! The reports of a desk.
 
-ghost use Rattle.std.specs.Prelude.{◌≡◌, Some, IfOk, IfErr};
-ghost use Rattle.esc_check.specs.ObjectReports.{OfSource};
+ghost use Rattle.std.specs.Prelude.{Some, IfOk, IfErr};
 ghost use Rattle.esc_store.specs.Faults.{IsS1OrS2};
 ghost use Rattle.esc_desk.specs.Calls.{OkForStoreEvents, IsUnchangedDesk};
 ghost use Rattle.esc_reports.specs.declared.catalog.Report.TheVariants as what;
 ghost use Rattle.esc_reports.specs.Reports.{IsReport};
-ghost use Rattle.esc_reports.specs.Walked.{AreFoundAt, walk_fault};
+ghost use Rattle.esc_reports.specs.Walked.{AreFoundAt};
 
 use crate::catalog::Report;
-use crate::gaps::gaps_text;
+use crate::gaps::gaps_report;
 use crate::links::links_text;
 use crate::moment::moment_line;
 use crate::parked::parked_text;
 use crate::receipts::receipts_text;
 use crate::status::status_text;
+use crate::walked::walk_fault;
 use esc_apply::tables_are_listed;
-use esc_chain::{Held, gaps_at};
-use esc_check::{Finding, StreamFault, export_from, verify_from};
+use esc_check::{Finding, export_from, verify_from};
 use esc_desk::{Desk, End, SFault, tables_are_of_events};
 use esc_envelope::Kind;
 use sqlite::Alter;
@@ -54,10 +53,7 @@ fn report_gaps<S: Alter>(alloc: Global, desk: &mut Desk<S>) -> Result<Vec<u8>, S
 {
     let moment = desk.moment()?;
     let rows = desk.held(alloc)?;
-    let manifest = desk.manifest();
-    let held = Held::from_rows(alloc, manifest, &rows)?.ok_or(SFault::S1)?;
-    let lines = gaps_at(alloc, manifest, &held, moment)?;
-    gaps_text(alloc, &lines)
+    gaps_report(alloc, desk.manifest(), &rows, moment)
 }
 
 fn report_status<S: Alter>(alloc: Global, desk: &mut Desk<S>) -> Result<Vec<u8>, SFault>
@@ -115,18 +111,6 @@ fn findings<S: Alter>(alloc: Global, desk: &mut Desk<S>, end: &End) -> Result<Ve
     match verify_from(alloc, &mut walk, end.watermark, &end.counts) {
         Ok(findings) => Ok(findings),
         Err(fault) => Err(walk_fault(fault)),
-    }
-}
-
-// The fault that ends a report over a walk: the walk's own, or `S2` when out of memory.
-fn walk_fault(fault: StreamFault<SFault>) -> SFault
-    requires { OfSource IsS1OrS2 fault }
-    ensures fault { result ≡ walk_fault fault }
-    ensures cause { IsS1OrS2 result }
-{
-    match fault {
-        StreamFault::Source(fault) => fault,
-        StreamFault::NoMemory => SFault::S2,
     }
 }
 

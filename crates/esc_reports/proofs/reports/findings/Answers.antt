@@ -13,8 +13,7 @@ use Rattle.esc_reports.proofs.reports.findings.Goals as goal
 pub returns-in-Ok-clause-findings : goal.returns-in-Ok-clause-findings
 returns-in-Ok-clause-findings g c = λ clean e serves apart.
     let at_end : IsHonest g.S.Store c.verify_from.new.objects.desk.now.store = search rules in
-    let entries = listing g.S.Store c.args.desk.now.store e c.tables_are_listed.ensures
-    c.tables_are_of_events.ensures serves apart in
+    let entries = listing e serves.kept c.tables_are_listed.ensures c.tables_are_of_events.ensures serves.stands_for apart in
     let at_walk = was_honest c.in-Ok.ensures.follows.same at_end in
     let lists = c.in_ok-walk.ensures.lists at_walk e serves apart entries.0 entries.1 entries.2 in
     let w = c.args.end.now.watermark in

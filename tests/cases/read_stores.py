@@ -1,0 +1,214 @@
+"""Reports and exports of stores with a row that no store writes, with an index that lies, and with a log that was not copied: what they read of
+the tables alone, and what is tested first for a desk."""
+import contextlib, socket, sqlite3
+from dataclasses import dataclass
+
+from support.clients import put
+from support.formats import KINDS
+from support.reports import report
+from support.sockets import HOST, free_port, received
+from support.stage import SECONDS, Failed, Wanted, case, pieces_of, text_of
+from support.steps import Copy, FirstStore, Folder, Text
+from support.stores import EMPTY_LOG, change_row, contents, copy, is_whole, run
+
+MOMENT = '2024-03-11T00:00:00Z'
+# The deposits that come, under the numbers 1 to 4; then a body that no row lists.
+BUNDLES = ('f1', 'd2', 'd3', 'd2-resent')
+SHA_OF_ABC = 'ba7816bf8f01cfea414140de5dae2223b00361a396177a9cb410ff61f20015ad'
+NOT_THERE = ('2024-03-06T00:00:00Z,INCR,,missing,,0', '2024-03-10T00:00:00Z,FULL,,missing,,0', '2024-03-11T00:00:00Z,DIFF,,missing,,0')
+
+
+def domains(*names):
+    return report('export', (f'domain,{name},domain,0,{field},{value}' for name in names
+                             for field, value in (('name', name), ('clID', 'R1'), ('registrant', 'C1'))))
+
+
+def status(*numbers):
+    names = ('listed', 'held', 'receipts', 'chain', 'end', 'registrar', 'contact', 'host', 'domain', 'idn', 'nndn')
+    return text_of(f'{name} {number}' for name, number in zip(names, numbers, strict=True))
+
+
+# What is told once all have come, and the moment is set; and once the first one has.
+ALL = {
+    'status': status(7, 4, 5, 3, '2024-03-05T00:00:00Z DIFF 0', 1, 1, 0, 2, 0, 0),
+    'gaps': report('gaps', ('2024-03-03T00:00:00Z,FULL,0,chain,,', '2024-03-04T00:00:00Z,DIFF,1,chain,,', '2024-03-05T00:00:00Z,DIFF,0,chain,,',
+                            *NOT_THERE)),
+    'receipts': report('receipts', ('1,1,A1,,F1,0,new,0', '2,2,A1,,D2,0,new,0', '3,3,A1,,D3,0,new,0', '4,4,A1,,D2,1,new,0', '5,5,A5,,,,,')),
+    'parked': report('parked', (f'{SHA_OF_ABC},3',)),
+    'moment': f'{MOMENT}\n',
+    'links': report('links'),
+    'domain': domains('b.example', 'c.example'),
+}
+FIRST = {
+    'status': status(7, 1, 1, 1, '2024-03-03T00:00:00Z FULL 0', 1, 1, 0, 1, 0, 0),
+    'gaps': report('gaps', ('2024-03-03T00:00:00Z,FULL,0,chain,,', '2024-03-04T00:00:00Z,DIFF,,missing,,1', '2024-03-05T00:00:00Z,DIFF,,missing,,0',
+                            *NOT_THERE)),
+    'receipts': report('receipts', ('1,1,A1,,F1,0,new,0',)),
+    'parked': report('parked'),
+    'moment': 'latest\n',
+    'links': report('links'),
+    'domain': domains('a.example'),
+}
+S1, S3 = Wanted(3, '', 'S1\n'), Wanted(3, '', 'S3\n')
+NO_RECEIPTS = Wanted(0, report('receipts'))
+
+
+def put_files(stage):
+    Copy('listed.csv', 'chains.csv').do(stage)
+    Folder('deposits').do(stage)
+    for number, name in enumerate(BUNDLES, 1):
+        Copy(f'deposits/{number}', f'{name}.bundle').do(stage)
+    Text('deposits/5', 'abc').do(stage)
+    run(stage, 'init --store a.db --manifest listed.csv')
+
+
+def put_store(stage):
+    put_files(stage)
+    run(stage, 'take --store a.db deposits', statuses=(1,))
+    run(stage, f'as-of --store a.db {MOMENT}')
+
+
+def command_of(store, what):
+    return f'{"export" if what in KINDS else "report"} --store {store} {what}'
+
+
+def check_reports(stage, store, told, refused=()):
+    for what, text in told.items():
+        stage.check(command_of(store, what), S1 if what in refused else Wanted(0, text))
+
+
+def check_refused(stage, store):
+    """Whatever has a desk refuses the store, which stays as it is but for its log."""
+    before = contents(stage.at(store))[0]
+    for line in (f'take --store {store} deposits', f'as-of --store {store} latest', f'amend --store {store} --manifest listed.csv',
+                 f'serve --store {store} --port 65535 --count 1'):
+        stage.check(line, S1)
+    if contents(stage.at(store))[0] != before:
+        raise Failed(f'{store} is changed')
+
+
+# ---- a row that no store writes
+
+
+@dataclass(frozen=True)
+class Foreign:
+    """A statement that makes a row one that no store writes, the reports and exports that read it, and whether a desk is refused: its list of
+    rows is read as the store is opened, and where a row leads to another, that is there."""
+    statement: str
+    refused: tuple = ()
+    has_no_desk: bool = False
+
+
+FOREIGN = {
+    'a verdict': Foreign('UPDATE receipt SET verdict = 9 WHERE receipt = 3', ('receipts',)),
+    'a number that is no text': Foreign("UPDATE receipt SET number = X'31' WHERE receipt = 1", ('receipts',)),
+    'a count of orphans that is a text': Foreign("UPDATE receipt SET orphans = 'none' WHERE receipt = 1", ('receipts',)),
+    'a receipt of no listed row': Foreign('UPDATE receipt SET row = 7 WHERE receipt = 2', ('receipts',), True),
+    'a type': Foreign('UPDATE listed SET type = 9 WHERE row = 1', tuple(ALL), True),
+    'a short digest': Foreign("UPDATE listed SET digest = X'00' WHERE row = 1", tuple(ALL), True),
+    'a step of no held row': Foreign("UPDATE step SET row = 'one' WHERE pos = 1", ('status', 'links'), True),
+    'a key that is a text': Foreign("UPDATE object SET key = 'b.example' WHERE key = CAST('b.example' AS BLOB)", ('links', 'domain')),
+    'a record that is none': Foreign("UPDATE object SET record = X'00' WHERE key = CAST('b.example' AS BLOB)", ('links', 'domain')),
+    'a parked body that is a text': Foreign("UPDATE parked SET body = 'abc'", ('parked',)),
+    'a moment that is a text': Foreign("UPDATE moment SET watermark = 'noon'", ('moment', 'gaps')),
+    'a before-image of another kind': Foreign("UPDATE undo SET kind = 9 WHERE pos = 1 AND key = CAST('a.example' AS BLOB)"),
+}
+
+
+def test_foreign_rows(stage):
+    """A row that no store writes is `S1` to each report and export that reads it, which prints nothing, and to no other."""
+    put_store(stage)
+    Folder('nothing').do(stage)
+    check_reports(stage, 'a.db', ALL)
+    for name, foreign in FOREIGN.items():
+        with case(name):
+            copy(stage.at('a.db'), stage.at('b.db'))
+            change_row(stage, 'b.db', foreign.statement, ())
+            check_reports(stage, 'b.db', ALL, foreign.refused)
+            if foreign.has_no_desk:
+                check_refused(stage, 'b.db')
+            else:
+                stage.check('take --store b.db nothing', NO_RECEIPTS)
+
+
+# ---- an index that lies
+
+NUMBERS, UNIQUE = 'sqlite_autoindex_receipt_1', ', UNIQUE (number, digest)'
+COLUMNS = 'rowid, type, name, tbl_name, rootpage, sql'
+
+
+@contextlib.contextmanager
+def schema_of(path):
+    """A database whose list of tables may be written."""
+    with contextlib.closing(sqlite3.connect(path)) as database, database:
+        database.execute('PRAGMA writable_schema = ON')
+        yield database
+
+
+def make_index_lie(path):
+    """Gives a receipt another number in the index of numbers alone: in the table too, and there back while the table has no index."""
+    with schema_of(path) as database:
+        database.execute("UPDATE receipt SET number = 'other' WHERE receipt = 1")
+        index, = database.execute(f'SELECT {COLUMNS} FROM sqlite_master WHERE name = ?', (NUMBERS,)).fetchall()
+        text, = database.execute("SELECT sql FROM sqlite_master WHERE name = 'receipt'").fetchone()
+        database.execute('DELETE FROM sqlite_master WHERE name = ?', (NUMBERS,))
+        database.execute("UPDATE sqlite_master SET sql = ? WHERE name = 'receipt'", (text.replace(UNIQUE, ''),))
+    with schema_of(path) as database:
+        database.execute("UPDATE receipt SET number = '1' WHERE receipt = 1")
+        database.execute("UPDATE sqlite_master SET sql = ? WHERE name = 'receipt'", (text,))
+        database.execute(f'INSERT INTO sqlite_master ({COLUMNS}) VALUES (?, ?, ?, ?, ?, ?)', index)
+
+
+def test_lying_index(stage):
+    """An index that has another number than its table is `S1` to each command that has a desk. No report or export reads it."""
+    put_store(stage)
+    make_index_lie(stage.at('a.db'))
+    if is_whole(stage.at('a.db')):
+        raise Failed('the index does not lie')
+    check_reports(stage, 'a.db', ALL)
+    check_refused(stage, 'a.db')
+
+
+# ---- a log
+
+
+def copy_in_use(stage, store):
+    """Copies the two files of a store while a desk on a port has taken the first deposit."""
+    port = free_port()
+    child = stage.begin(f'serve --store a.db --port {port} --count 2'.split())
+    if next(pieces_of(child.stdout), b'') != f'listening {HOST}:{port}\n'.encode():
+        raise Failed('a.db is not served')
+    with socket.create_connection((HOST, port), SECONDS) as client, open(stage.at('deposits/1'), 'rb') as body:
+        client.sendall(put('1', body.read()))
+        received(client)
+    copy(stage.at('a.db'), stage.at(store))
+    stage.check('report --store a.db status', S1)
+    child.kill()
+    child.wait()
+
+
+def test_log_that_was_not_copied(stage):
+    """A report of what a stopped command left reads the log, too, and leaves both files as they are. A desk, which copies it, says the same."""
+    put_files(stage)
+    Folder('nothing').do(stage)
+    copy_in_use(stage, 'stopped.db')
+    before = contents(stage.at('stopped.db'))
+    if len(before[1]) <= EMPTY_LOG:
+        raise Failed('the log is empty')
+    check_reports(stage, 'stopped.db', FIRST)
+    if contents(stage.at('stopped.db')) != before:
+        raise Failed('a file is changed')
+    stage.check('take --store stopped.db nothing', NO_RECEIPTS)
+    if len(contents(stage.at('stopped.db'))[1]) > EMPTY_LOG:
+        raise Failed('the log is not copied')
+    check_reports(stage, 'stopped.db', FIRST)
+
+
+# ---- a store of version 1
+
+
+def test_first_version(stage):
+    """A store of version 1 is `S3` to each report and export."""
+    FirstStore('a.db', 'first.csv', (('n1', 'f1.bundle'),)).do(stage)
+    for what in ALL:
+        stage.check(command_of('a.db', what), S3)
