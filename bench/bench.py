@@ -2,15 +2,16 @@
 """bench/bench.py [PROGRAM ..] [--times N] [--only PART] [--keep FOLDER]: how long the program takes, and how much memory.
 
 Makes a large release (seeded: every run has the same bytes) and lets the program do each task: takes of Fulls, of Differentials, of
-a late revision, of an Incremental and of repeats; each report and two exports; a late revision under six Differentials of 15 MB;
-a desk on a socket of this machine, and one with 50,000 receipts; a chain of 4,095 tiny Differentials, in order; and bodies that
-no row lists yet, parked and then adopted. It prints for each task the time by the clock, the processor time and the peak memory,
-with a column of these for each PROGRAM (the one that was built in this checkout, if none is named), which do each task in turn;
-and of two the ratio of the second to the first. With --times the least of N runs stands there. Beside a Full stands what the C
-library takes to write the same rows, one a statement (`raw.py`).
+a late revision, of an Incremental and of repeats; each report and two exports, and the same by a desk, which opens the store by
+SQL; a late revision under six Differentials of 15 MB; a desk on a socket of this machine, and one with 50,000 receipts; a chain of
+4,095 tiny Differentials, in order; bodies that no row lists yet, parked and then adopted; and reports of a store with 256 MB of
+parked bodies. It prints for each task the time by the clock, the processor time and the peak memory, with a column of these for
+each PROGRAM (the one that was built in this checkout, if none is named), which do each task in turn; and of two the ratio of the
+second to the first. With --times the least of N runs stands there. Beside a Full stands what the C library takes to write the same
+rows, one a statement (`raw.py`).
 
 Times of a busy machine say little; the ratios within one run say more."""
-import contextlib, os, shutil, sqlite3, subprocess, sys, tempfile, time
+import contextlib, os, random, shutil, sqlite3, subprocess, sys, tempfile, time
 
 from running import Program, Use, arrivals_where, ask, made_release
 from support import TOP, arguments_of, built, program
@@ -49,6 +50,9 @@ def days(release, restore):
     for command, names in (('report', ('status', 'gaps', 'links', 'receipts')), ('export', ('domain', 'contact'))):
         for name in names:
             yield f'{command} of {name}', restore.run(command, '--store', store, name)
+    yield 'as-of latest, which changes nothing', restore.run('as-of', '--store', store, 'latest')
+    for path in ('/links', '/export/domain', '/export/contact'):
+        yield f'a desk that serves {path} once', restore.served(store, path)
     first, later = restore.asked_again(store, '/status')
     yield 'GET /status of that store', first
     yield '  each later one', later
@@ -129,7 +133,21 @@ def adopted(release, restore):
             sys.exit('bench: the gaps after the amendment are others than where all was listed')
 
 
-PARTS = {it.__name__: it for it in (fulls, days, moves, socket, receipts, chain, adopted)}
+def parked(release, restore):
+    """Reports of a store with 256 parked bodies of 1 MB, by its trees; and a command that opens it by SQL."""
+    store, bodies, letters = restore.fresh('parked', f'{release}/small/manifest.csv'), restore.at('bodies'), random.Random(1)
+    shutil.rmtree(bodies, ignore_errors=True)
+    os.makedirs(bodies)
+    for at in range(256):
+        with open(f'{bodies}/{at}', 'wb') as body:
+            body.write(letters.randbytes(1 << 20))
+    yield '256 bodies of 1 MB, parked', restore.take(store, bodies, want=1)
+    for name in ('parked', 'status'):
+        yield f'  report of {name}', restore.run('report', '--store', store, name)
+    yield '  as-of latest, which changes nothing', restore.run('as-of', '--store', store, 'latest')
+
+
+PARTS = {it.__name__: it for it in (fulls, days, moves, socket, receipts, chain, adopted, parked)}
 
 
 def tell(task, uses):

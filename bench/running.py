@@ -73,6 +73,12 @@ class Program:
             sys.exit(f'{self.path}: the desk does not listen')
         return child, port, lambda: self.ended(child, words, begun)
 
+    def served(self, store, path):
+        """What a desk over a store uses that answers one request, and ends."""
+        _, port, ended = self.serve(store, 1)
+        ask(port, 'GET', path)
+        return ended()
+
     def asked_again(self, store, path):
         """Asks a desk over a store for a report, again and again: the processor time of the first response, the mean of the others,
         and what the run used."""
