@@ -15,7 +15,7 @@ use Rattle.esc_tables.specs.KeyName.{KeyName, key_cmp, key_eq}
 use Rattle.esc_tables.specs.ObjectValue.{ObjectValue}
 use Rattle.esc_tables.specs.DepositValue.{DepositValue}
 use Rattle.esc_apply.specs.ObjectStreams.{Entry, InOrder}
-use Rattle.esc_apply.specs.Registry.{Content, IsEntriesOf}
+use Rattle.esc_apply.specs.Registry.{ObjectsByKey, IsEntriesOf}
 use Rattle.esc_apply.specs.Tables.{mentioned, mentions, says, tables}
 use Rattle.esc_tables.specs.KeyLaws.{keys_total, one_key}
 
@@ -47,7 +47,7 @@ abbrev add : KeyName → Option ObjectValue → List Entry → List Entry
 add k None es = es
 add k (Some o) es = entries.put key_cmp k o es
 
-abbrev listed : Content → List KeyName → List Entry
+abbrev listed : ObjectsByKey → List KeyName → List Entry
 listed f [] = []
 listed f (k ∷ ks) = add k (f k) (listed f ks)
 
@@ -55,7 +55,7 @@ sorted_add : (k : KeyName) (o : Option ObjectValue) (es : List Entry) → T (ent
 sorted_add k None es h = h
 sorted_add k (Some o) es h = entries.is_sorted-put key_cmp keys_total k o es h
 
-sorted_listed : (f : Content) (ks : List KeyName) → T (entries.is_sorted key_cmp (listed f ks))
+sorted_listed : (f : ObjectsByKey) (ks : List KeyName) → T (entries.is_sorted key_cmp (listed f ks))
 sorted_listed f [] = tt
 sorted_listed f (k ∷ ks) = sorted_add k (f k) (listed f ks) (sorted_listed f ks)
 
@@ -78,7 +78,7 @@ added_is true there None is found same known = known ∙ either there is (same r
     either true w e = refl
     either false w e = sym e
 
-found : (f : Content) (ks : List KeyName) (q : KeyName) → entries.find key_cmp q (listed f ks) ≡ cond (list_any (key_eq q) ks) (f q) None
+found : (f : ObjectsByKey) (ks : List KeyName) (q : KeyName) → entries.find key_cmp q (listed f ks) ≡ cond (list_any (key_eq q) ks) (f q) None
 found f [] q = refl
 found f (k ∷ ks) q =
     found_add q k (f k) (listed f ks)

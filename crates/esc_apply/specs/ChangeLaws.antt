@@ -30,7 +30,7 @@ use Rattle.std.proofs.lemmas.Map.Keys.{IsDistinct-head, IsDistinct-tail, IsDisti
 use Rattle.esc_tables.specs.KeyName.{KeyName, key_eq}
 use Rattle.esc_tables.specs.KeyLaws.{keys_alike, one_key}
 use Rattle.esc_tables.specs.ObjectValue.{ObjectValue}
-use Rattle.esc_apply.specs.Registry.{State, Content, with_key, written, changed}
+use Rattle.esc_apply.specs.Registry.{State, ObjectsByKey, with_key, written, changed}
 use Rattle.esc_apply.specs.declared.registry.Keys.{Keys}
 use Rattle.esc_apply.specs.declared.registry.Keys.TheVariants.{Vacant, Unknown}
 use Rattle.esc_apply.specs.Changes.{Change, changed_by, AreNew, AreFirst, CanBePut, written_by}
@@ -87,7 +87,7 @@ same_content : (s t : State) (j : ℕ) (es : List Change) → s.content ≡ t.co
     → (changed_by s j es).content ≡ (written_by t es).content
 same_content s t j [] same = same
 same_content s t j (e ∷ es) same = same_content (changed s j e.0 e.1) (written t e.0 e.1) j es
-    (ap (λ (f : Content). with_key f e.0 e.1) same)
+    (ap (λ (f : ObjectsByKey). with_key f e.0 e.1) same)
 
 pub content-changed_by : (s : State) (j : ℕ) (es : List Change) → IsDistinct key_eq (keys_of es)
     → (q : KeyName)

@@ -35,8 +35,8 @@ pub record AreFirst (s : State) (j : ℕ) (es : List Change) : Type 0 where
   pub new : AreNew s j es
   pub free : AllByRecursion (λ k. s.content k ≡ None) (keys_of es)
 
--- these changes can be made as step j: their keys are new, and have no object where they are said to
--- be free
+-- these changes can be made as step j: their keys are new, and have no object where they are said
+-- to be free
 abbrev pub CanBePut : Keys → State → ℕ → List Change → Type 0
 CanBePut Vacant s j es = AreFirst s j es
 CanBePut Unknown s j es = AreNew s j es

@@ -15,6 +15,6 @@ InOrder es = IsStrictlySortedBy key_cmp (keys_of es)
 
 -- the first of the entries that were still to come was returned, and the others are still to come;
 -- or there was none, and none was returned
-abbrev pub Gives : (List Entry → Type 0) → List Entry → Option Entry → Type 0
-Gives Lists es (Some e) = (rest : List Entry) × (es ≡ e ∷ rest) × Lists rest
-Gives Lists es None = (es ≡ []) × Lists []
+abbrev pub GivesFirst : (List Entry → Type 0) → List Entry → Option Entry → Type 0
+GivesFirst Lists es (Some e) = (rest : List Entry) × (es ≡ e ∷ rest) × Lists rest
+GivesFirst Lists es None = (es ≡ []) × Lists []

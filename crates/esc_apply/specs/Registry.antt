@@ -24,8 +24,8 @@ use Rattle.esc_tables.specs.DepositValue.{DepositValue}
 use Rattle.esc_apply.specs.Tables.{mentions, says}
 
 -- for each key its object, or none
-abbrev pub Content : Type 0
-Content = KeyName → Option ObjectValue
+abbrev pub ObjectsByKey : Type 0
+ObjectsByKey = KeyName → Option ObjectValue
 
 -- for each key what was there before a step, if that was noted
 abbrev pub Befores : Type 0
@@ -33,7 +33,7 @@ Befores = KeyName → Option (Option ObjectValue)
 
 -- the objects, and for each step what was before it at the keys that it changed
 pub record State : Type 0 where
-  pub content : Content
+  pub content : ObjectsByKey
   pub undo : ℕ → Befores
 
 -- nothing was noted

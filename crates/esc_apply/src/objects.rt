@@ -1,7 +1,7 @@
 //! Objects that are given one at a time.
 
 ghost use Rattle.std.specs.Prelude.{ℕ, ◌≡◌, ◌+◌, List, IfOk, IfErr, OnOk, OnErr, IsSome, ⊤};
-ghost use Rattle.esc_apply.specs.ObjectStreams.{Entry, Gives, InOrder};
+ghost use Rattle.esc_apply.specs.ObjectStreams.{Entry, GivesFirst, InOrder};
 
 use esc_tables::{Key, Object};
 
@@ -35,7 +35,7 @@ pub trait Objects {
         ensures follows { follows self.old self.new }
         ensures given { IfOk result (λ o. is_honest self.new → (es : List Entry)
             → lists self.old es
-            → Gives (lists self.new) es o) }
+            → GivesFirst (lists self.new) es o) }
         ensures fewer { IfOk result (λ o. IsSome o → bound self.old ≡ bound self.new + 1) }
         ensures failed { OnErr result (has_failed self.new) }
         ensures cause { IfErr result fails }

@@ -27,7 +27,7 @@ use Rattle.esc_envelope.specs.declared.place.Place.{Place}
 use Rattle.esc_manifest.specs.declared.row.MRow.{MRow}
 use Rattle.esc_envelope.specs.Place.{IsUpTo}
 use Rattle.esc_manifest.specs.ManifestRows.{place_at, kind_at, watermark_at, resend_at}
-use Rattle.esc_manifest.specs.RowFaults.{most_rows}
+use Rattle.esc_manifest.specs.RowFaults.{most_manifest_rows}
 use Rattle.esc_chain.specs.declared.base.Base.TheVariants.{At}
 use Rattle.esc_chain.specs.Base.{IsBase}
 
@@ -46,7 +46,7 @@ InRange m h = (r : ℕ) → IsHeld h r → r < length m
 -- a list of no more rows than a manifest may have, each of them held, a row of the manifest, and in
 -- the list once
 pub record AreHeldRows (m : List MRow) (h : Rows) (c : List ℕ) : Type 0 where
-  pub few : length c ≤ most_rows
+  pub few : length c ≤ most_manifest_rows
   pub held : (k : ℕ) → k < length c → IsHeld h (slice_index c k)
   pub in_range : (k : ℕ) → k < length c → slice_index c k < length m
   pub once : (j k : ℕ) → j < k → k < length c → slice_index c j ≢ slice_index c k

@@ -19,15 +19,15 @@ use Rattle.esc_tables.specs.KeyName.{KeyName, key_cmp, key_eq}
 use Rattle.esc_tables.specs.ObjectValue.{RowValue, ObjectValue}
 use Rattle.esc_apply.specs.ObjectStreams.{Entry}
 use Rattle.esc_check.specs.declared.field.LinkField.{LinkField}
-use Rattle.esc_check.specs.Export.{is_in}
+use Rattle.esc_check.specs.Export.{is_of_table}
 use Rattle.esc_check.specs.Fields.{cell, field_name, is_domain, parent_fields, child_field, status_table, created, expires}
 use Rattle.esc_check.specs.FindingValue.{FindingValue}
 use Rattle.esc_check.specs.Findings.{IsMissing, IsMiscounted, IsUnknown, IsMixed, IsLate, IsEarly, IsMalformed, IsOfDates, IsOwn, IsFinding, missing_target, miscounted, unknown_status, mixed_status, late, early, malformed}
-use Rattle.esc_check.specs.Gathered.{is_empty, text_links, field_links, row_links, child_links, links_of, is_present, link_findings, count_of, count_findings, row_status, statuses_in, statuses_of, is_status, is_ok, is_mixed, one_unknown, status_findings, is_after, is_before, is_malformed, late_findings, early_findings, malformed_findings, moment_findings, form_findings, own_findings, object_findings}
-use Rattle.esc_check.specs.LinkValue.{LinkValue, link_to}
+use Rattle.esc_check.specs.Gathered.{is_empty_text, text_links, field_links, row_links, child_links, links_of, is_present, link_findings, count_of_kind, count_findings, row_status, statuses_in, statuses_of, is_status, is_ok, is_mixed, one_unknown, status_findings, is_known_after, is_known_before, is_malformed, late_findings, early_findings, malformed_findings, moment_findings, form_findings, own_findings, object_findings}
+use Rattle.esc_check.specs.LinkValue.{LinkValue, link_to_name}
 use Rattle.esc_check.specs.Links.{LinksBy, IsLinkOf}
 use Rattle.esc_check.specs.Statuses.{status_words, IsStatusOf}
-use Rattle.esc_check.specs.TableMap.{tables_of}
+use Rattle.esc_check.specs.TableMap.{content_of_entries}
 use Rattle.esc_tables.specs.KeyLaws.{keys_alike, one_key}
 use Rattle.esc_check.proofs.Keys.{count_has, count_is}
 use Rattle.esc_check.proofs.Members.{from_pieces, in_pieces, from_chosen, in_chosen, from_any, any_from}
@@ -60,21 +60,21 @@ gone None h = refl
 gone (Some x) h = absurd (false≢true h)
 
 is_full : (b : ℕ) (bs : List ℕ) → (b ∷ bs) ≢ []
-is_full b bs = λ e. false≢true (ap is_empty e)
+is_full b bs = λ e. false≢true (ap is_empty_text e)
 
-not_empty : (text : List ℕ) → text ≢ [] → is_empty text ≡ false
+not_empty : (text : List ℕ) → text ≢ [] → is_empty_text text ≡ false
 not_empty [] some = absurd (some refl)
 not_empty (b ∷ bs) some = refl
 
 -- V1
 
-names : (k : KeyName) (g : LinkField) (text : List ℕ) (l : LinkValue) → Contains (text_links k g text) l → (text ≢ []) × (l ≡ link_to k g text)
+names : (k : KeyName) (g : LinkField) (text : List ℕ) (l : LinkValue) → Contains (text_links k g text) l → (text ≢ []) × (l ≡ link_to_name k g text)
 names k g [] l h = absurd (nothing_in l h)
-names k g (b ∷ bs) l h = (is_full b bs, sym (only (link_to k g (b ∷ bs)) l h))
+names k g (b ∷ bs) l h = (is_full b bs, sym (only (link_to_name k g (b ∷ bs)) l h))
 
-named : (k : KeyName) (g : LinkField) (text : List ℕ) (l : LinkValue) → text ≢ [] → l ≡ link_to k g text → Contains (text_links k g text) l
+named : (k : KeyName) (g : LinkField) (text : List ℕ) (l : LinkValue) → text ≢ [] → l ≡ link_to_name k g text → Contains (text_links k g text) l
 named k g [] l some is = absurd (some refl)
-named k g (b ∷ bs) l some is = subst (λ (m : LinkValue). Contains (link_to k g (b ∷ bs) ∷ []) m) (sym is) (first_in (link_to k g (b ∷ bs)) [])
+named k g (b ∷ bs) l some is = subst (λ (m : LinkValue). Contains (link_to_name k g (b ∷ bs) ∷ []) m) (sym is) (first_in (link_to_name k g (b ∷ bs)) [])
 
 row_names : (k : KeyName) (r : RowValue) (o : Option LinkField) (l : LinkValue) → Contains (row_links k r o) l → (g : LinkField) × (o ≡ Some g) × LinksBy k r g l
 row_names k r None l h = absurd (nothing_in l h)
@@ -104,18 +104,18 @@ from_of : (k : KeyName) (o : ObjectValue) (l : LinkValue) → IsLinkOf k o l →
 from_of k o l (inl (g, has, by)) = ap (λ (m : LinkValue). m.from) by.1
 from_of k o l (inr (r, g, has, table, by)) = ap (λ (m : LinkValue). m.from) by.1
 
-links_found : (es : List Entry) (k : KeyName) (o : ObjectValue) (f : FindingValue) → tables_of es k ≡ Some o → Contains (link_findings (is_present es) (links_of k o)) f → IsMissing (tables_of es) f
+links_found : (es : List Entry) (k : KeyName) (o : ObjectValue) (f : FindingValue) → content_of_entries es k ≡ Some o → Contains (link_findings (is_present es) (links_of k o)) f → IsMissing (content_of_entries es) f
 links_found es k o f at h =
     let r = from_chosen (λ (l : LinkValue). not (is_present es l.to)) missing_target (links_of k o) f h in
     let link = links_are k o r.0 r.1 in
     let from = from_of k o r.0 link in (
       r.0,
-      (o, subst (λ (q : KeyName). tables_of es q ≡ Some o) (sym from) at, subst (λ (q : KeyName). IsLinkOf q o r.0) (sym from) link),
-      gone (tables_of es r.0.to) r.2,
+      (o, subst (λ (q : KeyName). content_of_entries es q ≡ Some o) (sym from) at, subst (λ (q : KeyName). IsLinkOf q o r.0) (sym from) link),
+      gone (content_of_entries es r.0.to) r.2,
       r.3,
     )
 
-found_links : (es : List Entry) (k : KeyName) (o : ObjectValue) (l : LinkValue) (f : FindingValue) → IsLinkOf k o l → tables_of es l.to ≡ None → f ≡ missing_target l
+found_links : (es : List Entry) (k : KeyName) (o : ObjectValue) (l : LinkValue) (f : FindingValue) → IsLinkOf k o l → content_of_entries es l.to ≡ None → f ≡ missing_target l
     → Contains (link_findings (is_present es) (links_of k o)) f
 found_links es k o l f link absent is =
     let lost : not (is_present es l.to) ≡ true = ap (λ (x : Option ObjectValue). not (is_some x)) absent in
@@ -124,16 +124,16 @@ found_links es k o l f link absent is =
 
 -- V2
 
-counts_found : (es : List Entry) (counts : List (Kind × ℕ)) (f : FindingValue) → IsDistinct key_eq (keys_of es) → Contains (flat_map (count_findings (keys_of es)) counts) f → IsMiscounted (tables_of es) counts f
+counts_found : (es : List Entry) (counts : List (Kind × ℕ)) (f : FindingValue) → IsDistinct key_eq (keys_of es) → Contains (flat_map (count_findings (keys_of es)) counts) f → IsMiscounted (content_of_entries es) counts f
 counts_found es counts f apart h =
     let r = from_pieces (count_findings (keys_of es)) counts f h in
-    let n = count_of (keys_of es) r.0.0 in
+    let n = count_of_kind (keys_of es) r.0.0 in
     let u = unless (n == r.0.1) (miscounted r.0.0 r.0.1 n) f r.2 in
     (r.0.0, r.0.1, n, r.1, count_has es r.0.0 apart, eqb-false n r.0.1 u.0, u.1)
 
-found_counts : (es : List Entry) (counts : List (Kind × ℕ)) (f : FindingValue) → IsDistinct key_eq (keys_of es) → IsMiscounted (tables_of es) counts f → Contains (flat_map (count_findings (keys_of es)) counts) f
+found_counts : (es : List Entry) (counts : List (Kind × ℕ)) (f : FindingValue) → IsDistinct key_eq (keys_of es) → IsMiscounted (content_of_entries es) counts f → Contains (flat_map (count_findings (keys_of es)) counts) f
 found_counts es counts f apart (kind, declared, n, has, many, other, is) =
-    let c = count_of (keys_of es) kind in
+    let c = count_of_kind (keys_of es) kind in
     let same : n ≡ c = count_is es kind n apart many in
     in_pieces (count_findings (keys_of es)) counts (kind, declared) f has
     (give_unless (c == declared) (miscounted kind declared c) f (ne_eqb c declared (subst (λ (m : ℕ). m ≢ declared) same other)) (is ∙ ap (miscounted kind declared) same))
@@ -141,9 +141,9 @@ found_counts es counts f apart (kind, declared, n, has, many, other, is) =
 -- V3 and V4
 
 status_at : (table : List ℕ) (r : RowValue) (s : List ℕ) → Contains (row_status table r) s → (r.table ≡ table) × (cell (codes "status") r ≡ s) × (s ≢ [])
-status_at table r s h = pick (is_in table r) refl (cell (codes "status") r) refl h
+status_at table r s h = pick (is_of_table table r) refl (cell (codes "status") r) refl h
   where
-    pick : (b : Bool) → is_in table r ≡ b → (c : List ℕ) → cell (codes "status") r ≡ c → Contains (cond b (cond (is_empty c) [] (c ∷ [])) []) s
+    pick : (b : Bool) → is_of_table table r ≡ b → (c : List ℕ) → cell (codes "status") r ≡ c → Contains (cond b (cond (is_empty_text c) [] (c ∷ [])) []) s
         → (r.table ≡ table) × (cell (codes "status") r ≡ s) × (s ≢ [])
     pick false e c f h = absurd (nothing_in s h)
     pick true e [] f h = absurd (nothing_in s h)
@@ -154,9 +154,9 @@ status_at table r s h = pick (is_in table r) refl (cell (codes "status") r) refl
 at_status : (table : List ℕ) (r : RowValue) (s : List ℕ) → r.table ≡ table → cell (codes "status") r ≡ s → s ≢ [] → Contains (row_status table r) s
 at_status table r s same is some =
     let c = cell (codes "status") r in
-    let among : is_in table r ≡ true = (bytes_eq-Decides r.table table).1 same in
-    let full : is_empty c ≡ false = not_empty c (λ e. some (sym is ∙ e)) in
-    subst (λ (b : Bool). Contains (cond b (cond (is_empty c) [] (c ∷ [])) []) s) (sym among)
+    let among : is_of_table table r ≡ true = (bytes_eq-Decides r.table table).1 same in
+    let full : is_empty_text c ≡ false = not_empty c (λ e. some (sym is ∙ e)) in
+    subst (λ (b : Bool). Contains (cond b (cond (is_empty_text c) [] (c ∷ [])) []) s) (sym among)
     (subst (λ (b : Bool). Contains (cond b [] (c ∷ [])) s) (sym full) (subst (λ (x : List ℕ). Contains (c ∷ []) x) is (first_in c [])))
 
 in_table : (table : Option (List ℕ)) (rows : List RowValue) (s : List ℕ) → Contains (statuses_in table rows) s
@@ -248,11 +248,11 @@ found_statuses k o f (inr m) =
 
 -- V5, V6 and V7
 
-after_is : (d : Option ℤ) (w : ℤ) → is_after d w ≡ true → (m : ℤ) × (d ≡ Some m) × (w <ℤ m)
+after_is : (d : Option ℤ) (w : ℤ) → is_known_after d w ≡ true → (m : ℤ) × (d ≡ Some m) × (w <ℤ m)
 after_is None w h = absurd (false≢true h)
 after_is (Some m) w h = (m, refl, lt_is w m h)
 
-before_is : (e d : Option ℤ) → is_before e d ≡ true → (m : ℤ) × (n : ℤ) × (e ≡ Some m) × (d ≡ Some n) × (m <ℤ n)
+before_is : (e d : Option ℤ) → is_known_before e d ≡ true → (m : ℤ) × (n : ℤ) × (e ≡ Some m) × (d ≡ Some n) × (m <ℤ n)
 before_is None d h = absurd (false≢true h)
 before_is (Some m) None h = absurd (false≢true h)
 before_is (Some m) (Some n) h = (m, n, refl, refl, lt_is m n h)
@@ -262,29 +262,29 @@ moments_found w k o f h = pick (Contains-append_cases (late_findings w (printed 
   where
     pick : Contains (late_findings w (printed w) k (created k o)) f ⊎ Contains (early_findings k (expires k o) (created k o)) f → IsLate w k o f ⊎ IsEarly k o f
     pick (inl a) =
-        let g = given (is_after (watermark_of (created k o)) w) (late k (created k o) (printed w)) f a in
+        let g = given (is_known_after (watermark_of (created k o)) w) (late k (created k o) (printed w)) f a in
         let d = after_is (watermark_of (created k o)) w g.0 in
         inl (d.0, d.1, d.2, g.1)
     pick (inr b) =
-        let g = given (is_before (watermark_of (expires k o)) (watermark_of (created k o))) (early k (expires k o) (created k o)) f b in
+        let g = given (is_known_before (watermark_of (expires k o)) (watermark_of (created k o))) (early k (expires k o) (created k o)) f b in
         let d = before_is (watermark_of (expires k o)) (watermark_of (created k o)) g.0 in
         inr (d.0, d.1, d.2, d.3, d.4, g.1)
 
 found_moments : (w : ℤ) (k : KeyName) (o : ObjectValue) (f : FindingValue) → IsLate w k o f ⊎ IsEarly k o f → Contains (moment_findings w (printed w) k (created k o) (expires k o)) f
 found_moments w k o f (inl (d, at, later, is)) =
     Contains-append_left (late_findings w (printed w) k (created k o)) (early_findings k (expires k o) (created k o)) f
-    (give (is_after (watermark_of (created k o)) w) (late k (created k o) (printed w)) f (ap (λ (x : Option ℤ). is_after x w) at ∙ is_lt w d later) is)
+    (give (is_known_after (watermark_of (created k o)) w) (late k (created k o) (printed w)) f (ap (λ (x : Option ℤ). is_known_after x w) at ∙ is_lt w d later) is)
 found_moments w k o f (inr (e, d, expiry, creation, sooner, is)) =
-    let holds : is_before (watermark_of (expires k o)) (watermark_of (created k o)) ≡ true =
-    ap (λ (x : Option ℤ). is_before x (watermark_of (created k o))) expiry ∙ ap (is_before (Some e)) creation ∙ is_lt e d sooner in
+    let holds : is_known_before (watermark_of (expires k o)) (watermark_of (created k o)) ≡ true =
+    ap (λ (x : Option ℤ). is_known_before x (watermark_of (created k o))) expiry ∙ ap (is_known_before (Some e)) creation ∙ is_lt e d sooner in
     Contains-append_right (late_findings w (printed w) k (created k o)) (early_findings k (expires k o) (created k o)) f
-    (give (is_before (watermark_of (expires k o)) (watermark_of (created k o))) (early k (expires k o) (created k o)) f holds is)
+    (give (is_known_before (watermark_of (expires k o)) (watermark_of (created k o))) (early k (expires k o) (created k o)) f holds is)
 
 malformed_found : (k : KeyName) (field text : List ℕ) (f : FindingValue) → Contains (malformed_findings k field text) f → IsMalformed k field text f
 malformed_found k field text f h =
     let g = given (is_malformed text) (malformed k field text) f h in
     let p = and_parts _ _ g.0 in
-    (λ e. false≢true (sym (ap (λ (t : List ℕ). not (is_empty t)) e) ∙ p.0), gone (watermark_of text) p.1, g.1)
+    (λ e. false≢true (sym (ap (λ (t : List ℕ). not (is_empty_text t)) e) ∙ p.0), gone (watermark_of text) p.1, g.1)
 
 found_malformed : (k : KeyName) (field text : List ℕ) (f : FindingValue) → IsMalformed k field text f → Contains (malformed_findings k field text) f
 found_malformed k field text f (some, none, is) =
@@ -333,26 +333,26 @@ module _ (es : List Entry) (w : ℤ) (counts : List (Kind × ℕ)) (apart : IsDi
   abbrev declared : Kind × ℕ → List FindingValue
   declared = count_findings (keys_of es)
 
-  object_found : (k : KeyName) (o : ObjectValue) (f : FindingValue) → tables_of es k ≡ Some o → Contains (pieces (k, o)) f → IsFinding (tables_of es) w counts f
+  object_found : (k : KeyName) (o : ObjectValue) (f : FindingValue) → content_of_entries es k ≡ Some o → Contains (pieces (k, o)) f → IsFinding (content_of_entries es) w counts f
   object_found k o f at h = pick (Contains-append_cases (link_findings (is_present es) (links_of k o)) (own_findings w (printed w) k o) f h)
     where
-      pick : Contains (link_findings (is_present es) (links_of k o)) f ⊎ Contains (own_findings w (printed w) k o) f → IsFinding (tables_of es) w counts f
+      pick : Contains (link_findings (is_present es) (links_of k o)) f ⊎ Contains (own_findings w (printed w) k o) f → IsFinding (content_of_entries es) w counts f
       pick (inl a) = inl (links_found es k o f at a)
       pick (inr b) = inr (inr (k, o, at, own_found w k o f b))
 
-  found_in : (k : KeyName) (o : ObjectValue) (f : FindingValue) → tables_of es k ≡ Some o → Contains (pieces (k, o)) f → Contains (flat_map pieces es ++ flat_map declared counts) f
+  found_in : (k : KeyName) (o : ObjectValue) (f : FindingValue) → content_of_entries es k ≡ Some o → Contains (pieces (k, o)) f → Contains (flat_map pieces es ++ flat_map declared counts) f
   found_in k o f at h = Contains-append_left (flat_map pieces es) (flat_map declared counts) f (in_pieces pieces es (k, o) f (Contains-from_lookup one_key k o es at) h)
 
-  pub to_findings : (f : FindingValue) → Contains (flat_map pieces es ++ flat_map declared counts) f → IsFinding (tables_of es) w counts f
+  pub to_findings : (f : FindingValue) → Contains (flat_map pieces es ++ flat_map declared counts) f → IsFinding (content_of_entries es) w counts f
   to_findings f h = pick (Contains-append_cases (flat_map pieces es) (flat_map declared counts) f h)
     where
-      pick : Contains (flat_map pieces es) f ⊎ Contains (flat_map declared counts) f → IsFinding (tables_of es) w counts f
+      pick : Contains (flat_map pieces es) f ⊎ Contains (flat_map declared counts) f → IsFinding (content_of_entries es) w counts f
       pick (inl a) =
           let r = from_pieces pieces es f a in
           object_found r.0.0 r.0.1 f (lookup-from_Contains keys_alike r.0.0 r.0.1 es apart r.1) r.2
       pick (inr b) = inr (inl (counts_found es counts f apart b))
 
-  pub from_findings : (f : FindingValue) → IsFinding (tables_of es) w counts f → Contains (flat_map pieces es ++ flat_map declared counts) f
+  pub from_findings : (f : FindingValue) → IsFinding (content_of_entries es) w counts f → Contains (flat_map pieces es ++ flat_map declared counts) f
   from_findings f (inl (l, (o, at, link), absent, is)) =
       found_in l.from o f at (Contains-append_left (link_findings (is_present es) (links_of l.from o)) _ f (found_links es l.from o l f link absent is))
   from_findings f (inr (inl m)) = Contains-append_right (flat_map pieces es) (flat_map declared counts) f (found_counts es counts f apart m)
@@ -362,7 +362,7 @@ module _ (es : List Entry) (w : ℤ) (counts : List (Kind × ℕ)) (apart : IsDi
 -- what was gathered, as a set
 pub verified : (es : List Entry) (w at : ℤ) (shown : List ℕ) (counts : List (Kind × ℕ)) (before objects found v : List FindingValue) → IsStrictlySortedBy key_cmp (keys_of es)
     → at ≡ w → shown ≡ printed w → before ≡ [] → objects ≡ before ++ flat_map (object_findings (is_present es) at shown) es → found ≡ objects ++ flat_map (count_findings (keys_of es)) counts
-    → ((f : FindingValue) → Contains v f ↔ Contains found f) → (f : FindingValue) → Contains v f ↔ IsFinding (tables_of es) w counts f
+    → ((f : FindingValue) → Contains v f ↔ Contains found f) → (f : FindingValue) → Contains v f ↔ IsFinding (content_of_entries es) w counts f
 verified es w at shown counts before objects found v sorted moment text none of_objects all same f =
     let apart = IsDistinct-from_sorted key_cmp (keys_of es) sorted in
     let objects_are : objects ≡ flat_map (object_findings (is_present es) w (printed w)) es = of_objects ∙ (λ i. none i ++ flat_map (object_findings (is_present es) (moment i) (text i)) es) in

@@ -27,10 +27,10 @@ use Rattle.esc_check.specs.declared.field.LinkField.TheVariants.{ClId, Registran
 use Rattle.esc_check.specs.Fields.{field_name, field_target, created}
 use Rattle.esc_check.specs.FindingValue.{FindingValue, finding_cmp, listing_cmp}
 use Rattle.esc_check.specs.Findings.{IsFinding, IsOwn}
-use Rattle.esc_check.specs.Gathered.{count_of}
+use Rattle.esc_check.specs.Gathered.{count_of_kind}
 use Rattle.esc_check.specs.LinkValue.{LinkValue}
 use Rattle.esc_check.specs.Links.{IsLinkOf}
-use Rattle.esc_check.specs.TableMap.{tables_of}
+use Rattle.esc_check.specs.TableMap.{content_of_entries}
 use Rattle.esc_check.proofs.Keys.{count_is}
 use Rattle.esc_envelope.specs.KindLaws.{one_kind}
 
@@ -104,9 +104,10 @@ key_of f = record { kind = f.kind; text = f.key }
 abbrev tells : List Entry → ℤ → FindingValue → List ℕ
 tells es w f =
     cond (f.code == 1) (target_name f.field)
-    (cond (f.code == 2) (decimal (count_of (keys_of es) f.kind))
+    (cond (f.code == 2) (decimal (count_of_kind (keys_of es) f.kind))
     (cond (f.code == 5) (printed w)
-    (cond (f.code == 6) (option_map_or (created (key_of f)) (tables_of es (key_of f)) []) [])))
+    (cond (f.code == 6)
+    (option_map_or (created (key_of f)) (content_of_entries es (key_of f)) []) [])))
 
 leads_to : (k : KeyName) (o : ObjectValue) (l : LinkValue) → IsLinkOf k o l → l.to.kind ≡ field_target l.field
 leads_to k o l (inl (g, has, by)) = subst (λ (m : LinkValue). m.to.kind ≡ field_target m.field) (sym by.1) refl
@@ -116,7 +117,7 @@ module _ (es : List Entry) (w : ℤ) where
   abbrev Tells : FindingValue → Type 0
   Tells f = f.other ≡ tells es w f
 
-  own_told : (k : KeyName) (o : ObjectValue) (f : FindingValue) → tables_of es k ≡ Some o → IsOwn w k o f → Tells f
+  own_told : (k : KeyName) (o : ObjectValue) (f : FindingValue) → content_of_entries es k ≡ Some o → IsOwn w k o f → Tells f
   own_told k o f at (inl (inl (s, has, other, is))) = subst Tells (sym is) refl
   own_told k o f at (inl (inr (domain, ok, more, is))) = subst Tells (sym is) refl
   own_told k o f at (inr (inl (inl (d, creation, past, is)))) = subst Tells (sym is) refl
@@ -125,7 +126,7 @@ module _ (es : List Entry) (w : ℤ) where
   own_told k o f at (inr (inr (inl (some, none, is)))) = subst Tells (sym is) refl
   own_told k o f at (inr (inr (inr (some, none, is)))) = subst Tells (sym is) refl
 
-  told : (counts : List (Kind × ℕ)) → IsDistinct key_eq (keys_of es) → (f : FindingValue) → IsFinding (tables_of es) w counts f → Tells f
+  told : (counts : List (Kind × ℕ)) → IsDistinct key_eq (keys_of es) → (f : FindingValue) → IsFinding (content_of_entries es) w counts f → Tells f
   told counts apart f (inl (l, (o, at, link), absent, is)) = subst Tells (sym is) (ap kind_name (leads_to l.from o l link) ∙ sym (target_is l.field))
   told counts apart f (inr (inl (kind, declared, n, has, many, other, is))) = subst Tells (sym is) (ap decimal (count_is es kind n apart many))
   told counts apart f (inr (inr (k, o, at, own))) = own_told k o f at own
@@ -136,7 +137,7 @@ module _ (es : List Entry) (w : ℤ) where
 
 -- findings in strict order are listed in strict order
 pub in_order : (es : List Entry) (w : ℤ) (counts : List (Kind × ℕ)) (v : List FindingValue) → IsStrictlySortedBy key_cmp (keys_of es)
-    → ((f : FindingValue) → Contains v f ↔ IsFinding (tables_of es) w counts f) → IsStrictlySortedBy finding_cmp v → IsStrictlySortedBy listing_cmp v
+    → ((f : FindingValue) → Contains v f ↔ IsFinding (content_of_entries es) w counts f) → IsStrictlySortedBy finding_cmp v → IsStrictlySortedBy listing_cmp v
 in_order es w counts v sorted each strict =
     let apart = IsDistinct-from_sorted key_cmp (keys_of es) sorted in
     listed v (λ f g has too. in_listing f g (same_told es w f g (told es w counts apart f ((each f).0 has)) (told es w counts apart g ((each g).0 too)))) strict

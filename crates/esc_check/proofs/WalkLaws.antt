@@ -23,7 +23,7 @@ use Rattle.esc_check.specs.FindingValue.{FindingValue}
 use Rattle.esc_check.specs.Findings.{IsFinding, missing_target}
 use Rattle.esc_check.specs.Gathered.{links_of, is_present, link_findings, count_findings, own_findings, object_findings, all_links, Leads}
 use Rattle.esc_check.specs.LinkValue.{LinkValue}
-use Rattle.esc_check.specs.TableMap.{tables_of}
+use Rattle.esc_check.specs.TableMap.{content_of_entries}
 use Rattle.esc_check.proofs.FindingLaws.{to_findings, from_findings}
 use Rattle.esc_tables.specs.KeyLaws.{keys_total}
 use Rattle.esc_check.proofs.Members.{from_pieces, in_pieces, from_chosen, in_chosen}
@@ -138,7 +138,7 @@ module _ (present : KeyName → Bool) (w : ℤ) (shown : List ℕ) where
 abbrev walked : List Entry → ℤ → List (Kind × ℕ) → List FindingValue
 walked es w counts = (flat_map (λ e. own_findings w (printed w) e.0 e.1) es ++ link_findings (is_present es) (all_links es)) ++ flat_map (count_findings (keys_of es)) counts
 
-walked_are : (es : List Entry) (w : ℤ) (counts : List (Kind × ℕ)) → IsDistinct key_eq (keys_of es) → (f : FindingValue) → Contains (walked es w counts) f ↔ IsFinding (tables_of es) w counts f
+walked_are : (es : List Entry) (w : ℤ) (counts : List (Kind × ℕ)) → IsDistinct key_eq (keys_of es) → (f : FindingValue) → Contains (walked es w counts) f ↔ IsFinding (content_of_entries es) w counts f
 walked_are es w counts apart f = (λ h. to_findings es w counts apart f (there h), λ h. back (from_findings es w counts apart f h))
   where
     first : List FindingValue
@@ -176,7 +176,7 @@ gathered_all w g es counts leads =
 
 pub walked_found : (w : ℤ) (g : Gathering) (es : List Entry) (counts : List (Kind × ℕ)) (found v : List FindingValue) → InOrder es → Leads w (printed w) g [] es
     → found ≡ (g.found.items ++ map missing_target (filter (λ l. not (sorted.contains key_cmp g.met l.to)) g.waiting.items)) ++ flat_map (count_findings g.met.keys) counts
-    → ((f : FindingValue) → Contains v f ↔ Contains found f) → (f : FindingValue) → Contains v f ↔ IsFinding (tables_of es) w counts f
+    → ((f : FindingValue) → Contains v f ↔ Contains found f) → (f : FindingValue) → Contains v f ↔ IsFinding (content_of_entries es) w counts f
 walked_found w g es counts found v ordered leads is same f =
     let apart = IsDistinct-from_sorted key_cmp (keys_of es) ordered in
     let all = is ∙ gathered_all w g es counts leads in

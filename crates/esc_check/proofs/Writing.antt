@@ -11,7 +11,7 @@ use Rattle.esc_tables.specs.KeyName.{KeyName}
 use Rattle.esc_tables.specs.ObjectValue.{RowValue, ObjectValue}
 use Rattle.esc_csv.specs.Lines.{Line, line_text, text_of}
 use Rattle.esc_check.proofs.Cells.{Cell, cells_from}
-use Rattle.esc_check.specs.Export.{cell_line, row_lines, is_in, number_behind, child_lines, object_lines, export_lines}
+use Rattle.esc_check.specs.Export.{cell_line, row_lines, is_of_table, number_behind, child_lines, object_lines, export_lines}
 
 pub text_of-append : (a b : List Line) → text_of (a ++ b) ≡ text_of a ++ text_of b
 text_of-append a b = flat_map-append line_text a b
@@ -52,12 +52,13 @@ object_passed kind k o es left is other =
     ap (λ (l : List (KeyName × ObjectValue)). text_of (export_lines kind l)) is ∙ (rw other refl)
 
 -- a table has one more row where one of its rows follows
-pub counted : (rows : List RowValue) (i : ℕ) (x : RowValue) → i < length rows → x ≡ get_or rows i x → count_by (is_in x.table) (take (i + 1) rows) ≡ count_by (is_in x.table) (take i rows) + 1
+pub counted : (rows : List RowValue) (i : ℕ) (x : RowValue) → i < length rows → x ≡ get_or rows i x → count_by (is_of_table x.table) (take (i + 1) rows) ≡ count_by (is_of_table x.table) (take i rows) + 1
 counted rows i x within is =
-    let own : is_in x.table x ≡ true = (bytes_eq-Decides x.table x.table).1 refl in
-    count_by_more_yes (is_in x.table) rows i x within (ap (is_in x.table) (sym is) ∙ own)
+    let own : is_of_table x.table x ≡ true = (bytes_eq-Decides x.table x.table).1 refl in
+    count_by_more_yes (is_of_table x.table) rows i x within
+    (ap (is_of_table x.table) (sym is) ∙ own)
 
-pub numbered : (rows : List RowValue) (i : ℕ) (x : RowValue) → i < length rows → x ≡ get_or rows i x → count_by (is_in x.table) (take i rows) + 1 ≡ number_behind (take i rows) x
+pub numbered : (rows : List RowValue) (i : ℕ) (x : RowValue) → i < length rows → x ≡ get_or rows i x → count_by (is_of_table x.table) (take i rows) + 1 ≡ number_behind (take i rows) x
 numbered rows i x within is =
     sym (counted rows i x within is)
-    ∙ ap (count_by (is_in x.table)) (take_more rows i x within ∙ ap (λ (y : RowValue). take i rows ++ y ∷ []) (sym is))
+    ∙ ap (count_by (is_of_table x.table)) (take_more rows i x within ∙ ap (λ (y : RowValue). take i rows ++ y ∷ []) (sym is))

@@ -10,9 +10,9 @@ use Rattle.esc_tables.specs.ObjectValue.{RowValue, ObjectValue}
 use Rattle.esc_csv.specs.Lines.{Line, text_of}
 
 -- the first line: the names of the columns
-abbrev pub heading : Line
-heading = codes "kind" ∷ codes "key" ∷ codes "table" ∷ codes "row" ∷ codes "field" ∷ codes "value"
-    ∷ []
+abbrev pub export_heading : Line
+export_heading = codes "kind" ∷ codes "key" ∷ codes "table" ∷ codes "row" ∷ codes "field"
+    ∷ codes "value" ∷ []
 
 -- the line of a cell in row n of a table
 abbrev pub cell_line : KeyName → ℕ → List ℕ → (List ℕ × List ℕ) → Line
@@ -23,12 +23,12 @@ abbrev pub row_lines : KeyName → ℕ → RowValue → List Line
 row_lines k n r = map (cell_line k n r.table) r.cells
 
 -- whether a row is one of a table
-abbrev pub is_in : List ℕ → RowValue → Bool
-is_in table r = bytes_eq r.table table
+abbrev pub is_of_table : List ℕ → RowValue → Bool
+is_of_table table r = bytes_eq r.table table
 
 -- the number of a row that comes after these rows, among the rows of its table, from 1
 abbrev pub number_behind : List RowValue → RowValue → ℕ
-number_behind earlier r = count_by (is_in r.table) (earlier ++ r ∷ [])
+number_behind earlier r = count_by (is_of_table r.table) (earlier ++ r ∷ [])
 
 -- the lines of child rows that come after these rows, each with its number among the rows of its
 -- table
@@ -51,4 +51,4 @@ export_lines kind es = flat_map (λ e. object_lines e.0 e.1) (filter (is_of kind
 
 -- the export of a kind: the heading, and the lines of its objects
 abbrev pub export_text : Kind → List (KeyName × ObjectValue) → List ℕ
-export_text kind es = text_of (heading ∷ export_lines kind es)
+export_text kind es = text_of (export_heading ∷ export_lines kind es)

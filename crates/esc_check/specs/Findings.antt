@@ -9,11 +9,11 @@ use Rattle.esc_envelope.specs.Kinds.{kind_name}
 use Rattle.esc_envelope.specs.Watermark.{printed, watermark_of}
 use Rattle.esc_tables.specs.KeyName.{KeyName}
 use Rattle.esc_tables.specs.ObjectValue.{ObjectValue}
-use Rattle.esc_apply.specs.Registry.{Content}
+use Rattle.esc_apply.specs.Registry.{ObjectsByKey}
 use Rattle.esc_check.specs.Fields.{field_name, created, expires}
 use Rattle.esc_check.specs.FindingValue.{FindingValue}
 use Rattle.esc_check.specs.LinkValue.{LinkValue}
-use Rattle.esc_check.specs.Links.{IsLink}
+use Rattle.esc_check.specs.Links.{HasLink}
 use Rattle.esc_check.specs.Statuses.{status_words, IsStatusOf}
 use Rattle.esc_check.specs.TableMap.{HasCount}
 
@@ -29,8 +29,8 @@ missing_target l = record {
 }
 
 -- V1: a link leads to no object
-abbrev pub IsMissing : Content → FindingValue → Type 0
-IsMissing t f = (l : LinkValue) × IsLink t l × (t l.to ≡ None) × (f ≡ missing_target l)
+abbrev pub IsMissing : ObjectsByKey → FindingValue → Type 0
+IsMissing t f = (l : LinkValue) × HasLink t l × (t l.to ≡ None) × (f ≡ missing_target l)
 
 -- V2, as it is reported of a kind with a declared and a found number of objects
 abbrev pub miscounted : Kind → ℕ → ℕ → FindingValue
@@ -45,7 +45,7 @@ miscounted kind declared found
     }
 
 -- V2: a kind has another number of objects than declared
-abbrev pub IsMiscounted : Content → List (Kind × ℕ) → FindingValue → Type 0
+abbrev pub IsMiscounted : ObjectsByKey → List (Kind × ℕ) → FindingValue → Type 0
 IsMiscounted t counts f = (kind : Kind) × (declared : ℕ) × (n : ℕ)
     × Contains counts (kind, declared) × HasCount t kind n × (n ≢ declared)
     × (f ≡ miscounted kind declared n)
@@ -143,7 +143,7 @@ abbrev pub IsOwn : ℤ → KeyName → ObjectValue → FindingValue → Type 0
 IsOwn w k o f = (IsUnknown k o f ⊎ IsMixed k o f) ⊎ IsOfDates w k o f
 
 -- the findings in these tables, by a watermark and the declared numbers
-abbrev pub IsFinding : Content → ℤ → List (Kind × ℕ) → FindingValue → Type 0
+abbrev pub IsFinding : ObjectsByKey → ℤ → List (Kind × ℕ) → FindingValue → Type 0
 IsFinding t w counts f =
     IsMissing t f ⊎ (IsMiscounted t counts f
     ⊎ ((k : KeyName) × (o : ObjectValue) × (t k ≡ Some o) × IsOwn w k o f))

@@ -37,7 +37,7 @@ use Rattle.esc_tables.specs.ObjectValue.{RowValue, ObjectValue}
 use Rattle.esc_apply.specs.ObjectStreams.{Entry}
 use Rattle.esc_check.specs.declared.field.LinkField.{LinkField}
 use Rattle.esc_check.specs.declared.walk.Gathering.{Gathering}
-use Rattle.esc_check.specs.Export.{is_in}
+use Rattle.esc_check.specs.Export.{is_of_table}
 use Rattle.esc_check.specs.Fields.{
   cell,
   field_name,
@@ -58,17 +58,17 @@ use Rattle.esc_check.specs.Findings.{
   early,
   malformed,
 }
-use Rattle.esc_check.specs.LinkValue.{LinkValue, link_to}
+use Rattle.esc_check.specs.LinkValue.{LinkValue, link_to_name}
 use Rattle.esc_check.specs.Statuses.{status_words}
 
 -- whether a text is empty
-abbrev pub is_empty : List ℕ → Bool
-is_empty [] = true
-is_empty (b ∷ bs) = false
+abbrev pub is_empty_text : List ℕ → Bool
+is_empty_text [] = true
+is_empty_text (b ∷ bs) = false
 
 -- the link of a text, if it is not empty
 abbrev pub text_links : KeyName → LinkField → List ℕ → List LinkValue
-text_links k g text = if is_empty text then [] else link_to k g text ∷ []
+text_links k g text = if is_empty_text text then [] else link_to_name k g text ∷ []
 
 -- the links of a field of a row
 abbrev pub field_links : KeyName → RowValue → LinkField → List LinkValue
@@ -97,18 +97,18 @@ abbrev pub link_findings : (KeyName → Bool) → List LinkValue → List Findin
 link_findings present links = map missing_target (filter (λ l. not (present l.to)) links)
 
 -- how many of these keys are of a kind
-abbrev pub count_of : List KeyName → Kind → ℕ
-count_of keys kind = count_by (λ q. is_kind q.kind kind) keys
+abbrev pub count_of_kind : List KeyName → Kind → ℕ
+count_of_kind keys kind = count_by (λ q. is_kind q.kind kind) keys
 
 -- the finding V2 of a declared number, if any, where these are the keys of the tables
 abbrev pub count_findings : List KeyName → Kind × ℕ → List FindingValue
-count_findings keys d = if count_of keys d.0 == d.1 then [] else miscounted d.0 d.1
-    (count_of keys d.0) ∷ []
+count_findings keys d = if count_of_kind keys d.0 == d.1 then [] else miscounted d.0 d.1
+    (count_of_kind keys d.0) ∷ []
 
 -- the status in a row, if the row is of the table and its status isn't empty
 abbrev pub row_status : List ℕ → RowValue → List (List ℕ)
-row_status table r = if is_in table r then
-    (if is_empty (cell (codes "status") r) then [] else cell (codes "status") r ∷ []) else []
+row_status table r = if is_of_table table r then
+    (if is_empty_text (cell (codes "status") r) then [] else cell (codes "status") r ∷ []) else []
 
 -- the statuses in the rows of a table, if there is a table
 abbrev pub statuses_in : Option (List ℕ) → List RowValue → List (List ℕ)
@@ -141,29 +141,30 @@ status_findings k ss = flat_map (one_unknown k) ss
     ++ (if is_mixed k.kind ss then mixed_status k ∷ [] else [])
 
 -- whether a moment is known and after another
-abbrev pub is_after : Option ℤ → ℤ → Bool
-is_after None w = false
-is_after (Some d) w = int_lt w d
+abbrev pub is_known_after : Option ℤ → ℤ → Bool
+is_known_after None w = false
+is_known_after (Some d) w = int_lt w d
 
 -- whether two moments are known, the first before the second
-abbrev pub is_before : Option ℤ → Option ℤ → Bool
-is_before None c = false
-is_before (Some e) None = false
-is_before (Some e) (Some c) = int_lt e c
+abbrev pub is_known_before : Option ℤ → Option ℤ → Bool
+is_known_before None c = false
+is_known_before (Some e) None = false
+is_known_before (Some e) (Some c) = int_lt e c
 
 -- whether a text is neither empty nor a watermark
 abbrev pub is_malformed : List ℕ → Bool
-is_malformed text = not (is_empty text) && not (is_some (watermark_of text))
+is_malformed text = not (is_empty_text text) && not (is_some (watermark_of text))
 
 -- the finding V5 of a date of creation, if any
 abbrev pub late_findings : ℤ → List ℕ → KeyName → List ℕ → List FindingValue
-late_findings w shown k text = if is_after (watermark_of text) w then late k text shown ∷ [] else []
+late_findings w shown k text
+    = if is_known_after (watermark_of text) w then late k text shown ∷ [] else []
 
 -- the finding V6 of a date of expiry, if any, by the date of creation
 abbrev pub early_findings : KeyName → List ℕ → List ℕ → List FindingValue
 early_findings k text created_text
-    = if is_before (watermark_of text) (watermark_of created_text) then early k text created_text
-    ∷ [] else []
+    = if is_known_before (watermark_of text) (watermark_of created_text) then
+    early k text created_text ∷ [] else []
 
 -- the finding V7 of a date, if any
 abbrev pub malformed_findings : KeyName → List ℕ → List ℕ → List FindingValue

@@ -12,5 +12,5 @@ pub record LinkValue : Type 0 where
   pub to : KeyName
 
 -- the link to the key with this text as its name
-abbrev pub link_to : KeyName → LinkField → List ℕ → LinkValue
-link_to k g text = record { from = k; field = g; to = key_named (field_target g) text }
+abbrev pub link_to_name : KeyName → LinkField → List ℕ → LinkValue
+link_to_name k g text = record { from = k; field = g; to = key_named (field_target g) text }

@@ -5,17 +5,17 @@ use Rattle.std.specs.Map.{lookup}
 use Rattle.esc_envelope.specs.declared.kind.Kind.{Kind}
 use Rattle.esc_tables.specs.KeyName.{KeyName, key_eq}
 use Rattle.esc_apply.specs.ObjectStreams.{Entry}
-use Rattle.esc_apply.specs.Registry.{Content}
+use Rattle.esc_apply.specs.Registry.{ObjectsByKey}
 
 -- the map that these entries make
-abbrev pub tables_of : List Entry → Content
-tables_of es q = lookup (key_eq q) es
+abbrev pub content_of_entries : List Entry → ObjectsByKey
+content_of_entries es q = lookup (key_eq q) es
 
 -- these are the keys of all objects of a kind, each once
-pub record AreKeysOf (t : Content) (kind : Kind) (keys : List KeyName) : Type 0 where
+pub record AreKeysOfKind (t : ObjectsByKey) (kind : Kind) (keys : List KeyName) : Type 0 where
   pub once : IsDistinct key_eq keys
   pub each : (q : KeyName) → Contains keys q ↔ ((q.kind ≡ kind) × IsSome (t q))
 
 -- n objects are of a kind
-abbrev pub HasCount : Content → Kind → ℕ → Type 0
-HasCount t kind n = (keys : List KeyName) × AreKeysOf t kind keys × (length keys ≡ n)
+abbrev pub HasCount : ObjectsByKey → Kind → ℕ → Type 0
+HasCount t kind n = (keys : List KeyName) × AreKeysOfKind t kind keys × (length keys ≡ n)

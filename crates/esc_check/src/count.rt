@@ -5,7 +5,7 @@ ghost use Rattle.std.specs.List.{flat_map};
 ghost use Rattle.std.specs.Fmt.{decimal};
 ghost use Rattle.std.specs.Map.{keys_of};
 ghost use Rattle.esc_check.specs.Findings.{miscounted};
-ghost use Rattle.esc_check.specs.Gathered.{count_of, count_findings};
+ghost use Rattle.esc_check.specs.Gathered.{count_of_kind, count_findings};
 
 use crate::finding::Finding;
 use esc_bundle::NoMemory;
@@ -16,7 +16,7 @@ use std::collections::{BTreeMap, BTreeSet};
 
 // How many objects are of a kind.
 fn count_of(tables: &BTreeMap<Key, Object>, kind: Kind) -> u64
-    ensures { result ≡ count_of (keys_of tables.now.entries) kind }
+    ensures { result ≡ count_of_kind (keys_of tables.now.entries) kind }
 {
     tables.keys().filter(|key| key.kind == kind).count() as u64
 }
@@ -67,7 +67,7 @@ fn check_count(
 
 // How many of these keys are of a kind.
 fn count_among(met: &BTreeSet<Key>, kind: Kind) -> u64
-    ensures { result ≡ count_of met.now.keys kind }
+    ensures { result ≡ count_of_kind met.now.keys kind }
 {
     met.iter().filter(|key| key.kind == kind).count() as u64
 }

@@ -4,8 +4,8 @@ ghost use Rattle.std.specs.Prelude.{◌≡◌, ◌++◌, OnOk, IfOk, string_byte
 ghost use Rattle.esc_envelope.specs.Watermark.{printed};
 ghost use Rattle.esc_check.specs.Fields.{created, expires};
 ghost use Rattle.esc_check.specs.Gathered.{
-  is_after,
-  is_before,
+  is_known_after,
+  is_known_before,
   is_malformed,
   late_findings,
   early_findings,
@@ -44,7 +44,7 @@ pub fn limit_at(alloc: Global, watermark: i64) -> Result<Limit, NoMemory>
 }
 
 fn is_after(date: Option<i64>, watermark: i64) -> bool
-    ensures { result ≡ is_after date watermark }
+    ensures { result ≡ is_known_after date watermark }
 {
     match date {
         Some(date) => watermark < date,
@@ -53,7 +53,7 @@ fn is_after(date: Option<i64>, watermark: i64) -> bool
 }
 
 fn is_before(expires: Option<i64>, created: Option<i64>) -> bool
-    ensures { result ≡ is_before expires created }
+    ensures { result ≡ is_known_before expires created }
 {
     match (expires, created) {
         (Some(expires), Some(created)) => expires < created,

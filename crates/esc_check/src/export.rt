@@ -21,9 +21,9 @@ ghost use Rattle.esc_apply.specs.ObjectStreams.{Entry};
 ghost use Rattle.esc_envelope.specs.Kinds.{kind_name, is_kind};
 ghost use Rattle.esc_csv.specs.Lines.{line_text, text_of};
 ghost use Rattle.esc_check.specs.Export.{
-  heading,
+  export_heading,
   row_lines,
-  is_in,
+  is_of_table,
   child_lines,
   object_lines,
   export_text,
@@ -93,7 +93,7 @@ fn is_of(key: &Key, kind: Kind) -> bool
 }
 
 fn write_heading(lines: &mut Lines) -> Result<(), NoMemory>
-    ensures { OnOk result (lines.new ≡ lines.old ++ line_text heading) }
+    ensures { OnOk result (lines.new ≡ lines.old ++ line_text export_heading) }
 {
     lines.write(&[b"kind", b"key", b"table", b"row", b"field", b"value"])
 }
@@ -133,9 +133,9 @@ fn write_children(
 // table. `number` is how many of them are of the table `last`, that of the last one. Where rows are
 // grouped by table, as those of a deposit are, each table is counted once.
 fn number_behind(earlier: &[Row], last: &str, number: usize, table: &str) -> usize
-    requires known { number ≡ count_by (is_in last.now) earlier.now }
+    requires known { number ≡ count_by (is_of_table last.now) earlier.now }
     requires room { length earlier.now + 1 < 2 ^ 64 }
-    ensures { result ≡ count_by (is_in table.now) earlier.now + 1 }
+    ensures { result ≡ count_by (is_of_table table.now) earlier.now + 1 }
 {
     if last == table {
         return number + 1;
@@ -144,7 +144,7 @@ fn number_behind(earlier: &[Row], last: &str, number: usize, table: &str) -> usi
 }
 
 fn count_in(rows: &[Row], table: &str) -> usize
-    ensures { result ≡ count_by (is_in table.now) rows.now }
+    ensures { result ≡ count_by (is_of_table table.now) rows.now }
 {
     rows.iter().filter(|row| row.table() == table).count()
 }

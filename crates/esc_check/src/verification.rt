@@ -14,7 +14,7 @@ ghost use Rattle.esc_check.specs.Gathered.{
   own_findings,
   object_findings,
 };
-ghost use Rattle.esc_check.specs.TableMap.{tables_of};
+ghost use Rattle.esc_check.specs.TableMap.{content_of_entries};
 
 use crate::count::check_counts;
 use crate::date::{Limit, check_forms, check_moments, limit_at};
@@ -106,7 +106,7 @@ pub fn verify(
     ensures ordered { IfOk result (λ found. IsStrictlySortedBy listing_cmp found.items) }
     ensures each { IfOk result (λ found. (f : FindingValue)
         → Contains found.items f
-        ↔ IsFinding (tables_of tables.now.entries) watermark counts.now.entries f) }
+        ↔ IsFinding (content_of_entries tables.now.entries) watermark counts.now.entries f) }
 {
     let limit = limit_at(alloc, watermark)?;
     let mut found = Vec::new(alloc);

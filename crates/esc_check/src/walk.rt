@@ -9,7 +9,7 @@ ghost use Rattle.esc_check.specs.FindingValue.{FindingValue, listing_cmp};
 ghost use Rattle.esc_check.specs.Findings.{IsFinding};
 ghost use Rattle.esc_check.specs.Gathered.{Leads};
 ghost use Rattle.esc_check.specs.ObjectReports.{IfSource, OfSource};
-ghost use Rattle.esc_check.specs.TableMap.{tables_of};
+ghost use Rattle.esc_check.specs.TableMap.{content_of_entries};
 
 use crate::count::check_met;
 use crate::date::{Limit, limit_at};
@@ -79,7 +79,7 @@ fn finish(
     ensures ordered { IfOk result (λ found. IsStrictlySortedBy listing_cmp found.items) }
     ensures each { IfOk result (λ found. (es : List Entry) (w : ℤ) → InOrder es
         → Leads w (printed w) gathering [] es → (f : FindingValue)
-        → Contains found.items f ↔ IsFinding (tables_of es) w counts.now.entries f) }
+        → Contains found.items f ↔ IsFinding (content_of_entries es) w counts.now.entries f) }
 {
     let Gathering {
         mut found,
@@ -127,7 +127,7 @@ pub fn verify_from<O: Objects>(
     ensures each { IfOk result (λ found. O.is_honest objects.new → (es : List Entry)
         → O.lists objects.old es
         → (f : FindingValue) → Contains found.items f ↔ IsFinding
-        (tables_of es) watermark counts.now.entries f) }
+        (content_of_entries es) watermark counts.now.entries f) }
 {
     let limit = limit_at(alloc, watermark)?;
     let gathered = gather(alloc, objects, &limit)?;

@@ -41,5 +41,5 @@ abbrev pub HasMoved : ℕ → TimeBudget → TimeBudget → Type 0
 HasMoved bytes old new = moved new ≡ min (moved old + bytes) (2 ^ 64 - 1)
 
 -- no byte has come or gone, and the client has not been waited for
-abbrev pub IsNew : TimeBudget → Type 0
-IsNew budget = (moved budget ≡ 0) × (waited budget ≡ 0)
+abbrev pub IsNewBudget : TimeBudget → Type 0
+IsNewBudget budget = (moved budget ≡ 0) × (waited budget ≡ 0)

@@ -10,7 +10,7 @@ ghost use Rattle.esc_client.specs.TimeBudget.{
   granted,
   next_wait,
   IsSpent,
-  IsNew,
+  IsNewBudget,
 };
 
 use std::time::Duration;
@@ -47,7 +47,7 @@ impl TimeBudget {
     /// The budget of a client that sends its request: 10 seconds, and one for each 65,536 bytes
     /// that came; at most 300.
     pub fn for_request() -> TimeBudget
-        ensures new { IsNew result }
+        ensures new { IsNewBudget result }
         ensures most { most_seconds result ≡ 300 }
         ensures pause { pause result ≡ max_nanos }
     {
@@ -57,7 +57,7 @@ impl TimeBudget {
     /// The budget of a client that takes its response: 10 seconds, and one for each 65,536
     /// bytes that went.
     pub fn for_response() -> TimeBudget
-        ensures new { IsNew result }
+        ensures new { IsNewBudget result }
         ensures most { most_seconds result ≡ 2 ^ 64 - 1 }
         ensures pause { pause result ≡ max_nanos }
     {
@@ -67,7 +67,7 @@ impl TimeBudget {
     /// The budget of a client that has its response and still sends: 10 seconds, and at most
     /// one in each read.
     pub fn for_rest() -> TimeBudget
-        ensures new { IsNew result }
+        ensures new { IsNewBudget result }
         ensures most { most_seconds result ≡ 10 }
         ensures pause { pause result ≡ 1_000_000_000 }
     {
@@ -75,7 +75,7 @@ impl TimeBudget {
     }
 
     fn new(most: u64, at_once: Duration) -> TimeBudget
-        ensures new { IsNew result }
+        ensures new { IsNewBudget result }
         ensures most { most_seconds result ≡ most }
         ensures pause { pause result ≡ as_nanos at_once }
     {

@@ -16,7 +16,7 @@ use Rattle.esc_store.specs.ListLaws.{any_weaker}
 use Rattle.esc_events.specs.ArrivalValue.{ArrivalValue}
 use Rattle.esc_events.specs.Events.{EventValue, Coming, union, comings}
 use Rattle.esc_events.specs.Events.EventValue.{listed, moved}
-use Rattle.esc_events.specs.Assessment.{found, row_of}
+use Rattle.esc_events.specs.Assessment.{found, row_with_digest}
 use Rattle.esc_events.specs.Receipts.{holds_row, distinct, receipts_after, receipts_of, reply_to}
 use Rattle.esc_events.specs.StateAfter.{AreBooks, IsApart, TellsOf, CameFor, holds_by, kept_arrivals, held_body, parked_body}
 use Rattle.esc_events.specs.Amended.{judged, amended_bodies, still_parked, amended_kept}
@@ -94,20 +94,20 @@ books_amended e k more books ok okn = record {
         ∙ ap (λ (b : ℕ → Option (List ℕ)). amended_bodies (extended (union e) more) (parked_body sha256 reading e) (length (union e)) b r) same_bodies
         ∙ held_is sha256 e more ok okn apart r
 
-    was_listed : (d : List ℕ) (q : ℕ) → row_of (extended k.listed more) d ≡ Some q → q < length k.listed → row_of (union e) d ≡ Some q
+    was_listed : (d : List ℕ) (q : ℕ) → row_with_digest (extended k.listed more) d ≡ Some q → q < length k.listed → row_with_digest (union e) d ≡ Some q
     was_listed d q row lt =
         let at = row_has n d row in
-        ap (λ (m : List MRow). row_of m d) (sym books.listed)
+        ap (λ (m : List MRow). row_with_digest m d) (sym books.listed)
         ∙ row_is okm lt (ap (λ (x : MRow). x.digest) (sym (same_at sha256 reading (new_rows k.listed more) okm okk q lt)) ∙ at.1)
 
     parked_still : IsApart sha256 reading e → (d : List ℕ) → (amended_kept k more).parked d ≡ parked_body sha256 reading (e ++ listed more ∷ []) d
     parked_still apart d =
         parked_are n okk k (length k.listed) (no_shorter k.listed more) d none
         ∙ ap (λ (m : List MRow). still_parked m k.parked d) rows_k
-        ∙ ap (λ (o : Option (List ℕ)). cond (is_some (row_of (extended (union e) more) d)) None o) (books.parked apart d)
+        ∙ ap (λ (o : Option (List ℕ)). cond (is_some (row_with_digest (extended (union e) more) d)) None o) (books.parked apart d)
         ∙ parked_is sha256 e more ok okn d
       where
-        none : (q : ℕ) → row_of (extended k.listed more) d ≡ Some q → q < length k.listed → k.parked d ≡ None
+        none : (q : ℕ) → row_with_digest (extended k.listed more) d ≡ Some q → q < length k.listed → k.parked d ≡ None
         none q row lt = books.parked apart d ∙ ap (λ (o : Option ℕ). cond (is_some o) None (came_under sha256 (kept_arrivals sha256 reading e) d)) (was_listed d q row lt)
 
     came_for : (r : ℕ) (body : List ℕ) (s : Bool) → nat_lt r (length k.listed) ≡ s → (t : Bool) → nat_lt r (length (extended k.listed more)) ≡ t
@@ -143,7 +143,7 @@ books_amended e k more books ok okn = record {
     still_tells r receipt (inl says) = inl says
     still_tells r receipt (inr tells) =
         let lists = listed_still sha256 reading (new_rows (union e) more) ok okn r receipt.digest tells.1 in
-        inr (tells.0, ap (λ (m : List MRow). row_of m receipt.digest) rows ∙ lists)
+        inr (tells.0, ap (λ (m : List MRow). row_with_digest m receipt.digest) rows ∙ lists)
 
     by_source : (r : ℕ) (body : List ℕ) (s : Bool) → nat_lt r (length k.listed) ≡ s → (t : Bool) → nat_lt r (length (extended k.listed more)) ≡ t
         → cond s (k.bodies r) (cond t (judged (extended k.listed more) r (k.parked (row_at (extended k.listed more) r).digest)) None) ≡ Some body
@@ -152,7 +152,7 @@ books_amended e k more books ok okn = record {
     by_source r body false new true lt is =
         let inside : r < length n = grind (arith, nat_tests, lt) in
         any_of_row (union f) (row_at n r).digest r
-        (ap (λ (m : List MRow). row_of m (row_at n r).digest) (rows ∙ sym rows_k) ∙ row_is okk inside refl)
+        (ap (λ (m : List MRow). row_with_digest m (row_at n r).digest) (rows ∙ sym rows_k) ∙ row_is okk inside refl)
         k.receipts
         (books.parked_told (row_at n r).digest (ap is_some (judged_some n r (k.parked (row_at n r).digest) body is).0))
     by_source r body false new false lt is = absurd (none-some _ is)

@@ -10,7 +10,7 @@ use Rattle.esc_manifest.specs.Accepted.{IsAccepted}
 use Rattle.esc_manifest.specs.Extension.{new_rows, extended}
 use Rattle.esc_events.specs.Events.{EventValue, Coming, union, comings}
 use Rattle.esc_events.specs.Events.EventValue.{listed}
-use Rattle.esc_events.specs.Assessment.{row_of}
+use Rattle.esc_events.specs.Assessment.{row_with_digest}
 use Rattle.esc_events.specs.Receipts.{distinct, receipts_after, receipts_of}
 use Rattle.esc_events.specs.StateAfter.{Among, IsApart, CameFor, CameWith, arrived_body, holds_by, has_digest, is_lost, kept_arrivals, held_body, parked_body}
 use Rattle.esc_events.specs.Amended.{judged, amended_bodies, still_parked}
@@ -27,7 +27,7 @@ module _ (digest : List ℕ → List ℕ) where
 
   -- what is parked under a digest, that is, what came with it while no row lists it
   abbrev pub parked_from : List MRow → List Coming → List ℕ → Option (List ℕ)
-  parked_from m l d = cond (is_some (row_of m d)) None (came_under l d)
+  parked_from m l d = cond (is_some (row_with_digest m d)) None (came_under l d)
 
   -- ---- the same arrivals
 
@@ -47,7 +47,7 @@ module _ (digest : List ℕ → List ℕ) where
     pub held_as : (m : List MRow) → union f ≡ m → (r : ℕ) → held_body digest reading f r ≡ held_from m (kept_arrivals digest reading e) r
     held_as m rows r = ap (λ (x : List MRow). held_from x (kept_arrivals digest reading f) r) rows ∙ ap (λ (cs : List Coming). held_from m cs r) counted_as
 
-    pub parked_as : (m : List MRow) → union f ≡ m → (d : List ℕ) → parked_body digest reading f d ≡ cond (is_some (row_of m d)) None (came_under (kept_arrivals digest reading e) d)
+    pub parked_as : (m : List MRow) → union f ≡ m → (d : List ℕ) → parked_body digest reading f d ≡ cond (is_some (row_with_digest m d)) None (came_under (kept_arrivals digest reading e) d)
     parked_as m rows d = ap (λ (x : List MRow). parked_from x (kept_arrivals digest reading f) d) rows ∙ ap (λ (cs : List Coming). parked_from m cs d) counted_as
 
     -- a body that came for a row came for a row that it holds now
@@ -104,12 +104,12 @@ module _ (digest : List ℕ → List ℕ) where
         by_old false is false lt = beyond (grind (arith, nat_tests, lt))
 
     pub parked_is : (d : List ℕ) → still_parked n (parked_body digest reading e) d ≡ parked_body digest reading f d
-    parked_is d = by_row (row_of m d) refl (row_of n d) refl ∙ sym (parked_as e f (comings-listed e more) n (union-listed e more) d)
+    parked_is d = by_row (row_with_digest m d) refl (row_with_digest n d) refl ∙ sym (parked_as e f (comings-listed e more) n (union-listed e more) d)
       where
-        by_row : (o : Option ℕ) → row_of m d ≡ o → (p : Option ℕ) → row_of n d ≡ p
-            → cond (is_some (row_of n d)) None (parked_from m (kept_arrivals digest reading e) d) ≡ parked_from n (kept_arrivals digest reading e) d
-        by_row None old p new = ap (λ (q : Option ℕ). cond (is_some (row_of n d)) None (cond (is_some q) None (came_under (kept_arrivals digest reading e) d))) old
+        by_row : (o : Option ℕ) → row_with_digest m d ≡ o → (p : Option ℕ) → row_with_digest n d ≡ p
+            → cond (is_some (row_with_digest n d)) None (parked_from m (kept_arrivals digest reading e) d) ≡ parked_from n (kept_arrivals digest reading e) d
+        by_row None old p new = ap (λ (q : Option ℕ). cond (is_some (row_with_digest n d)) None (cond (is_some q) None (came_under (kept_arrivals digest reading e) d))) old
         by_row (Some q) old p new =
-            let there : row_of n d ≡ Some q = listed_still digest reading x ok okn q d old in
+            let there : row_with_digest n d ≡ Some q = listed_still digest reading x ok okn q d old in
             ap (λ (s : Option ℕ). cond (is_some s) None (parked_from m (kept_arrivals digest reading e) d)) there
             ∙ sym (ap (λ (s : Option ℕ). cond (is_some s) None (came_under (kept_arrivals digest reading e) d)) there)

@@ -10,7 +10,7 @@ use Rattle.esc_manifest.specs.declared.row.MRow.{MRow}
 use Rattle.esc_manifest.specs.ManifestRows.{row_at}
 use Rattle.esc_manifest.specs.Accepted.{IsAccepted}
 use Rattle.esc_store.specs.StoreState.{StoreState, parked_put, with_adopted, with_listed, with_parked}
-use Rattle.esc_events.specs.Assessment.{row_of}
+use Rattle.esc_events.specs.Assessment.{row_with_digest}
 use Rattle.esc_events.specs.StateAfter.{Among}
 use Rattle.esc_events.specs.Amended.{judged, numbers_from, is_adopted, is_dropped, adopted_rows, dropped_rows}
 use Rattle.esc_events.specs.Amended.{amended_bodies, still_parked, with_all_adopted, with_all_dropped}
@@ -229,16 +229,16 @@ module _ (n : List MRow) (okn : IsAccepted n) (k : StoreState) (from : ℕ) (le 
   pub parked_was : (d body : List ℕ) → last.parked d ≡ Some body → k.parked d ≡ Some body
   parked_was d body is = gone_some n k.parked adopted d body (gone_some n (gone n k.parked adopted) dropped d body (sym (parked_of d) ∙ is))
 
-  pub parked_are : (d : List ℕ) → ((q : ℕ) → row_of n d ≡ Some q → q < from → k.parked d ≡ None) → last.parked d ≡ still_parked n k.parked d
-  parked_are d old = parked_of d ∙ by_row (row_of n d) refl
+  pub parked_are : (d : List ℕ) → ((q : ℕ) → row_with_digest n d ≡ Some q → q < from → k.parked d ≡ None) → last.parked d ≡ still_parked n k.parked d
+  parked_are d old = parked_of d ∙ by_row (row_with_digest n d) refl
     where
       none : k.parked d ≡ None → gone n (gone n k.parked adopted) dropped d ≡ None
       none is = gone_none n (gone n k.parked adopted) dropped d (gone_none n k.parked adopted d is)
 
-      other : row_of n d ≡ None → (s : ℕ) → s < length n → bytes_eq (digest_at n s) d ≡ false
+      other : row_with_digest n d ≡ None → (s : ℕ) → s < length n → bytes_eq (digest_at n s) d ≡ false
       other unlisted s lt = false_from_ne_true (bytes_eq (digest_at n s) d) (λ same. none-some _ (sym unlisted ∙ row_is okn lt ((bytes_decides (digest_at n s) d).0 same)))
 
-      new : (q : ℕ) → row_of n d ≡ Some q → from ≤ q → (o : Option (List ℕ)) → k.parked d ≡ o → gone n (gone n k.parked adopted) dropped d ≡ None
+      new : (q : ℕ) → row_with_digest n d ≡ Some q → from ≤ q → (o : Option (List ℕ)) → k.parked d ≡ o → gone n (gone n k.parked adopted) dropped d ≡ None
       new q row far None is = none is
       new q row far (Some body) is = by_test (is_adopted n k.parked q) refl
         where
@@ -256,7 +256,7 @@ module _ (n : List MRow) (okn : IsAccepted n) (k : StoreState) (from : ℕ) (le 
               subst (λ (x : List ℕ). gone n (gone n k.parked adopted) dropped x ≡ None) at.1
               (gone_here n (gone n k.parked adopted) dropped q (in_rows (is_dropped n k.parked) q far at.0 (ap₂ (λ (a b : Bool). a && not b) there fails)))
 
-      by_row : (o : Option ℕ) → row_of n d ≡ o → gone n (gone n k.parked adopted) dropped d ≡ cond (is_some (row_of n d)) None (k.parked d)
+      by_row : (o : Option ℕ) → row_with_digest n d ≡ o → gone n (gone n k.parked adopted) dropped d ≡ cond (is_some (row_with_digest n d)) None (k.parked d)
       by_row None unlisted =
           gone_others n (gone n k.parked adopted) dropped d (λ s there. other unlisted s (of_rows (is_dropped n k.parked) s there).1)
           ∙ gone_others n k.parked adopted d (λ s there. other unlisted s (of_rows (is_adopted n k.parked) s there).1)

@@ -21,7 +21,7 @@ use Rattle.esc_events.specs.declared.assessment.Assessment.{Assessment}
 use Rattle.esc_events.specs.declared.assessment.Assessment.TheVariants.{Differing, Holding}
 use Rattle.esc_events.specs.Events.{EventValue, Coming, union_after, comings_after}
 use Rattle.esc_events.specs.Events.EventValue.{listed, arrived, moved, arrived_early}
-use Rattle.esc_events.specs.Assessment.{assessment, found_at, found, as_listed, row_of, held_row}
+use Rattle.esc_events.specs.Assessment.{assessment, found_at, found, as_listed, row_with_digest, held_row}
 use Rattle.esc_events.specs.Receipts.{is_row, holds_row, receipt_by, holds_any, receipt_for, receipts_after}
 use Rattle.esc_events.specs.StateAfter.{Among, arrived_body, holds_by, has_digest}
 use Rattle.esc_events.specs.Amended.{judged}
@@ -42,16 +42,16 @@ none_passes p xs k d none lt passes =
     let behind : length xs ≤ position_or_len p xs = grind (arith, common_steps, none) in
     true≢false (sym passes ∙ fails_before_first p xs k d (omega (arith, behind, lt)))
 
-pub row_is : {m : List MRow} → IsAccepted m → {r : ℕ} {d : List ℕ} → r < length m → (row_at m r).digest ≡ d → row_of m d ≡ Some r
-row_is {m = m} ok {r = r} {d = d} lt is = by_row (row_of m d) refl
+pub row_is : {m : List MRow} → IsAccepted m → {r : ℕ} {d : List ℕ} → r < length m → (row_at m r).digest ≡ d → row_with_digest m d ≡ Some r
+row_is {m = m} ok {r = r} {d = d} lt is = by_row (row_with_digest m d) refl
   where
-    by_row : (o : Option ℕ) → row_of m d ≡ o → o ≡ Some r
+    by_row : (o : Option ℕ) → row_with_digest m d ≡ o → o ≡ Some r
     by_row None none = absurd (none_passes (λ (row : MRow). bytes_eq row.digest d) m r no_row none lt ((bytes_decides (row_at m r).digest d).1 is))
     by_row (Some q) found =
         let at = position-Some (λ (row : MRow). bytes_eq row.digest d) m q no_row found in
         ap Some (ok.one_digest q r at.0 lt ((bytes_decides (row_at m q).digest d).0 at.1 ∙ sym is))
 
-pub row_has : (m : List MRow) {r : ℕ} (d : List ℕ) → row_of m d ≡ Some r → (r < length m) × ((row_at m r).digest ≡ d)
+pub row_has : (m : List MRow) {r : ℕ} (d : List ℕ) → row_with_digest m d ≡ Some r → (r < length m) × ((row_at m r).digest ≡ d)
 row_has m {r = r} d found = let at = position-Some (λ (row : MRow). bytes_eq row.digest d) m r no_row found in (at.0, (bytes_decides (row_at m r).digest d).0 at.1)
 
 -- a body that holds row r has the digest of that row
@@ -98,16 +98,16 @@ module _ (digest : List ℕ → List ℕ) (reads : List ℕ → Result DepositVa
     found_same r lt (Err k) = refl
 
     -- a digest that was listed is listed at the same row
-    pub listed_still : (r : ℕ) (d : List ℕ) → row_of m d ≡ Some r → row_of (m ++ x) d ≡ Some r
+    pub listed_still : (r : ℕ) (d : List ℕ) → row_with_digest m d ≡ Some r → row_with_digest (m ++ x) d ≡ Some r
     listed_still r d old =
         let at = row_has m d old in
         row_is okn (inside_more r at.0) (ap (λ (row : MRow). row.digest) (same_at r at.0) ∙ at.1)
 
     -- a digest of a new row was not listed
-    pub unlisted_before : (r : ℕ) → length m ≤ r → r < length (m ++ x) → row_of m (row_at (m ++ x) r).digest ≡ None
-    unlisted_before r new lt = by_row (row_of m (row_at (m ++ x) r).digest) refl
+    pub unlisted_before : (r : ℕ) → length m ≤ r → r < length (m ++ x) → row_with_digest m (row_at (m ++ x) r).digest ≡ None
+    unlisted_before r new lt = by_row (row_with_digest m (row_at (m ++ x) r).digest) refl
       where
-        by_row : (o : Option ℕ) → row_of m (row_at (m ++ x) r).digest ≡ o → o ≡ None
+        by_row : (o : Option ℕ) → row_with_digest m (row_at (m ++ x) r).digest ≡ o → o ≡ None
         by_row None is = refl
         by_row (Some q) is =
             let at = row_has m (row_at (m ++ x) r).digest is in
@@ -119,24 +119,24 @@ module _ (digest : List ℕ → List ℕ) (reads : List ℕ → Result DepositVa
     pub holds_same : (r : ℕ) → r < length m → (c : Coming) → holds_by digest reads (m ++ x) r c ≡ holds_by digest reads m r c
     holds_same r lt c = same_bool _ _ back there
       where
-        both : row_of m (digest c.body) ≡ Some r → row_of (m ++ x) (digest c.body) ≡ Some r → holds_by digest reads (m ++ x) r c ≡ holds_by digest reads m r c
+        both : row_with_digest m (digest c.body) ≡ Some r → row_with_digest (m ++ x) (digest c.body) ≡ Some r → holds_by digest reads (m ++ x) r c ≡ holds_by digest reads m r c
         both old new =
             ap (λ (o : Option ℕ). holds_row r (found_at (m ++ x) o (reads c.body))) new
             ∙ ap (holds_row r) (found_same r lt (reads c.body))
             ∙ ap (λ (o : Option ℕ). holds_row r (found_at m o (reads c.body))) (sym old)
 
-        digest_new : row_of (m ++ x) (digest c.body) ≡ Some r → row_of m (digest c.body) ≡ Some r
+        digest_new : row_with_digest (m ++ x) (digest c.body) ≡ Some r → row_with_digest m (digest c.body) ≡ Some r
         digest_new new = row_is ok lt (ap (λ (row : MRow). row.digest) (sym (same_at r lt)) ∙ (row_has (m ++ x) (digest c.body) new).1)
 
         there : holds_by digest reads m r c ≡ true → holds_by digest reads (m ++ x) r c ≡ true
-        there is = let old = row_found m r (row_of m (digest c.body)) (reads c.body) is in both old (listed_still r (digest c.body) old) ∙ is
+        there is = let old = row_found m r (row_with_digest m (digest c.body)) (reads c.body) is in both old (listed_still r (digest c.body) old) ∙ is
 
         back : holds_by digest reads (m ++ x) r c ≡ true → holds_by digest reads m r c ≡ true
-        back is = let new = row_found (m ++ x) r (row_of (m ++ x) (digest c.body)) (reads c.body) is in sym (both (digest_new new) new) ∙ is
+        back is = let new = row_found (m ++ x) r (row_with_digest (m ++ x) (digest c.body)) (reads c.body) is in sym (both (digest_new new) new) ∙ is
 
   -- a row that a body holds is the manifest's, and has the digest of the body
   pub row_held : (n : List MRow) (r : ℕ) (c : Coming) → holds_by digest reads n r c ≡ true → (r < length n) × ((row_at n r).digest ≡ digest c.body)
-  row_held n r c is = row_has n (digest c.body) (row_found n r (row_of n (digest c.body)) (reads c.body) is)
+  row_held n r c is = row_has n (digest c.body) (row_found n r (row_with_digest n (digest c.body)) (reads c.body) is)
 
   pub digest_is : (n : List MRow) (r : ℕ) (c : Coming) → holds_by digest reads n r c ≡ true → digest c.body ≡ (row_at n r).digest
   digest_is n r c is = sym (row_held n r c is).1
@@ -228,7 +228,7 @@ module _ (digest : List ℕ → List ℕ) (reads : List ℕ → Result DepositVa
   told_row before c f = (receipt_by c.number (digest c.body) c.early f (holds_any digest reads before (held_row f))).row
 
   row_below : (c : Coming) (n : ℕ) → length c.rows ≤ n → (before : List Coming) → IsBelow n (receipt_for digest reads before c).row
-  row_below c n le before = by_row (row_of c.rows (digest c.body)) refl
+  row_below c n le before = by_row (row_with_digest c.rows (digest c.body)) refl
     where
       row_told : (q : ℕ) → q < n → (t : Result DepositValue ℕ) → IsBelow n (told_row before c (found c.rows q t))
       row_told q lt (Err k) = lt
@@ -241,7 +241,7 @@ module _ (digest : List ℕ → List ℕ) (reads : List ℕ → Result DepositVa
       told_at : Option ℕ → Option ℕ
       told_at o = told_row before c (found_at c.rows o (reads c.body))
 
-      by_row : (o : Option ℕ) → row_of c.rows (digest c.body) ≡ o → IsBelow n (told_at (row_of c.rows (digest c.body)))
+      by_row : (o : Option ℕ) → row_with_digest c.rows (digest c.body) ≡ o → IsBelow n (told_at (row_with_digest c.rows (digest c.body)))
       by_row None is = subst (λ (o : Option ℕ). IsBelow n (told_at o)) (sym is) tt
       by_row (Some q) is =
           let at = row_has c.rows (digest c.body) is in

@@ -23,7 +23,7 @@ use Rattle.esc_events.specs.declared.cache.Cache.{Cache}
 use Rattle.esc_events.specs.declared.parking.Parking.TheVariants.{Crowded}
 use Rattle.esc_events.specs.Apart.{WhereApart}
 use Rattle.esc_events.specs.ArrivalValue.{ArrivalValue}
-use Rattle.esc_events.specs.Assessment.{assessment, found_at, row_of}
+use Rattle.esc_events.specs.Assessment.{assessment, found_at, row_with_digest}
 use Rattle.esc_events.specs.Events.{EventValue, union}
 use Rattle.esc_events.specs.Events.EventValue.{arrived}
 use Rattle.esc_events.specs.Cache.{IsCacheOf}
@@ -153,7 +153,7 @@ module _ {S : Type 0} (g : Ghosts S) (mid new : Store S) (found : Assessment) (d
       (same : digest ≡ sha256 a.body) (is : found ≡ assessment sha256 reading (union e) a.body) where
     no_place : IsUnkept e a → found ≡ Unlisted → IsParking k.parked digest Crowded → WhereApart e (HasNoPlace e a)
     no_place unkept unlisted full = no_place_of e a k books unkept (
-      ap (λ (m : List MRow). row_of m (sha256 a.body)) books.listed ∙ unlisted_row (union e) (row_of (union e) (sha256 a.body)) (reading a.body) (sym is ∙ unlisted),
+      ap (λ (m : List MRow). row_with_digest m (sha256 a.body)) books.listed ∙ unlisted_row (union e) (row_with_digest (union e) (sha256 a.body)) (reading a.body) (sym is ∙ unlisted),
       subst (λ (d : List ℕ). IsParking k.parked d Crowded) same full,
     )
 

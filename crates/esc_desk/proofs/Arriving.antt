@@ -22,7 +22,7 @@ use Rattle.esc_events.specs.declared.parking.Parking.TheVariants.{Needless, Free
 use Rattle.esc_events.specs.ArrivalValue.{ArrivalValue}
 use Rattle.esc_events.specs.Events.{EventValue, Coming, union, coming, comings}
 use Rattle.esc_events.specs.Events.EventValue.{arrived}
-use Rattle.esc_events.specs.Assessment.{assessment, found_at, held_row, row_of}
+use Rattle.esc_events.specs.Assessment.{assessment, found_at, held_row, row_with_digest}
 use Rattle.esc_events.specs.Notes.{noted_by, held_by}
 use Rattle.esc_events.specs.Parks.{IsParking, with_parking}
 use Rattle.esc_events.specs.Receipts.{holds_row, holds, holds_any, is_among, distinct, receipt_by, receipt_for, receipts_after}
@@ -73,11 +73,11 @@ held_found e a found is r holds = ap held_row is ∙ is_row_of r (held_row (asse
 
 -- a body that a row lists is parked under no digest
 none_parked : (e : List EventValue) (a : ArrivalValue) (found : Assessment) → found ≡ assessment sha256 reading (union e) a.body → (found ≡ Unlisted → ⊥)
-    → (d : List ℕ) → sha256 a.body ≡ d → is_some (row_of (union e) d) ≡ false → ⊥
+    → (d : List ℕ) → sha256 a.body ≡ d → is_some (row_with_digest (union e) d) ≡ false → ⊥
 none_parked e a found is listed d same none =
-    let lists : is_some (row_of (union e) (sha256 a.body)) ≡ true =
-    listed_row (union e) (row_of (union e) (sha256 a.body)) (reading a.body) (λ unlisted. listed (is ∙ unlisted)) in
-    true≢false (sym lists ∙ ap (λ (x : List ℕ). is_some (row_of (union e) x)) same ∙ none)
+    let lists : is_some (row_with_digest (union e) (sha256 a.body)) ≡ true =
+    listed_row (union e) (row_with_digest (union e) (sha256 a.body)) (reading a.body) (λ unlisted. listed (is ∙ unlisted)) in
+    true≢false (sym lists ∙ ap (λ (x : List ℕ). is_some (row_with_digest (union e) x)) same ∙ none)
 
 no_row : (o : Option ℕ) → is_some o ≡ false → o ≡ None
 no_row None is = refl
@@ -115,14 +115,14 @@ module _ (e : List EventValue) (a : ArrivalValue) (k : StoreState) (books : AreB
       → (d : List ℕ) → parked_put k.parked key (Some a.body) d ≡ parked_body sha256 reading (e ++ arrived a ∷ []) d
   put_parked nothing apart d = by_test (bytes_eq key d) refl
     where
-      unlisted : row_of (union e) (sha256 a.body) ≡ None
-      unlisted = unlisted_row (union e) (row_of (union e) (sha256 a.body)) (reading a.body) (sym found_is)
+      unlisted : row_with_digest (union e) (sha256 a.body) ≡ None
+      unlisted = unlisted_row (union e) (row_with_digest (union e) (sha256 a.body)) (reading a.body) (sym found_is)
 
       by_test : (b : Bool) → bytes_eq key d ≡ b → cond b (Some a.body) (k.parked d) ≡ parked_body sha256 reading (e ++ arrived a ∷ []) d
       by_test true same =
           let digest : sha256 a.body ≡ d = sym key_is ∙ (bytes_decides key d).0 same in
           new_parked sha256 reading e k a books apart d digest
-          (subst (λ (x : List ℕ). row_of (union e) x ≡ None) digest unlisted)
+          (subst (λ (x : List ℕ). row_with_digest (union e) x ≡ None) digest unlisted)
           (subst (λ (x : List ℕ). k.parked x ≡ None) digest nothing)
       by_test false other =
           let unlike : (sha256 a.body ≡ d → ⊥) = λ same. true≢false (sym ((bytes_decides key d).1 (key_is ∙ same)) ∙ other) in
@@ -240,13 +240,13 @@ books_cached_again e a k found reply is there waits =
     is.stood.books.held_told
     is.stood.books.parked_told
   where
-    unlisted : (d : List ℕ) → sha256 a.body ≡ d → is_some (row_of (union e) d) ≡ false → found ≡ Unlisted
+    unlisted : (d : List ℕ) → sha256 a.body ≡ d → is_some (row_with_digest (union e) d) ≡ false → found ≡ Unlisted
     unlisted d same none =
         is.found_is
         ∙ ap (λ (o : Option ℕ). found_at (union e) o (reading a.body))
-        (no_row (row_of (union e) (sha256 a.body)) (ap (λ (x : List ℕ). is_some (row_of (union e) x)) same ∙ none))
+        (no_row (row_with_digest (union e) (sha256 a.body)) (ap (λ (x : List ℕ). is_some (row_with_digest (union e) x)) same ∙ none))
 
-    still : (d : List ℕ) → sha256 a.body ≡ d → is_some (row_of (union e) d) ≡ false → IsSome (k.parked d)
+    still : (d : List ℕ) → sha256 a.body ≡ d → is_some (row_with_digest (union e) d) ≡ false → IsSome (k.parked d)
     still d same none = subst (λ (x : List ℕ). IsSome (k.parked x)) same (waits (unlisted d same none))
 
 -- no row lists the body: it is parked, unless it is already
@@ -291,8 +291,8 @@ books_held_again e a k row d reply is none =
     tells
     is.stood.books.parked_told
   where
-    lists : row_of (union e) (sha256 a.body) ≡ Some row
-    lists = row_found (union e) row (row_of (union e) (sha256 a.body)) (reading a.body) (put_holds e a row d is.found_is row refl)
+    lists : row_with_digest (union e) (sha256 a.body) ≡ Some row
+    lists = row_found (union e) row (row_with_digest (union e) (sha256 a.body)) (reading a.body) (put_holds e a row d is.found_is row refl)
 
     tells : (r : ℕ) → IsSome (body_put k.bodies row a.body r) → Any (TellsOf (union e) r) k.receipts
     tells r some = by_test (r == row) refl some

@@ -14,9 +14,9 @@ use Rattle.esc_store.specs.StoreState.{fresh}
 use Rattle.esc_events.specs.ArrivalValue.{ArrivalValue}
 use Rattle.esc_events.specs.Events.{Coming, union, moment_after, last_moment, manifest_then}
 use Rattle.esc_events.specs.Events.EventValue.{listed, arrived}
-use Rattle.esc_events.specs.Assessment.{row_of}
+use Rattle.esc_events.specs.Assessment.{row_with_digest}
 use Rattle.esc_events.specs.Receipts.{distinct, receipts_after}
-use Rattle.esc_events.specs.StateAfter.{rows_of, kept_arrivals, held_body, IsStateAfter}
+use Rattle.esc_events.specs.StateAfter.{rows_of_arrivals, kept_arrivals, held_body, IsStateAfter}
 use Rattle.esc_desk.proofs.EventLemmas.{union_then, comings_then}
 use Rattle.esc_desk.proofs.Moving.{chain_of}
 use Rattle.esc_desk.proofs.MovingLemmas.{same_deposits}
@@ -40,7 +40,7 @@ stands_at_first m = record {
     listed = sym (union_then m []);
     receipts = refl;
     bodies = λ apart r. refl;
-    parked = λ apart d. sym (none_either_way (is_some (row_of (union (listed m ∷ [])) d)));
+    parked = λ apart d. sym (none_either_way (is_some (row_with_digest (union (listed m ∷ [])) d)));
     moment = refl;
     came = λ r body is. absurd (none-some _ is);
     waits = λ d body is. absurd (none-some _ is);
@@ -66,7 +66,7 @@ no_moment m l = arrivals_set_none l
 pub left_by_arrivals : AreLeftByArrivals
 left_by_arrivals m l k stood apart =
     let e = manifest_then m l in
-    let rows : List MRow → List Coming → Rows = λ n cs. set.from_list (rows_of sha256 reading n cs) in
+    let rows : List MRow → List Coming → Rows = λ n cs. set.from_list (rows_of_arrivals sha256 reading n cs) in
     let deposits = same_deposits k.bodies (held_body sha256 reading e) (stood.books.bodies apart) k.steps in
     record {
       listed = stood.books.listed ∙ union_then m l;

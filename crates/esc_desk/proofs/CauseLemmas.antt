@@ -9,7 +9,7 @@ use Rattle.esc_store.specs.StoreState.{StoreState, IsFull}
 use Rattle.esc_events.specs.Apart.{WhereApart}
 use Rattle.esc_events.specs.ArrivalValue.{ArrivalValue}
 use Rattle.esc_events.specs.Events.{EventValue}
-use Rattle.esc_events.specs.Assessment.{row_of}
+use Rattle.esc_events.specs.Assessment.{row_with_digest}
 use Rattle.esc_events.specs.StateAfter.{AreBooks, IsApart}
 use Rattle.esc_desk.specs.Again.{IsUnkept}
 use Rattle.esc_desk.specs.Calls.{HasNoPlace, IsCause}
@@ -38,7 +38,7 @@ module _ (e : List EventValue) (a : ArrivalValue) (k : StoreState) (books : AreB
   pub crowded_of : IsApart sha256 reading e → HasNoPlace e a → IsCrowded k.listed k.parked (sha256 a.body)
   crowded_of apart full =
       let (unlisted, there) = full.crowded in (
-        ap (λ (m : List MRow). row_of m (sha256 a.body)) books.listed ∙ unlisted,
+        ap (λ (m : List MRow). row_with_digest m (sha256 a.body)) books.listed ∙ unlisted,
         (books.parked apart (sha256 a.body) ∙ there.0, still_full (λ d. sym (books.parked apart d)) there.1),
       )
 
@@ -46,7 +46,7 @@ module _ (e : List EventValue) (a : ArrivalValue) (k : StoreState) (books : AreB
   no_place_of unkept (unlisted, there) apart = record {
     unkept = unkept;
     crowded = (
-      ap (λ (m : List MRow). row_of m (sha256 a.body)) (sym books.listed) ∙ unlisted,
+      ap (λ (m : List MRow). row_with_digest m (sha256 a.body)) (sym books.listed) ∙ unlisted,
       (sym (books.parked apart (sha256 a.body)) ∙ there.0, still_full (books.parked apart) there.1),
     );
   }

@@ -15,7 +15,7 @@ use Rattle.esc_events.specs.declared.assessment.Assessment.{Assessment}
 use Rattle.esc_events.specs.declared.assessment.Assessment.TheVariants.{Unlisted, Unreadable, Differing, Holding}
 use Rattle.esc_events.specs.ArrivalValue.{ArrivalValue, an_arrival}
 use Rattle.esc_events.specs.Events.{EventValue, union, coming, comings}
-use Rattle.esc_events.specs.Assessment.{assessment, row_of, held_row}
+use Rattle.esc_events.specs.Assessment.{assessment, row_with_digest, held_row}
 use Rattle.esc_events.specs.Receipts.{distinct, reply_to}
 use Rattle.esc_events.specs.StateAfter.{IsStateAfter, AreBooks, IsApart, kept_arrivals, holds_by, has_digest, held_body, parked_body}
 use Rattle.esc_events.specs.Taking.{IsAgain}
@@ -37,9 +37,9 @@ module _ (e : List EventValue) (a : ArrivalValue) (k : StoreState) (found : Asse
   found_row r holds = ap held_row is.found_is ∙ is_row_of r (held_row (assessment sha256 reading (union e) a.body)) holds
 
   -- a row lists it
-  some_row : (found ≡ Unlisted → ⊥) → (q : ℕ) × (row_of (union e) (sha256 a.body) ≡ Some q)
+  some_row : (found ≡ Unlisted → ⊥) → (q : ℕ) × (row_with_digest (union e) (sha256 a.body) ≡ Some q)
   some_row listed =
-      let row = row_of (union e) (sha256 a.body) in
+      let row = row_with_digest (union e) (sha256 a.body) in
       by_row row (listed_row (union e) row (reading a.body) (λ unlisted. listed (is.found_is ∙ unlisted)))
     where
       by_row : (o : Option ℕ) → is_some o ≡ true → (q : ℕ) × (o ≡ Some q)

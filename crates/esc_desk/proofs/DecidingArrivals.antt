@@ -29,7 +29,7 @@ use Rattle.esc_desk.specs.declared.edit.Storing.TheVariants.{Nothing}
 use Rattle.esc_desk.specs.declared.receiving.Received.{Received}
 use Rattle.esc_desk.specs.Again.{is_missing}
 use Rattle.esc_desk.specs.Decisions.{IsArriving, IsDecidedArrival, still_by}
-use Rattle.esc_desk.specs.Edits.{is_empty, is_nothing, noted, stored}
+use Rattle.esc_desk.specs.Edits.{is_empty, is_nothing, receipted, stored}
 use Rattle.esc_desk.specs.Receiving.{IsReceived}
 use Rattle.esc_desk.proofs.Arriving.{books_noted, books_parked, books_held, books_cached_again, books_parked_again, books_held_again}
 use Rattle.esc_desk.proofs.ComingAgain.{nothing_listed, nothing_parked, nothing_refused}
@@ -52,19 +52,19 @@ some_where (Some body) there = refl
 
 pub record IsBesides (r : Option ReceiptValue) (k later : StoreState) : Type 0 where
   pub listed : later.listed ≡ k.listed
-  pub receipts : later.receipts ≡ (noted r k).receipts
+  pub receipts : later.receipts ≡ (receipted r k).receipts
   pub bodies : later.bodies ≡ k.bodies
   pub moment : later.moment ≡ k.moment
   pub steps : later.steps ≡ k.steps
   pub registry : later.registry ≡ k.registry
 
-noted_besides : (r : Option ReceiptValue) (k : StoreState) → IsBesides r k (noted r k)
-noted_besides None k = record { listed = refl; receipts = refl; bodies = refl; moment = refl; steps = refl; registry = refl }
-noted_besides (Some r) k = record { listed = refl; receipts = refl; bodies = refl; moment = refl; steps = refl; registry = refl }
+receipted_besides : (r : Option ReceiptValue) (k : StoreState) → IsBesides r k (receipted r k)
+receipted_besides None k = record { listed = refl; receipts = refl; bodies = refl; moment = refl; steps = refl; registry = refl }
+receipted_besides (Some r) k = record { listed = refl; receipts = refl; bodies = refl; moment = refl; steps = refl; registry = refl }
 
-noted_is : (r : Option ReceiptValue) (k : StoreState) → noted r k ≡ record k { receipts = (noted r k).receipts }
-noted_is None k = refl
-noted_is (Some r) k = refl
+receipted_is : (r : Option ReceiptValue) (k : StoreState) → receipted r k ≡ record k { receipts = (receipted r k).receipts }
+receipted_is None k = refl
+receipted_is (Some r) k = refl
 
 there_not_missing : (bodies : ℕ → Option (List ℕ)) (parked : List ℕ → Option (List ℕ)) (d : List ℕ) (found : Assessment) → (found ≡ Unlisted → IsSome (parked d))
     → ((q : ℕ) → held_row found ≡ Some q → IsSome (bodies q)) → is_missing bodies parked d found ≡ false
@@ -74,10 +74,10 @@ there_not_missing bodies parked key (Differing r) waits held = refl
 there_not_missing bodies parked key (Holding r d) waits held = ap not (held r refl)
 
 module _ {e : List EventValue} {a : ArrivalValue} {k : StoreState} {found : Assessment} {cache : Cache} {receipt : Option ReceiptValue} (is : IsArriving e a k found cache receipt) where
-  still : (b : Storing) → IsBesides receipt k (stored b (noted receipt k)) → AreBooks sha256 reading (e ++ arrived a ∷ []) (stored b (noted receipt k))
+  still : (b : Storing) → IsBesides receipt k (stored b (receipted receipt k)) → AreBooks sha256 reading (e ++ arrived a ∷ []) (stored b (receipted receipt k))
       → (is_empty (still_by receipt (Some cache) b).edit ≡ true → is_missing k.bodies k.parked (sha256 a.body) found ≡ false) → IsDecidedArrival e a k found (still_by receipt (Some cache) b)
   still b besides books there =
-      let made = stored b (noted receipt k) in
+      let made = stored b (receipted receipt k) in
       let stands = stands_still e (e ++ arrived a ∷ []) k made is.stood books besides.listed besides.bodies besides.moment besides.steps besides.registry in
       record {
         decided = decided_still receipt None b None (Some cache) is.stood stands (union-arrived e a) (record {
@@ -92,29 +92,29 @@ module _ {e : List EventValue} {a : ArrivalValue} {k : StoreState} {found : Asse
   -- nothing is stored: the body is there, or it is no row's deposit
   pub decided_there : (found ≡ Unlisted → IsSome (k.parked (sha256 a.body))) → ((q : ℕ) → held_row found ≡ Some q → IsSome (k.bodies q))
       → IsDecidedArrival e a k found (still_by receipt (Some cache) Nothing)
-  decided_there waits held = still Nothing (noted_besides receipt k) (is.there waits held) (λ empty. there_not_missing k.bodies k.parked (sha256 a.body) found waits held)
+  decided_there waits held = still Nothing (receipted_besides receipt k) (is.there waits held) (λ empty. there_not_missing k.bodies k.parked (sha256 a.body) found waits held)
 
   -- the body is parked
-  pub decided_parked : (b : Storing) → is_nothing b ≡ false → IsBesides receipt k (stored b (noted receipt k))
-      → AreBooks sha256 reading (e ++ arrived a ∷ []) (stored b (noted receipt k)) → IsDecidedArrival e a k found (still_by receipt (Some cache) b)
+  pub decided_parked : (b : Storing) → is_nothing b ≡ false → IsBesides receipt k (stored b (receipted receipt k))
+      → AreBooks sha256 reading (e ++ arrived a ∷ []) (stored b (receipted receipt k)) → IsDecidedArrival e a k found (still_by receipt (Some cache) b)
   decided_parked b some besides books = still b besides books (λ empty. absurd (stores_something (still_by receipt (Some cache) b).edit some empty))
 
-  pub parked_besides : (d body : List ℕ) → IsBesides receipt k (with_parked (noted receipt k) d (Some body))
+  pub parked_besides : (d body : List ℕ) → IsBesides receipt k (with_parked (receipted receipt k) d (Some body))
   parked_besides d body =
-      let at = noted_besides receipt k in
+      let at = receipted_besides receipt k in
       record { listed = at.listed; receipts = refl; bodies = at.bodies; moment = at.moment; steps = at.steps; registry = at.registry }
 
   -- ---- the body is held for a row that has none
-  module _ (row : ℕ) (none : k.bodies row ≡ None) (books : AreBooks sha256 reading (e ++ arrived a ∷ []) (with_body (noted receipt k) row a.body)) where
-    books_late : AreBooks sha256 reading (e ++ arrived a ∷ []) (with_body (record k { receipts = (noted receipt k).receipts }) row a.body)
-    books_late = subst (λ (m : StoreState). AreBooks sha256 reading (e ++ arrived a ∷ []) (with_body m row a.body)) (noted_is receipt k) books
+  module _ (row : ℕ) (none : k.bodies row ≡ None) (books : AreBooks sha256 reading (e ++ arrived a ∷ []) (with_body (receipted receipt k) row a.body)) where
+    books_late : AreBooks sha256 reading (e ++ arrived a ∷ []) (with_body (record k { receipts = (receipted receipt k).receipts }) row a.body)
+    books_late = subst (λ (m : StoreState). AreBooks sha256 reading (e ++ arrived a ∷ []) (with_body m row a.body)) (receipted_is receipt k) books
 
     pub late_move : {rows : List ℕ} {plan : Plan} {moment : Option ℤ} → AreHeld (body_put k.bodies row a.body) rows → moment ≡ k.moment
         → AreLatestSteps k.listed rows moment plan.new.items → plan.old.items ≡ kept_chain k
-        → IsMove e (arrived a) k (with_body (noted receipt k) row a.body) [] rows plan
+        → IsMove e (arrived a) k (with_body (receipted receipt k) row a.body) [] rows plan
     late_move {rows = rows} {plan = plan} held moment latest old =
-        subst (λ (m : StoreState). IsMove e (arrived a) k (with_body m row a.body) [] rows plan) (sym (noted_is receipt k))
-        (move_to e a k row (noted receipt k).receipts none is.stood books_late held refl moment latest old)
+        subst (λ (m : StoreState). IsMove e (arrived a) k (with_body m row a.body) [] rows plan) (sym (receipted_is receipt k))
+        (move_to e a k row (receipted receipt k).receipts none is.stood books_late held refl moment latest old)
 
     pub late_idle : (work : Work) → IsIdle e (arrived a) work
     late_idle = idle_by e a k row is.stood none (λ apart. books_late.bodies apart row)

@@ -1,5 +1,5 @@
 -- One more arrival, in the list of distinct ones and their receipts.
-use Rattle.std.proofs.Common.{◌≡◌, ℕ, suc, Bool, true, false, cond, not, filter, ◌&&◌, ◌||◌, List, [], ◌∷◌, ◌++◌, length, Result, refl, sym, ap, ap₂, ◌∙◌, append_assoc, append-nil}
+use Rattle.std.proofs.Common.{◌≡◌, ℕ, Bool, true, false, cond, not, filter, ◌&&◌, ◌||◌, List, [], ◌∷◌, ◌++◌, Result, refl, sym, ap, ap₂, ◌∙◌, append_assoc, append-nil}
 use Rattle.std.specs.List.{list_any}
 use Rattle.std.specs.Str.{bytes_eq}
 use Rattle.std.specs.Cmp.{IsEquivalence}
@@ -80,10 +80,6 @@ module _ (digest : List ℕ → List ℕ) (reads : List ℕ → Result DepositVa
       ap (λ (x : List ReceiptValue). receipt_for digest reads before b ∷ x)
       (receipts-push (before ++ b ∷ []) ds a
       ∙ ap (λ (x : List Coming). receipts_after digest reads (before ++ b ∷ []) ds ++ receipt_for digest reads x a ∷ []) (append_assoc before (b ∷ []) ds))
-
-  pub length-receipts : (before ds : List Coming) → length (receipts_after digest reads before ds) ≡ length ds
-  length-receipts before [] = refl
-  length-receipts before (b ∷ ds) = ap suc (length-receipts (before ++ b ∷ []) ds)
 
   number_kept : (n k : List ℕ) (early : Bool) (f : Assessment) (again : Bool) → (receipt_by n k early f again).number ≡ n
   number_kept n k early Unlisted again = refl

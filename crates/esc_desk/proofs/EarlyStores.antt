@@ -15,7 +15,7 @@ use Rattle.esc_store.specs.ListLaws.{any_weaker}
 use Rattle.esc_events.specs.ArrivalValue.{ArrivalValue}
 use Rattle.esc_events.specs.Events.{EventValue, Coming, early_coming, union_after, union, comings_after, comings, moment_after, last_moment}
 use Rattle.esc_events.specs.Events.EventValue.{arrived_early}
-use Rattle.esc_events.specs.Assessment.{found_at, row_of}
+use Rattle.esc_events.specs.Assessment.{found_at, row_with_digest}
 use Rattle.esc_events.specs.FirstVersion.{StoodFor, events_before, first_arrivals}
 use Rattle.esc_events.specs.Receipts.{holds_row, holds, alike, distinct, receipts_after}
 use Rattle.esc_events.specs.StateAfter.{Among, IsApart, CameFor, IsStateAfter, TellsOf, arrived_body, holds_by, has_digest, is_lost, kept_arrivals, held_body, parked_body}
@@ -74,16 +74,16 @@ module _ (m : List MRow) (l : List ArrivalValue) where
   early_of : (c : Coming) → Among (comings before) c → (c.rows ≡ m) × (c.early ≡ true)
   early_of c there = came_early m l c (subst (λ (cs : List Coming). Among cs c) comings_are there)
 
-  kept_by : (c : Coming) (r : ℕ) → Among (comings before) c → row_of m (sha256 c.body) ≡ Some r → is_lost sha256 reading c ≡ false
+  kept_by : (c : Coming) (r : ℕ) → Among (comings before) c → row_with_digest m (sha256 c.body) ≡ Some r → is_lost sha256 reading c ≡ false
   kept_by c r there lists =
       let is = early_of c there in
-      ap₂ (λ (b : Bool) (x : List MRow). b && is_none (row_of x (sha256 c.body))) is.1 is.0
+      ap₂ (λ (b : Bool) (x : List MRow). b && is_none (row_with_digest x (sha256 c.body))) is.1 is.0
       ∙ ap (λ (o : Option ℕ). is_none o) lists
 
-  listed_by : (c : Coming) → Among counts c → row_of m (sha256 c.body) ≡ None → ⊥
+  listed_by : (c : Coming) → Among counts c → row_with_digest m (sha256 c.body) ≡ None → ⊥
   listed_by c there none =
       let is = early_of c (counted_came sha256 reading before c there) in
-      let lost : is_lost sha256 reading c ≡ true = ap₂ (λ (b : Bool) (x : List MRow). b && is_none (row_of x (sha256 c.body))) is.1 is.0 ∙ ap (λ (o : Option ℕ). is_none o) none in
+      let lost : is_lost sha256 reading c ≡ true = ap₂ (λ (b : Bool) (x : List MRow). b && is_none (row_with_digest x (sha256 c.body))) is.1 is.0 ∙ ap (λ (o : Option ℕ). is_none o) none in
       true≢false (sym lost ∙ counted_kept sha256 reading before c there)
 
   first_came : (c : Coming) → Among first c → Among (comings before) c
@@ -92,10 +92,10 @@ module _ (m : List MRow) (l : List ArrivalValue) where
   -- by the rows that were listed when it came, and by those that are listed in the end, an arrival
   -- holds the same row
   holds_is : (r : ℕ) (c : Coming) → Among (comings before) c → holds sha256 reading r c ≡ holding r c
-  holds_is r c there = ap (λ (x : List MRow). holds_row r (found_at x (row_of x (sha256 c.body)) (reading c.body))) ((early_of c there).0 ∙ sym union_is)
+  holds_is r c there = ap (λ (x : List MRow). holds_row r (found_at x (row_with_digest x (sha256 c.body)) (reading c.body))) ((early_of c there).0 ∙ sym union_is)
 
-  lists_held : (r : ℕ) (c : Coming) → holding r c ≡ true → row_of m (sha256 c.body) ≡ Some r
-  lists_held r c is = ap (λ (x : List MRow). row_of x (sha256 c.body)) (sym union_is) ∙ row_found (union before) r (row_of (union before) (sha256 c.body)) (reading c.body) is
+  lists_held : (r : ℕ) (c : Coming) → holding r c ≡ true → row_with_digest m (sha256 c.body) ≡ Some r
+  lists_held r c is = ap (λ (x : List MRow). row_with_digest x (sha256 c.body)) (sym union_is) ∙ row_found (union before) r (row_with_digest (union before) (sha256 c.body)) (reading c.body) is
 
   holder_counts : (r : ℕ) (c : Coming) → Among first c → holds sha256 reading r c ≡ true → Among counts c × (holding r c ≡ true)
   holder_counts r c there is =
@@ -121,11 +121,11 @@ module _ (m : List MRow) (l : List ArrivalValue) where
         let x = one_of (alike sha256 reading c) first (sym (any_alike sha256 reading (map (early_coming m) l) c) ∙ any) in
         let like = and_parts (bytes_eq c.number x.0.number) (bytes_eq (sha256 c.body) (sha256 x.0.body)) x.2 in
         let same : sha256 c.body ≡ sha256 x.0.body = (bytes_decides (sha256 c.body) (sha256 x.0.body)).0 like.1 in
-        let lists : row_of m (sha256 x.0.body) ≡ Some r = ap (λ (d : List ℕ). row_of m d) (sym same) ∙ lists_held r c is in
+        let lists : row_with_digest m (sha256 x.0.body) ≡ Some r = ap (λ (d : List ℕ). row_with_digest m d) (sym same) ∙ lists_held r c is in
         let it_counts = came_counts sha256 reading before x.0 (first_came x.0 x.1) (kept_by x.0 r (first_came x.0 x.1) lists) in
         let body : c.body ≡ x.0.body = apart c x.0 there it_counts same in
         any_of (holds sha256 reading r) first x.0 x.1
-        (holds_is r x.0 (first_came x.0 x.1) ∙ ap (λ (b : List ℕ). holds_row r (found_at (union before) (row_of (union before) (sha256 b)) (reading b))) (sym body) ∙ is)
+        (holds_is r x.0 (first_came x.0 x.1) ∙ ap (λ (b : List ℕ). holds_row r (found_at (union before) (row_with_digest (union before) (sha256 b)) (reading b))) (sym body) ∙ is)
 
     held_is : arrived_body (find (holds sha256 reading r) first) ≡ held_body sha256 reading before r
     held_is = by_both (find (holds sha256 reading r) first) refl (find (holding r) counts) refl
@@ -150,14 +150,14 @@ module _ (m : List MRow) (l : List ArrivalValue) where
 
   -- no body that counts is one that no row lists
   none_parked : (d : List ℕ) → None ≡ parked_body sha256 reading before d
-  none_parked d = by_row (row_of m d) refl ∙ ap (λ (x : List MRow). cond (is_some (row_of x d)) None (arrived_body (find (has_digest sha256 reading d) counts))) (sym union_is)
+  none_parked d = by_row (row_with_digest m d) refl ∙ ap (λ (x : List MRow). cond (is_some (row_with_digest x d)) None (arrived_body (find (has_digest sha256 reading d) counts))) (sym union_is)
     where
-      by_row : (o : Option ℕ) → row_of m d ≡ o → None ≡ cond (is_some (row_of m d)) None (arrived_body (find (has_digest sha256 reading d) counts))
+      by_row : (o : Option ℕ) → row_with_digest m d ≡ o → None ≡ cond (is_some (row_with_digest m d)) None (arrived_body (find (has_digest sha256 reading d) counts))
       by_row (Some q) is = sym (ap (λ (o : Option ℕ). cond (is_some o) None (arrived_body (find (has_digest sha256 reading d) counts))) is)
       by_row None is =
           sym (ap (λ (o : Option ℕ). cond (is_some o) None (arrived_body (find (has_digest sha256 reading d) counts))) is
           ∙ ap arrived_body (find_never (has_digest sha256 reading d) counts
-          (λ c there has. listed_by c there (ap (λ (x : List ℕ). row_of m x) ((bytes_decides (sha256 c.body) d).0 has) ∙ is))))
+          (λ c there has. listed_by c there (ap (λ (x : List ℕ). row_with_digest m x) ((bytes_decides (sha256 c.body) d).0 has) ∙ is))))
 
 -- ---- what is kept
 

@@ -11,7 +11,7 @@ use Rattle.esc_desk.specs.declared.edit.Edit.{Edit}
 use Rattle.esc_desk.specs.declared.edit.Listing.{Listing}
 use Rattle.esc_desk.specs.declared.edit.Storing.{Storing}
 use Rattle.esc_desk.specs.declared.edit.Storing.TheVariants.{Nothing, Hold, Park}
-use Rattle.esc_desk.specs.Edits.{noted, stored, listed_more, timed, books_edited, StaysPut}
+use Rattle.esc_desk.specs.Edits.{receipted, stored, listed_more, timed, books_edited, StaysPut}
 use Rattle.esc_desk.specs.Causes.{IsEditFault, IsFillFault}
 use Rattle.esc_desk.proofs.AmendingKept.{adopted_stay, dropped_stay}
 use Rattle.esc_desk.proofs.CrashSteps.{adds_then}
@@ -33,9 +33,9 @@ module _ {S : Type 0} (g : Ghosts S) where
 
 -- ---- the chain and its tables stay where the books are edited
 
-stays_noted : (r : Option ReceiptValue) (k : StoreState) → StaysPut k (noted r k)
-stays_noted None k = record { steps = refl; registry = refl }
-stays_noted (Some r) k = record { steps = refl; registry = refl }
+stays_receipted : (r : Option ReceiptValue) (k : StoreState) → StaysPut k (receipted r k)
+stays_receipted None k = record { steps = refl; registry = refl }
+stays_receipted (Some r) k = record { steps = refl; registry = refl }
 
 stays_stored : (b : Storing) (k : StoreState) → StaysPut k (stored b k)
 stays_stored Nothing k = record { steps = refl; registry = refl }
@@ -66,7 +66,7 @@ stays_then p q = record { steps = q.steps ∙ p.steps; registry = q.registry ∙
 
 pub stays_put : (edit : Edit) (k : StoreState) → StaysPut k (books_edited edit k)
 stays_put edit k =
-    let a = noted edit.receipt k in
+    let a = receipted edit.receipt k in
     let b = listed_more edit.listing a in
     let c = stored edit.body b in
-    stays_then (stays_then (stays_then (stays_noted edit.receipt k) (stays_listed edit.listing a)) (stays_stored edit.body b)) (stays_timed edit.moment c)
+    stays_then (stays_then (stays_then (stays_receipted edit.receipt k) (stays_listed edit.listing a)) (stays_stored edit.body b)) (stays_timed edit.moment c)

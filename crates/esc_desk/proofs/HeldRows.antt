@@ -11,7 +11,7 @@ use Rattle.esc_events.specs.declared.assessment.Assessment.TheVariants.{Unlisted
 use Rattle.esc_events.specs.Events.{Coming}
 use Rattle.esc_events.specs.Assessment.{assessment, found_at, held_row}
 use Rattle.esc_events.specs.Receipts.{is_row}
-use Rattle.esc_events.specs.StateAfter.{with_some, holds_by, rows_of}
+use Rattle.esc_events.specs.StateAfter.{with_some, holds_by, rows_of_arrivals}
 use Rattle.esc_events.specs.HeldLaws.{same_test}
 
 pub is_row_of : (r : ℕ) (row : Option ℕ) → is_row r row ≡ true → row ≡ Some r
@@ -33,15 +33,15 @@ unlisted_row m (Some q) (Ok d) is = by_test _ is
     by_test false is = absurd (cc)
 
 module _ (digest : List ℕ → List ℕ) (reads : List ℕ → Result DepositValue ℕ) (m : List MRow) where
-  pub any_row : (l : List Coming) (r : ℕ) → list_any (λ q. eq_by_cmp nat_cmp r q) (rows_of digest reads m l) ≡ list_any (holds_by digest reads m r) l
+  pub any_row : (l : List Coming) (r : ℕ) → list_any (λ q. eq_by_cmp nat_cmp r q) (rows_of_arrivals digest reads m l) ≡ list_any (holds_by digest reads m r) l
   any_row [] r = refl
   any_row (a ∷ l) r = one (held_row (assessment digest reads m a.body)) ∙ ap (λ b. is_row r (held_row (assessment digest reads m a.body)) || b) (any_row l r)
     where
       one : (row : Option ℕ)
-          → list_any (λ q. eq_by_cmp nat_cmp r q) (with_some row (rows_of digest reads m l)) ≡ (is_row r row || list_any (λ q. eq_by_cmp nat_cmp r q) (rows_of digest reads m l))
+          → list_any (λ q. eq_by_cmp nat_cmp r q) (with_some row (rows_of_arrivals digest reads m l)) ≡ (is_row r row || list_any (λ q. eq_by_cmp nat_cmp r q) (rows_of_arrivals digest reads m l))
       one None = refl
-      one (Some q) = ap (λ b. b || list_any (λ q. eq_by_cmp nat_cmp r q) (rows_of digest reads m l)) (same_test q r)
+      one (Some q) = ap (λ b. b || list_any (λ q. eq_by_cmp nat_cmp r q) (rows_of_arrivals digest reads m l)) (same_test q r)
 
   -- a row is held exactly if one of the bodies holds it
-  pub contains_held : (l : List Coming) (r : ℕ) → set.contains (set.from_list {R = nat_cmp} (rows_of digest reads m l)) r ≡ list_any (holds_by digest reads m r) l
-  contains_held l r = set.contains-from_list nat_cmp_total (rows_of digest reads m l) r ∙ any_row l r
+  pub contains_held : (l : List Coming) (r : ℕ) → set.contains (set.from_list {R = nat_cmp} (rows_of_arrivals digest reads m l)) r ≡ list_any (holds_by digest reads m r) l
+  contains_held l r = set.contains-from_list nat_cmp_total (rows_of_arrivals digest reads m l) r ∙ any_row l r

@@ -11,7 +11,7 @@ use Rattle.esc_chain.specs.Chain.{Rows, IsHeld, IsLatestChainAt}
 use Rattle.esc_chain.specs.AtEnd.{HasOneMore}
 use Rattle.esc_apply.specs.declared.front.Step.{Step}
 use Rattle.esc_store.specs.StoreState.{AreHeld, step_at}
-use Rattle.esc_events.specs.Plans.{AreLatestSteps, rows_in}
+use Rattle.esc_events.specs.Plans.{AreLatestSteps, rows_in_steps}
 use Rattle.esc_events.specs.StateAfter.{HaveBodies}
 use Rattle.esc_store.specs.Holding.{IsInserted}
 use Rattle.esc_desk.specs.Lengthening.{IsChainWithout, Lengthens}
@@ -36,8 +36,8 @@ module _ (m : List MRow) (rows : List ℕ) (t : Option ℤ) (r : ℕ) (steps mor
   made : more ≡ map (step_at m) longer
   made = are ∙ ap (λ (l : List Step). l ++ step_at m r ∷ []) before.are_steps ∙ sym (map-append (step_at m) before.chain (r ∷ []))
 
-  rows_are : rows_in more ≡ longer
-  rows_are = ap rows_in made ∙ rows_of_steps m longer
+  rows_are : rows_in_steps more ≡ longer
+  rows_are = ap rows_in_steps made ∙ rows_of_steps m longer
 
   is_latest : IsLatestChainAt m (set.from_list rows) t longer
   is_latest = by_end (last before.chain) refl (sym (last_mapped (step_at m) before.chain) ∙ ap (λ (l : List Step). last l) (sym before.are_steps) ∙ goes.last_is)

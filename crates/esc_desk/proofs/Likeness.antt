@@ -56,7 +56,7 @@ use Rattle.esc_events.specs.declared.assessment.Assessment.TheVariants.{Differin
 use Rattle.esc_events.specs.ArrivalValue.{ArrivalValue}
 use Rattle.esc_events.specs.Events.{EventValue, Coming, union, coming, early_coming, comings, last_moment}
 use Rattle.esc_events.specs.Events.EventValue.{listed, arrived, moved, arrived_early}
-use Rattle.esc_events.specs.Assessment.{assessment, found, found_at, as_listed, row_of}
+use Rattle.esc_events.specs.Assessment.{assessment, found, found_at, as_listed, row_with_digest}
 use Rattle.esc_events.specs.Receipts.{alike, distinct, holds_row, receipts_of, receipts_after, reply_to}
 use Rattle.esc_events.specs.StateAfter.{Among, IsApart, AreBooks, IsStateAfter, CameFor, CameWith, TellsOf, arrived_body, holds_by, has_digest, kept_arrivals, held_body, parked_body}
 use Rattle.esc_desk.proofs.AmendingLemmas.{row_found}
@@ -109,13 +109,13 @@ first_in_front p (x ∷ xs) ys within = by_test (p x) (first_in_front p xs ys) w
     by_test true rest within = refl
     by_test false rest within = ap (λ (n : ℕ). 1 + n) (rest (omega (arith, within)))
 
-row_still : (m more : List MRow) (d : List ℕ) (q : ℕ) → row_of m d ≡ Some q → (row_of (m ++ more) d ≡ Some q) × (q < length m)
+row_still : (m more : List MRow) (d : List ℕ) (q : ℕ) → row_with_digest m d ≡ Some q → (row_with_digest (m ++ more) d ≡ Some q) × (q < length m)
 row_still m more d q then =
     let p : MRow → Bool = λ row. bytes_eq row.digest d in
     let first : q ≡ position_or_len (λ (row : MRow). bytes_eq row.digest d) m = grind (arith, common_steps, then) in
     let within : position_or_len (λ (row : MRow). bytes_eq row.digest d) m < length m = grind (arith, common_steps, then) in
     let same = first_in_front (λ (row : MRow). bytes_eq row.digest d) m more within in
-    let still : row_of (m ++ more) d ≡ Some q = grind (arith, common_steps, first, within, same) in
+    let still : row_with_digest (m ++ more) d ≡ Some q = grind (arith, common_steps, first, within, same) in
     (still, omega (arith, first, within))
 
 found_still : (m more : List MRow) (r : ℕ) → r < length m → (t : Result DepositValue ℕ) → found (m ++ more) r t ≡ found m r t
@@ -123,7 +123,7 @@ found_still m more r within (Ok d) =
     ap (λ (row : MRow). cond (as_listed row.header d.header) (Holding r d) (Differing r)) (get_or_append_left m more no_row r within)
 found_still m more r within (Err n) = refl
 
-holds_still : (m more : List MRow) (q r : ℕ) (c : Coming) → row_of m (sha256 c.body) ≡ Some q → holding (m ++ more) r c ≡ holding m r c
+holds_still : (m more : List MRow) (q r : ℕ) (c : Coming) → row_with_digest m (sha256 c.body) ≡ Some q → holding (m ++ more) r c ≡ holding m r c
 holds_still m more q r c at =
     let now = row_still m more (sha256 c.body) q at in
     ap (λ (o : Option ℕ). holds_row r (found_at (m ++ more) o (reading c.body))) now.0
@@ -135,7 +135,7 @@ holds_still m more q r c at =
 -- a body with its digest is among those that count; or a row lists it, and each row that it holds is held
 abbrev pub IsThere : List MRow → List Coming → Coming → Type 0
 IsThere m l c = (list_any (under (sha256 c.body)) l ≡ true)
-    ⊎ ((q : ℕ) × (row_of m (sha256 c.body) ≡ Some q) × ((r : ℕ) → holding m r c ≡ true → list_any (holding m r) l ≡ true))
+    ⊎ ((q : ℕ) × (row_with_digest m (sha256 c.body) ≡ Some q) × ((r : ℕ) → holding m r c ≡ true → list_any (holding m r) l ≡ true))
 
 -- and it is like an earlier one
 pub record AddsNothing (e : List EventValue) (a : ArrivalValue) : Type 0 where
@@ -197,11 +197,11 @@ module _ {m more : List MRow} {l tail : List Coming} {c : Coming} {e f : List Ev
           any_of (holding (m ++ more) r) l x.0 x.1 (ap (λ (b : List ℕ). holds_row r (assessment sha256 reading (m ++ more) b)) body ∙ holds)
       by_case (inr (q, at, held)) =
           let x = one_of (holding m r) l (held r (sym (holds_still m more q r c at) ∙ holds)) in
-          let lists = row_found m r (row_of m (sha256 x.0.body)) (reading x.0.body) x.2 in
+          let lists = row_found m r (row_with_digest m (sha256 x.0.body)) (reading x.0.body) x.2 in
           any_of (holding (m ++ more) r) l x.0 x.1 (holds_still m more r r x.0 lists ∙ x.2)
 
   -- what it could be parked as came earlier
-  parked_before : (d : List ℕ) → row_of (m ++ more) d ≡ None → under d c ≡ true → list_any (under d) l ≡ true
+  parked_before : (d : List ℕ) → row_with_digest (m ++ more) d ≡ None → under d c ≡ true → list_any (under d) l ≡ true
   parked_before d none is = by_case there
     where
       same : sha256 c.body ≡ d
@@ -209,7 +209,7 @@ module _ {m more : List MRow} {l tail : List Coming} {c : Coming} {e f : List Ev
 
       by_case : IsThere m l c → list_any (under d) l ≡ true
       by_case (inl any) = subst (λ (x : List ℕ). list_any (under x) l ≡ true) same any
-      by_case (inr (q, at, held)) = absurd (none-some _ (sym none ∙ ap (row_of (m ++ more)) (sym same) ∙ (row_still m more (sha256 c.body) q at).0))
+      by_case (inr (q, at, held)) = absurd (none-some _ (sym none ∙ ap (row_with_digest (m ++ more)) (sym same) ∙ (row_still m more (sha256 c.body) q at).0))
 
   found_as : (p : Coming → Bool) → (p c ≡ true → list_any p l ≡ true) → find p (kept_arrivals sha256 reading f) ≡ find p (kept_arrivals sha256 reading e)
   found_as p before =
@@ -225,11 +225,11 @@ module _ {m more : List MRow} {l tail : List Coming} {c : Coming} {e f : List Ev
 
   parked_as : (d : List ℕ) → parked_body sha256 reading f d ≡ parked_body sha256 reading e d
   parked_as d =
-      ap (λ (n : List MRow). cond (is_some (row_of n d)) None (arrived_body (find (under d) (kept_arrivals sha256 reading f)))) (one.rows ∙ one.listed_are)
-      ∙ by_row (row_of (m ++ more) d) refl
-      ∙ ap (λ (n : List MRow). cond (is_some (row_of n d)) None (arrived_body (find (under d) (kept_arrivals sha256 reading e)))) (sym one.listed_are)
+      ap (λ (n : List MRow). cond (is_some (row_with_digest n d)) None (arrived_body (find (under d) (kept_arrivals sha256 reading f)))) (one.rows ∙ one.listed_are)
+      ∙ by_row (row_with_digest (m ++ more) d) refl
+      ∙ ap (λ (n : List MRow). cond (is_some (row_with_digest n d)) None (arrived_body (find (under d) (kept_arrivals sha256 reading e)))) (sym one.listed_are)
     where
-      by_row : (o : Option ℕ) → row_of (m ++ more) d ≡ o
+      by_row : (o : Option ℕ) → row_with_digest (m ++ more) d ≡ o
           → cond (is_some o) None (arrived_body (find (under d) (kept_arrivals sha256 reading f)))
           ≡ cond (is_some o) None (arrived_body (find (under d) (kept_arrivals sha256 reading e)))
       by_row None none = ap arrived_body (found_as (under d) (parked_before d none))

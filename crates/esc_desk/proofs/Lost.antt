@@ -11,7 +11,7 @@ use Rattle.esc_events.specs.declared.assessment.Assessment.{Assessment}
 use Rattle.esc_events.specs.ArrivalValue.{ArrivalValue}
 use Rattle.esc_events.specs.Events.{EventValue, Coming, union, coming, comings}
 use Rattle.esc_events.specs.Events.EventValue.{arrived}
-use Rattle.esc_events.specs.Assessment.{found_at, row_of, held_row}
+use Rattle.esc_events.specs.Assessment.{found_at, row_with_digest, held_row}
 use Rattle.esc_events.specs.Receipts.{receipt_by, holds_any, alike, receipt_for, receipts_after, unlisted_verdict}
 use Rattle.esc_events.specs.StateAfter.{Among, is_lost, kept_arrivals}
 use Rattle.esc_desk.proofs.Distinct.{kept_one}
@@ -49,9 +49,9 @@ module _ (digest : List ℕ → List ℕ) (reads : List ℕ → Result DepositVa
   -- an early arrival whose body no row listed had the verdict A2
   lost_verdict : (before : List Coming) (c : Coming) → is_lost digest reads c ≡ true → (receipt_for digest reads before c).verdict ≡ A2
   lost_verdict before c lost =
-      let of = and_parts c.early (is_none (row_of c.rows (digest c.body))) lost in
+      let of = and_parts c.early (is_none (row_with_digest c.rows (digest c.body))) lost in
       ap (λ (o : Option ℕ). (receipt_by c.number (digest c.body) c.early (found o) (holds_any digest reads before (held_row (found o)))).verdict)
-      (no_row_is (row_of c.rows (digest c.body)) of.1)
+      (no_row_is (row_with_digest c.rows (digest c.body)) of.1)
       ∙ ap unlisted_verdict of.0
     where
       found : Option ℕ → Assessment

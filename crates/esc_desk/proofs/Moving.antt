@@ -25,7 +25,7 @@ use Rattle.esc_apply.specs.Tables.{mention_count}
 use Rattle.esc_store.specs.StoreState.{StoreState, AreHeld, kept_chain, step_at}
 use Rattle.esc_events.specs.declared.plan.Plan.{Plan}
 use Rattle.esc_events.specs.Events.{EventValue, union, last_moment}
-use Rattle.esc_events.specs.Plans.{AreLatestSteps, IsMovedFrom, IsCostOfMove, deposits_past, rows_in, moved_by}
+use Rattle.esc_events.specs.Plans.{AreLatestSteps, IsMovedFrom, IsCostOfMove, deposits_past, rows_in_steps, moved_by}
 use Rattle.esc_events.specs.LatestTables.{IsChainOf}
 use Rattle.esc_events.specs.Works.{no_work}
 use Rattle.esc_events.specs.StateAfter.{HaveBodies, AreBooks, IsStateAfter, IsApart, deposit_of, or_no_deposit, deposits_of, held_rows, held_body}
@@ -104,7 +104,7 @@ no_work_of e x k l stood stands rows steps apart = record {
 }
 
 -- the rows of the steps of rows
-pub rows_of_steps : (m : List MRow) (rows : List ℕ) → rows_in (map (step_at m) rows) ≡ rows
+pub rows_of_steps : (m : List MRow) (rows : List ℕ) → rows_in_steps (map (step_at m) rows) ≡ rows
 rows_of_steps m [] = refl
 rows_of_steps m (r ∷ rows) = ap (λ (l : List ℕ). r ∷ l) (rows_of_steps m rows)
 
@@ -112,7 +112,7 @@ rows_of_steps m (r ∷ rows) = ap (λ (l : List ℕ). r ∷ l) (rows_of_steps m 
 pub moved_from : (e : List EventValue) (k : StoreState) (plan : Plan) → IsStateAfter sha256 reading e k → plan.old.items ≡ kept_chain k
     → IsMovedFrom k (deposits_of reading k.bodies k.steps) plan
 moved_from e k plan stood old = record {
-  steps = sym (ap rows_in old ∙ rows_of_steps k.listed k.steps);
+  steps = sym (ap rows_in_steps old ∙ rows_of_steps k.listed k.steps);
   count = length-map k.steps (λ r. deposit_of reading (k.bodies r)) ∙ sym (ap length old ∙ length-map k.steps (step_at k.listed));
   registry = stood.registry;
 }
@@ -129,7 +129,7 @@ module _ (law : LatestChainsAtAreHeldRows) (e : List EventValue) (x : EventValue
   front = common_front plan.old.items plan.new.items
 
   abbrev after : List ℕ
-  after = rows_in plan.new.items
+  after = rows_in_steps plan.new.items
 
   some_of : (r : ℕ) → set.contains stood.held r ≡ true → (body : List ℕ) × (k.bodies r ≡ Some body)
   some_of r there = by_body (k.bodies r) refl

@@ -11,7 +11,7 @@ use Rattle.esc_store.specs.ListLaws.{any_front_or_last, any_front, any_last}
 use Rattle.esc_events.specs.ArrivalValue.{ArrivalValue}
 use Rattle.esc_events.specs.Events.{EventValue, Coming, union, coming, comings}
 use Rattle.esc_events.specs.Events.EventValue.{arrived}
-use Rattle.esc_events.specs.Assessment.{row_of, held_row}
+use Rattle.esc_events.specs.Assessment.{row_with_digest, held_row}
 use Rattle.esc_events.specs.Receipts.{holds_any, found_then, alike, distinct, receipt_for, receipts_after, receipts_of, reply_to}
 use Rattle.esc_events.specs.StateAfter.{Among, TellsOf, arrived_body, holds_by, has_digest, kept_arrivals, held_body, parked_body, IsApart, CameFor, CameWith, AreBooks}
 use Rattle.esc_desk.proofs.EventLemmas.{union-arrived, comings-arrived, moment-arrived}
@@ -99,13 +99,13 @@ module _ (digest : List ℕ → List ℕ) (reads : List ℕ → Result DepositVa
       held_then : (r : ℕ) → held_body digest reads then r ≡ arrived_body (find (holding r) (counts ++ came ∷ []))
       held_then r = ap₂ (λ (m : List MRow) (l : List Coming). arrived_body (find (holds_by digest reads m r) l)) (union-arrived e a) (kept_arrivals-arrived digest reads e a)
 
-      parked_then : (d : List ℕ) → parked_body digest reads then d ≡ cond (is_some (row_of (union e) d)) None (arrived_body (find (under d) (counts ++ came ∷ [])))
-      parked_then d = ap₂ (λ (m : List MRow) (l : List Coming). cond (is_some (row_of m d)) None (arrived_body (find (under d) l))) (union-arrived e a) (kept_arrivals-arrived digest reads e a)
+      parked_then : (d : List ℕ) → parked_body digest reads then d ≡ cond (is_some (row_with_digest (union e) d)) None (arrived_body (find (under d) (counts ++ came ∷ [])))
+      parked_then d = ap₂ (λ (m : List MRow) (l : List Coming). cond (is_some (row_with_digest m d)) None (arrived_body (find (under d) l))) (union-arrived e a) (kept_arrivals-arrived digest reads e a)
 
       held_now : (r : ℕ) → k.bodies r ≡ arrived_body (find (holding r) counts)
       held_now r = books.bodies (apart-arrived apart) r
 
-      parked_now : (d : List ℕ) → is_some (row_of (union e) d) ≡ false → k.parked d ≡ arrived_body (find (under d) counts)
+      parked_now : (d : List ℕ) → is_some (row_with_digest (union e) d) ≡ false → k.parked d ≡ arrived_body (find (under d) counts)
       parked_now d unlisted = books.parked (apart-arrived apart) d ∙ ap (λ b. cond b None (arrived_body (find (under d) counts))) unlisted
 
       -- a row keeps its body, unless this arrival is the first that holds it
@@ -121,17 +121,17 @@ module _ (digest : List ℕ → List ℕ) (reads : List ℕ → Result DepositVa
           ∙ sym (held_then r)
 
       -- so is the body that is parked under a digest
-      pub old_parked : (d : List ℕ) → (digest a.body ≡ d → is_some (row_of (union e) d) ≡ false → IsSome (k.parked d)) → k.parked d ≡ parked_body digest reads then d
-      old_parked d old = books.parked (apart-arrived apart) d ∙ by_row (is_some (row_of (union e) d)) refl ∙ sym (parked_then d)
+      pub old_parked : (d : List ℕ) → (digest a.body ≡ d → is_some (row_with_digest (union e) d) ≡ false → IsSome (k.parked d)) → k.parked d ≡ parked_body digest reads then d
+      old_parked d old = books.parked (apart-arrived apart) d ∙ by_row (is_some (row_with_digest (union e) d)) refl ∙ sym (parked_then d)
         where
-          by_row : (b : Bool) → is_some (row_of (union e) d) ≡ b
+          by_row : (b : Bool) → is_some (row_with_digest (union e) d) ≡ b
               → cond b None (arrived_body (find (under d) counts)) ≡ cond b None (arrived_body (find (under d) (counts ++ came ∷ [])))
           by_row true is = refl
           by_row false is =
               ap arrived_body (sym (find-push-old (under d) counts came
               (λ h. some_any (under d) counts (sym (ap is_some (parked_now d is)) ∙ old ((bytes_decides (digest a.body) d).0 h) is))))
 
-      pub new_parked : (d : List ℕ) → digest a.body ≡ d → row_of (union e) d ≡ None → k.parked d ≡ None → Some a.body ≡ parked_body digest reads then d
+      pub new_parked : (d : List ℕ) → digest a.body ≡ d → row_with_digest (union e) d ≡ None → k.parked d ≡ None → Some a.body ≡ parked_body digest reads then d
       new_parked d same unlisted none =
           let no_old = no_first (under d) counts (sym (parked_now d (ap is_some unlisted)) ∙ none) in
           ap arrived_body (sym (find-push-new (under d) counts came no_old ((bytes_decides (digest a.body) d).1 same)))

@@ -33,7 +33,7 @@ use Rattle.esc_tables.specs.DepositValue.{DepositValue}
 use Rattle.esc_tables.specs.Reading.{reading}
 use Rattle.esc_manifest.specs.declared.row.MRow.{MRow}
 use Rattle.esc_apply.specs.declared.front.Step.{Step}
-use Rattle.esc_apply.specs.Registry.{State, Content, IsEntriesOf}
+use Rattle.esc_apply.specs.Registry.{State, ObjectsByKey, IsEntriesOf}
 use Rattle.esc_apply.specs.Tables.{tables}
 use Rattle.esc_store.specs.StoreState.{StoreState, kept_chain, step_at, AreHeld, AreCounts}
 use Rattle.esc_store.specs.ReplyValue.{ReceiptValue}
@@ -41,9 +41,9 @@ use Rattle.esc_store.specs.declared.store.Store.{Store}
 use Rattle.esc_store.specs.Representation.{IsAsBefore}
 use Rattle.esc_store.specs.StandingLaws.{as_before_then}
 use Rattle.esc_events.specs.Events.{EventValue, union}
-use Rattle.esc_events.specs.Assessment.{found_at, row_of, held_row}
+use Rattle.esc_events.specs.Assessment.{found_at, row_with_digest, held_row}
 use Rattle.esc_events.specs.Receipts.{is_row}
-use Rattle.esc_events.specs.LatestTables.{tables_of, AreTables}
+use Rattle.esc_events.specs.LatestTables.{tables_of_chain, AreTables}
 use Rattle.esc_events.specs.StateAfter.{or_no_deposit, deposit_of, held_body, IsApart, IsStateAfter}
 use Rattle.esc_desk.proofs.Moving.{chain_of}
 use Rattle.esc_desk.proofs.MovingLemmas.{same_deposits}
@@ -54,7 +54,7 @@ use Rattle.esc_desk.specs.Calls.{IsUnchangedDesk}
 use Rattle.esc_desk.proofs.StoreFacts.{still_stays}
 use Rattle.esc_store.specs.declared.parked.ParkedBody.{ParkedBody}
 use Rattle.esc_store.specs.Parks.{AreParkedBodies}
-use Rattle.esc_desk.specs.Reads.{last, AreHeldRows, AreParkedOf, SaysEnd, IsEndAt, IsEnd, IsStatus}
+use Rattle.esc_desk.specs.Reads.{last, AreHeldOf, AreParkedOf, SaysEnd, IsEndAt, IsEnd, IsStatus}
 
 -- a desk whose store was read, and that remembers what it did
 pub read_stays : {S : Type 0} (g : Ghosts S) (old : Desk S) (store : Store S) → IsAsBefore g old.store store
@@ -91,13 +91,13 @@ held_by same held = record {
 }
 
 module _ (e : List EventValue) (k : StoreState) (stood : IsStateAfter sha256 reading e k) where
-  pub same_held : (rows : List ℕ) → AreHeld k.bodies rows → AreHeldRows e rows
+  pub same_held : (rows : List ℕ) → AreHeld k.bodies rows → AreHeldOf e rows
   same_held rows held apart = held_by (stood.books.bodies apart) held
 
   pub same_parked : (bodies : List ParkedBody) → AreParkedBodies k.parked bodies → AreParkedOf e bodies
   same_parked bodies parked apart = subst (λ (f : List ℕ → Option (List ℕ)). AreParkedBodies f bodies) (λ i d. stood.books.parked apart d i) parked
 
-  pub same_content : IsApart sha256 reading e → k.registry.content ≡ tables_of e k.steps
+  pub same_content : IsApart sha256 reading e → k.registry.content ≡ tables_of_chain e k.steps
   same_content apart =
       ap (λ (s : State). s.content) stood.registry
       ∙ ap tables (same_deposits k.bodies (held_body sha256 reading e) (stood.books.bodies apart) k.steps)
@@ -106,7 +106,7 @@ module _ (e : List EventValue) (k : StoreState) (stood : IsStateAfter sha256 rea
   same_tables entries are apart = record {
     chain = k.steps;
     latest = chain_of e k stood apart;
-    objects = subst (λ (f : Content). IsEntriesOf f entries) (same_content apart) are;
+    objects = subst (λ (f : ObjectsByKey). IsEntriesOf f entries) (same_content apart) are;
   }
 
   -- the steps of a store are those of its chain
@@ -128,7 +128,7 @@ module _ (e : List EventValue) (k : StoreState) (stood : IsStateAfter sha256 rea
       held_count = held_count;
       step_count = step_count ∙ ap length (same_chain steps are) ∙ length-map k.steps (step_at (union e));
       end_is = end ∙ ap (λ (x : List Step). option_map (λ (s : Step). (s.place, s.resend)) (last x)) (same_chain steps are);
-      objects_are = subst (λ (f : Content). AreCounts f status.objects.entries) (same_content apart) counts;
+      objects_are = subst (λ (f : ObjectsByKey). AreCounts f status.objects.entries) (same_content apart) counts;
     };
   }
 
@@ -148,7 +148,7 @@ module _ (e : List EventValue) (k : StoreState) (stood : IsStateAfter sha256 rea
       let came = stood.books.came r body kept in
       let text = came.arrival.body in
       subst (λ (b : List ℕ). (d : DepositValue) × (reading b ≡ Ok d)) came.is_body
-      (read_at (union e) r (row_of (union e) (sha256 text)) (reading text) came.holds)
+      (read_at (union e) r (row_with_digest (union e) (sha256 text)) (reading text) came.holds)
 
   pub end_said : (steps : List Step) (row : ℕ) (body : List ℕ) (end : End) → steps ≡ kept_chain k
       → option_map (λ (s : Step). s.row) (last steps) ≡ Some row → k.bodies row ≡ Some body

@@ -22,17 +22,17 @@ use Rattle.esc_tables.specs.KeyName.{KeyName, key_cmp, key_eq}
 use Rattle.esc_tables.specs.ObjectValue.{ObjectValue}
 use Rattle.esc_tables.specs.Reading.{reading}
 use Rattle.esc_apply.specs.ObjectStreams.{Entry, InOrder}
-use Rattle.esc_apply.specs.Registry.{Content}
+use Rattle.esc_apply.specs.Registry.{ObjectsByKey}
 use Rattle.esc_store.specs.declared.reader.objects.TableKey.{TableKey}
 use Rattle.esc_store.specs.Reading.{ReaderRepresents}
 use Rattle.esc_store.specs.StoreState.{StoreState}
 use Rattle.esc_store.specs.TableKeys.{AreKeysOf, key_at, wanted_of}
 use Rattle.esc_events.specs.Events.{EventValue, union, last_moment}
-use Rattle.esc_events.specs.LatestTables.{AreEntries, tables_of}
+use Rattle.esc_events.specs.LatestTables.{AreEntries, tables_of_chain}
 use Rattle.esc_events.specs.StateAfter.{IsApart, held_rows}
 use Rattle.esc_desk.specs.declared.reader.DeskReader.{DeskReader}
 use Rattle.esc_desk.specs.Readers.{IsUnchangedReader, ReaderReflects}
-use Rattle.esc_desk.specs.ReaderWalks.{AreToCome, IsUnwrittenReader}
+use Rattle.esc_desk.specs.ReaderWalks.{AreOfKeysLeft, IsUnwrittenReader}
 use Rattle.esc_desk.specs.Walking.{of_kinds}
 use Rattle.esc_desk.proofs.EntryLists.{in_order, rises, rises-filter, AreAbove, Rises, first_found, none_above}
 use Rattle.esc_desk.proofs.Moving.{chain_of}
@@ -106,7 +106,7 @@ any_found : (q : KeyName) (es : List Entry) → list_any (key_eq q) (keys_of es)
 any_found q [] = refl
 any_found q (e ∷ es) = elim (cases_Bool (key_eq q e.0)) [ inl is ↦ rw is refl | inr other ↦ rw other (any_found q es) ]
 
-any_kept : (content : Content) (ks : List KeyName) → AreKeysOf content ks → (q : KeyName) → list_any (key_eq q) ks ≡ is_some (content q)
+any_kept : (content : ObjectsByKey) (ks : List KeyName) → AreKeysOf content ks → (q : KeyName) → list_any (key_eq q) ks ≡ is_some (content q)
 any_kept content ks are q =
     both_ways (list_any (key_eq q) ks) (is_some (content q)) (λ any. (are.each q).0 (Contains-from_any same_key q ks any)) (λ some. list_any-from_Contains keys_alike q ks ((are.each q).1 some))
 
@@ -128,7 +128,7 @@ kinds_in_order : (kind : Option Kind) (es : List Entry) → InOrder es → InOrd
 kinds_in_order None es order = order
 kinds_in_order (Some kind) es order = in_order _ (rises-filter (λ (e : Entry). kind_rank e.0.kind == kind_rank kind) es (rises es order))
 
-kinds_found : (content : Content) (kind : Option Kind) (es : List Entry) → ((q : KeyName) → lookup (key_eq q) es ≡ content q) → (q : KeyName) → lookup (key_eq q) (of_kinds kind es) ≡ wanted_of kind content q
+kinds_found : (content : ObjectsByKey) (kind : Option Kind) (es : List Entry) → ((q : KeyName) → lookup (key_eq q) es ≡ content q) → (q : KeyName) → lookup (key_eq q) (of_kinds kind es) ≡ wanted_of kind content q
 kinds_found content None es each q = each q
 kinds_found content (Some kind) es each q =
     let is_of : KeyName → Bool = λ k. kind_rank k.kind == kind_rank kind in
@@ -145,7 +145,7 @@ module _ {S : Type 0} (g : Ghosts S) where
   pub begins : (old new : DeskReader S) (keys : List TableKey) (kind : Option Kind) (e : List EventValue) (es : List Entry)
       → OneLatestChainAt → IsAccepted (union e) → IsApart sha256 reading e → (serves : ReaderReflects g old e) → ReaderRepresents g new.store serves.kept
       → AreKeysOf (wanted_of kind serves.kept.registry.content) (map key_at keys) → AreEntries e es → InOrder es
-      → AreToCome g new keys (of_kinds kind es)
+      → AreOfKeysLeft g new keys (of_kinds kind es)
   begins old new keys kind e es law accepted apart serves stands are entries order =
       let k = serves.kept in
       let content = k.registry.content in
@@ -153,8 +153,8 @@ module _ {S : Type 0} (g : Ghosts S) where
       let one : entries.chain ≡ k.steps =
       law (union e) rows rows (last_moment e) entries.chain k.steps accepted (held_in_range e)
       (λ r. (λ held. held, λ held. held)) entries.latest (chain_of e k serves.stands_for apart) in
-      let same : tables_of e entries.chain ≡ content = ap (tables_of e) one ∙ sym (same_content e k serves.stands_for apart) in
-      let found = kinds_found content kind es (λ q. entries.objects.each q ∙ ap (λ (f : Content). f q) same) in
+      let same : tables_of_chain e entries.chain ≡ content = ap (tables_of_chain e) one ∙ sym (same_content e k serves.stands_for apart) in
+      let found = kinds_found content kind es (λ q. entries.objects.each q ∙ ap (λ (f : ObjectsByKey). f q) same) in
       let up = kinds_in_order kind es order in
       record {
         order = up;
@@ -167,9 +167,9 @@ module _ {S : Type 0} (g : Ghosts S) where
       }
 
   -- an object was given
-  pub given : (old new : DeskReader S) (keys later : List TableKey) (key : TableKey) (name : KeyName) (object : ObjectValue) (es : List Entry) → AreToCome g old keys es → keys ≡ key ∷ later → name ≡ key_at key
+  pub given : (old new : DeskReader S) (keys later : List TableKey) (key : TableKey) (name : KeyName) (object : ObjectValue) (es : List Entry) → AreOfKeysLeft g old keys es → keys ≡ key ∷ later → name ≡ key_at key
       → ((k : StoreState) → ReaderRepresents g old.store k → k.registry.content (key_at key) ≡ Some object) → ((k : StoreState) → ReaderRepresents g old.store k → ReaderRepresents g new.store k)
-      → (rest : List Entry) × (es ≡ (name, object) ∷ rest) × AreToCome g new later rest
+      → (rest : List Entry) × (es ≡ (name, object) ∷ rest) × AreOfKeysLeft g new later rest
   given old new keys later key name object [] come is named says stays = let never : [] ≡ key_at key ∷ map key_at later = come.same_keys ∙ ap (map key_at) is in absurd cc
   given old new keys later key name object (e ∷ es) come is named says stays =
       let all : e.0 ∷ keys_of es ≡ key_at key ∷ map key_at later = come.same_keys ∙ ap (map key_at) is in

@@ -13,7 +13,7 @@ use Rattle.esc_store.specs.StoreState.{is_unlisted, StoreState, TellsUnlisted}
 use Rattle.esc_store.specs.Holding.{HasReceipts}
 use Rattle.esc_store.specs.ReplyValue.{ReplyValue, ReceiptValue, reply_kept, is_alike, reply_alike}
 use Rattle.esc_store.specs.ListLaws.{any_later, any_weaker}
-use Rattle.esc_events.specs.Assessment.{row_of}
+use Rattle.esc_events.specs.Assessment.{row_with_digest}
 use Rattle.esc_events.specs.Events.{EventValue}
 use Rattle.esc_events.specs.StateAfter.{AreBooks, TellsOf}
 
@@ -25,10 +25,10 @@ has_receipts e k books = record {
 }
 
 -- such a receipt tells of the row that has its digest now
-pub tells_of_row : (m : List MRow) (digest : List ℕ) (row : ℕ) → row_of m digest ≡ Some row → (r : ReceiptValue) → TellsUnlisted digest r → TellsOf m row r
-tells_of_row m digest row lists r tells = inr ((tells.0, refl), ap (row_of m) tells.1 ∙ lists)
+pub tells_of_row : (m : List MRow) (digest : List ℕ) (row : ℕ) → row_with_digest m digest ≡ Some row → (r : ReceiptValue) → TellsUnlisted digest r → TellsOf m row r
+tells_of_row m digest row lists r tells = inr ((tells.0, refl), ap (row_with_digest m) tells.1 ∙ lists)
 
-pub any_of_row : (m : List MRow) (digest : List ℕ) (row : ℕ) → row_of m digest ≡ Some row → (rs : List ReceiptValue) → Any (TellsUnlisted digest) rs → Any (TellsOf m row) rs
+pub any_of_row : (m : List MRow) (digest : List ℕ) (row : ℕ) → row_with_digest m digest ≡ Some row → (rs : List ReceiptValue) → Any (TellsUnlisted digest) rs → Any (TellsOf m row) rs
 any_of_row m digest row lists rs any = any_weaker (TellsUnlisted digest) (TellsOf m row) (tells_of_row m digest row lists) rs any
 
 -- the receipt of a reply with the verdict A2 is one

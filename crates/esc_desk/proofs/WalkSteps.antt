@@ -15,7 +15,7 @@ use Rattle.esc_manifest.specs.Accepted.{IsAccepted}
 use Rattle.esc_chain.specs.Chain.{InRange}
 use Rattle.esc_chain.specs.Laws.{OneLatestChainAt}
 use Rattle.esc_apply.specs.ObjectStreams.{Entry, InOrder}
-use Rattle.esc_apply.specs.Registry.{Content}
+use Rattle.esc_apply.specs.Registry.{ObjectsByKey}
 use Rattle.esc_store.specs.declared.store.Store.{Store}
 use Rattle.esc_store.specs.StoreState.{StoreState}
 use Rattle.esc_store.specs.Representation.{Represents, IsAsBefore}
@@ -23,7 +23,7 @@ use Rattle.esc_store.specs.Pages.{IsPage, last_text}
 use Rattle.esc_desk.specs.declared.walk.Pages.{Pages}
 use Rattle.esc_desk.specs.declared.walk.Walk.{Walk}
 use Rattle.esc_events.specs.Events.{EventValue, union, last_moment}
-use Rattle.esc_events.specs.LatestTables.{AreEntries, tables_of}
+use Rattle.esc_events.specs.LatestTables.{AreEntries, tables_of_chain}
 use Rattle.esc_events.specs.StateAfter.{kept_arrivals, IsApart, holds_by, held_rows}
 use Rattle.esc_desk.proofs.HeldRows.{contains_held}
 use Rattle.esc_desk.proofs.Members.{one_of}
@@ -31,7 +31,7 @@ use Rattle.esc_desk.proofs.Moving.{chain_of}
 use Rattle.esc_desk.proofs.MovingLemmas.{held_within}
 use Rattle.esc_desk.specs.Reflection.{StoreReflects}
 use Rattle.esc_desk.specs.Places.{first_kind, IsPlaceBehind}
-use Rattle.esc_desk.specs.Walking.{of_kinds, AreBehind, AreToCome, Follows}
+use Rattle.esc_desk.specs.Walking.{of_kinds, AreBehind, AreToCome, WalkFollows}
 use Rattle.esc_desk.proofs.ReadLemmas.{same_content}
 use Rattle.esc_desk.proofs.StoreFacts.{still_serves}
 use Rattle.esc_desk.proofs.EntryLists.{no_first}
@@ -60,7 +60,7 @@ AtOnePlace pages later = (later.kind ≡ pages.kind) × (later.from.items ≡ pa
 
 -- a walk over the same desk, of which the store was read
 pub follows : {S : Type 0} {g : Ghosts S} (old new : Walk S Pages) → new.desk.ghost_name ≡ old.desk.ghost_name
-    → IsAsBefore g old.desk.now.store new.desk.now.store → new.desk.now.cache ≡ old.desk.now.cache → Follows g old new
+    → IsAsBefore g old.desk.now.store new.desk.now.store → new.desk.now.cache ≡ old.desk.now.cache → WalkFollows g old new
 follows {g = g} old new reference same cache = record {
   same_reference = reference;
   same = same;
@@ -153,8 +153,8 @@ module _ {S : Type 0} (g : Ghosts S) where
       let one : entries.chain ≡ k.steps =
       law (union e) rows rows (last_moment e) entries.chain k.steps accepted (held_in_range e)
       (λ r. (λ held. held, λ held. held)) entries.latest latest in
-      let same : tables_of e entries.chain ≡ k.registry.content = ap (tables_of e) one ∙ sym (same_content e k serves.stands_for apart) in
-      let are = from_the_first k.registry.content kind es order (λ q. entries.objects.each q ∙ ap (λ (f : Content). f q) same) in
+      let same : tables_of_chain e entries.chain ≡ k.registry.content = ap (tables_of_chain e) one ∙ sym (same_content e k serves.stands_for apart) in
+      let are = from_the_first k.registry.content kind es order (λ q. entries.objects.each q ∙ ap (λ (f : ObjectsByKey). f q) same) in
       record {
         order = are.order;
         kept = k;

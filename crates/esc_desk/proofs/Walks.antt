@@ -15,7 +15,7 @@ use Rattle.esc_envelope.specs.Kinds.{kind_rank}
 use Rattle.esc_tables.specs.KeyName.{KeyName, key_cmp, key_eq}
 use Rattle.esc_tables.specs.ObjectValue.{ObjectValue}
 use Rattle.esc_apply.specs.ObjectStreams.{Entry, InOrder}
-use Rattle.esc_apply.specs.Registry.{Content}
+use Rattle.esc_apply.specs.Registry.{ObjectsByKey}
 use Rattle.esc_tables.specs.KeyLaws.{one_key as same_key}
 use Rattle.esc_store.specs.Pages.{IsPage, last_text, is_on_page}
 use Rattle.esc_desk.specs.Places.{first_kind, later_kind, IsPlaceBehind}
@@ -58,10 +58,10 @@ abbrev place : Kind → KeyName → Ordering
 place kind q = nat_cmp (kind_rank q.kind) (kind_rank kind)
 
 -- what a content has of a key, if that is from this place on
-abbrev left : Content → Option Kind → List ℕ → Bool → KeyName → Option ObjectValue
+abbrev left : ObjectsByKey → Option Kind → List ℕ → Bool → KeyName → Option ObjectValue
 left content kind from alone q = cond (is_behind kind from alone q) (content q) None
 
-module _ (content : Content) (kind : Kind) (from : List ℕ) (alone : Bool) where
+module _ (content : ObjectsByKey) (kind : Kind) (from : List ℕ) (alone : Bool) where
   same_kind : (q : KeyName) (o : Ordering) → place kind q ≡ o → (kind_rank kind == kind_rank q.kind) ≡ is_eq o
   same_kind q o e = ap_back (kind_rank kind) (kind_rank q.kind) ∙ ap is_eq e
     where
@@ -265,10 +265,10 @@ none_above : (r n : ℕ) → r ≤ 5 → n ≡ 5 → nat_cmp r n ≡ Greater →
 none_above r n few is e = grind (arith, nat_tests, few, is, e)
 
 -- nothing of the kind is from these bytes on
-abbrev IsUsedUp : Content → Kind → List ℕ → Type 0
+abbrev IsUsedUp : ObjectsByKey → Kind → List ℕ → Type 0
 IsUsedUp content kind from = (q : KeyName) → None ≡ cond (is_on_page kind from None q) (content q) None
 
-module _ (content : Content) (kind : Kind) (from : List ℕ) (empty : IsUsedUp content kind from) where
+module _ (content : ObjectsByKey) (kind : Kind) (from : List ℕ) (empty : IsUsedUp content kind from) where
   here_none : (q : KeyName) → place kind q ≡ Equal → cond (is_from from q.text) (content q) None ≡ None
   here_none q e =
       let same : (kind_rank kind == kind_rank q.kind) ≡ true = grind (arith, nat_tests, e) in
@@ -325,7 +325,7 @@ no_entry (e ∷ []) is = absurd cc
 no_entry (e ∷ f ∷ page) is = let none = no_entry (f ∷ page) is in absurd cc
 
 -- the entries from a place on are those of the page that begins there, and then those from the place after it on
-pub page_turned : {content : Content} {kind : Kind} {from : List ℕ} {alone : Bool} {page es : List Entry} (next : Option Kind) (after : List ℕ)
+pub page_turned : {content : ObjectsByKey} {kind : Kind} {from : List ℕ} {alone : Bool} {page es : List Entry} (next : Option Kind) (after : List ℕ)
     → IsPage content kind from page → IsPlaceBehind kind alone page next after → AreBehind content (Some kind) from alone es
     → (rest : List Entry) × (es ≡ page ++ rest) × AreBehind content next after alone rest
 page_turned {content} {kind} {from} {alone} {page} {es} next after told placed are = by_last (last_text page) refl placed
@@ -367,7 +367,7 @@ from_first q = by_order (place Registrar q) refl
     by_order Greater e = rw e refl
 
 -- all entries of a content, or those of one kind, are those from the first place on
-pub from_the_first : (content : Content) (kind : Option Kind) (es : List Entry) → InOrder es → ((q : KeyName) → lookup (key_eq q) es ≡ content q)
+pub from_the_first : (content : ObjectsByKey) (kind : Option Kind) (es : List Entry) → InOrder es → ((q : KeyName) → lookup (key_eq q) es ≡ content q)
     → AreBehind content (Some (first_kind kind)) [] (is_some kind) (of_kinds kind es)
 from_the_first content None es order each = record { order = order; each = λ q. each q ∙ ap (λ b. cond b (content q) None) (sym (from_first q)) }
 from_the_first content (Some kind) es order each =

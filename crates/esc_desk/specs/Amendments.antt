@@ -21,7 +21,7 @@ use Rattle.esc_manifest.specs.declared.fault.MFault.TheVariants.{Refused as Refu
 use Rattle.esc_manifest.specs.declared.row.MRow.{MRow}
 use Rattle.esc_manifest.specs.Extension.{new_rows, extended, extension}
 use Rattle.esc_manifest.specs.Manifest.{manifest_of}
-use Rattle.esc_manifest.specs.RowFaults.{most_rows}
+use Rattle.esc_manifest.specs.RowFaults.{most_manifest_rows}
 use Rattle.esc_apply.specs.declared.moves.Work.{Work}
 use Rattle.esc_store.specs.Faults.{IsS1OrS2}
 use Rattle.esc_events.specs.Events.{EventValue, union}
@@ -57,7 +57,7 @@ IsRefusedUnion m text code row = (manifest_of text ≡ Err (code, row))
 
 -- a refusal is M1 to M13, at a row of a manifest or, as row 0, at none
 abbrev pub IsRefusal : ℕ → ℕ → Type 0
-IsRefusal code row = (1 ≤ code) × (code ≤ 13) × (row ≤ most_rows)
+IsRefusal code row = (1 ≤ code) × (code ≤ 13) × (row ≤ most_manifest_rows)
 
 -- why an amendment isn't taken in, where these rows are listed: its text is refused, or it is lost
 -- by S1 or S2

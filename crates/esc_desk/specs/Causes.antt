@@ -19,13 +19,14 @@ use Rattle.esc_store.specs.Representation.{
 use Rattle.esc_events.specs.declared.assessment.Assessment.{Assessment}
 use Rattle.esc_events.specs.declared.assessment.Assessment.TheVariants.{Unlisted}
 use Rattle.esc_events.specs.declared.parking.Parking.TheVariants.{Crowded}
-use Rattle.esc_events.specs.Assessment.{row_of}
+use Rattle.esc_events.specs.Assessment.{row_with_digest}
 use Rattle.esc_events.specs.Parks.{IsParking}
 
 -- a body with this digest would be parked, since none of these rows lists it and it isn't parked,
 -- but 1,024 others are
 abbrev pub IsCrowded : List MRow → (List ℕ → Option (List ℕ)) → List ℕ → Type 0
-IsCrowded rows parked digest = (row_of rows digest ≡ None) × IsParking parked digest Crowded
+IsCrowded rows parked digest = (row_with_digest rows digest ≡ None)
+    × IsParking parked digest Crowded
 
 -- there is room for one more receipt, if one is to be kept
 abbrev pub HasRoomFor : StoreState → Option ReceiptValue → Type 0

@@ -56,13 +56,13 @@ use Rattle.esc_desk.specs.Crashes.{LeavesOnlyFor}
 use Rattle.esc_desk.specs.Edits.{
   Begins,
   IsSoundPlan,
-  IsRead,
+  HasItsDeposit,
   IsFromChainOf,
   IsCostOfEdit,
   IsResult,
   edited,
   is_empty,
-  noted,
+  receipted,
 }
 use Rattle.esc_desk.specs.Reflection.{DeskReflects}
 
@@ -76,7 +76,7 @@ cache_after (Some plan) (Some cache) = Some (record cache { chain = plan.new })
 pub record IsSound (rows : List MRow) (d : Decision) : Type 0 where
   pub begins : Begins d.edit.listing rows
   pub plan : IfSome d.edit.plan IsSoundPlan
-  pub read : IsRead d.edit.body
+  pub read : HasItsDeposit d.edit.body
 
 -- a decision is what the event x makes of a store that keeps k and stands for the events e
 pub record IsDecided (e : List EventValue) (x : EventValue) (k : StoreState) (d : Decision)
@@ -110,16 +110,16 @@ pub record IsArriving (e : List EventValue) (a : ArrivalValue) (k : StoreState) 
   pub stood : IsStateAfter sha256 reading e k
   pub found_is : found ≡ assessment sha256 reading (union e) a.body
   pub held : AreHeld k.bodies cache.held_rows.items
-  pub told : AreHeldBy (noted receipt k).receipts cache.rows_with_receipt.items
+  pub told : AreHeldBy (receipted receipt k).receipts cache.rows_with_receipt.items
   pub chain : cache.chain.items ≡ kept_chain k
   pub there : (found ≡ Unlisted → IsSome (k.parked (sha256 a.body)))
       → ((q : ℕ) → held_row found ≡ Some q → IsSome (k.bodies q))
-      → AreBooks sha256 reading (e ++ arrived a ∷ []) (noted receipt k)
+      → AreBooks sha256 reading (e ++ arrived a ∷ []) (receipted receipt k)
   pub parked : found ≡ Unlisted → IsParking k.parked (sha256 a.body) Free
       → AreBooks sha256 reading (e ++ arrived a ∷ [])
-      (with_parked (noted receipt k) (sha256 a.body) (Some a.body))
+      (with_parked (receipted receipt k) (sha256 a.body) (Some a.body))
   pub late : (row : ℕ) (d : DepositValue) → found ≡ Holding row d → k.bodies row ≡ None
-      → AreBooks sha256 reading (e ++ arrived a ∷ []) (with_body (noted receipt k) row a.body)
+      → AreBooks sha256 reading (e ++ arrived a ∷ []) (with_body (receipted receipt k) row a.body)
 
 -- a decision is what an arrival makes of a store that keeps k; it is empty only where its body
 -- isn't missing

@@ -60,9 +60,9 @@ use Rattle.esc_desk.specs.declared.edit.Storing.TheVariants.{Nothing, Hold, Park
 -- ---- what is kept once each part was made, if it is there
 
 -- one more receipt
-abbrev pub noted : Option ReceiptValue → StoreState → StoreState
-noted None k = k
-noted (Some r) k = with_receipt k r
+abbrev pub receipted : Option ReceiptValue → StoreState → StoreState
+receipted None k = k
+receipted (Some r) k = with_receipt k r
 
 -- a body, held for a row or parked
 abbrev pub stored : Storing → StoreState → StoreState
@@ -92,7 +92,7 @@ moved_if (Some plan) c k = moved_by plan k c
 -- but for the chain and its tables
 abbrev pub books_edited : Edit → StoreState → StoreState
 books_edited edit k =
-    timed edit.moment (stored edit.body (listed_more edit.listing (noted edit.receipt k)))
+    timed edit.moment (stored edit.body (listed_more edit.listing (receipted edit.receipt k)))
 
 -- the deposits of the chain that is kept
 abbrev pub chain_deposits : StoreState → List DepositValue
@@ -120,10 +120,10 @@ pub record IsSoundPlan (plan : Plan) : Type 0 where
   pub few_new : length plan.new.items ≤ 4096
 
 -- of a body that is to be held the deposit was read from it
-abbrev pub IsRead : Storing → Type 0
-IsRead Nothing = Unit {0}
-IsRead (Hold row body d) = reading body.now ≡ Ok d
-IsRead (Park digest body) = Unit {0}
+abbrev pub HasItsDeposit : Storing → Type 0
+HasItsDeposit Nothing = Unit {0}
+HasItsDeposit (Hold row body d) = reading body.now ≡ Ok d
+HasItsDeposit (Park digest body) = Unit {0}
 
 -- a deposit at hand, if it still is, is that of its row by these bodies
 abbrev pub IsAtHand : AtHand → (ℕ → Option (List ℕ)) → Type 0
@@ -173,8 +173,8 @@ pub record IsResult (edit : Edit) (k : StoreState) (number : ℕ) (work : Work) 
       (λ r. (number ≡ length k.receipts + 1) × (number ≤ MOST_RECEIPTS))
 
 -- a change has all the parts of an edit, where the store kept k, and this came of them
-pub record Fills {S : Type 0} (g : Ghosts S) (change : ChangeOf S) (edit : Edit) (k : StoreState)
-    (done : Committed) : Type 0 where
+pub record HasAllParts {S : Type 0} (g : Ghosts S) (change : ChangeOf S) (edit : Edit)
+    (k : StoreState) (done : Committed) : Type 0 where
   pub filled : IsFilled g change k (edited edit k)
   pub result : IsResult edit k done.number done.work
   pub plan : done.plan ≡ edit.plan

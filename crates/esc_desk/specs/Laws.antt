@@ -25,17 +25,17 @@ use Rattle.esc_events.specs.StateAfter.{
   Among,
   kept_arrivals,
   deposits_of,
-  rows_of,
+  rows_of_arrivals,
   held_rows,
   held_body,
   IsStateAfter,
 }
-use Rattle.esc_events.specs.LatestTables.{IsChainOf, tables_of}
+use Rattle.esc_events.specs.LatestTables.{IsChainOf, tables_of_chain}
 
 -- a store that stands for these events has the tables of the latest chain
 pub record HoldsTablesOf (e : List EventValue) (k : StoreState) : Type 0 where
   pub latest : IsChainOf e k.steps
-  pub content : k.registry.content ≡ tables_of e k.steps
+  pub content : k.registry.content ≡ tables_of_chain e k.steps
 
 abbrev pub TablesAreOfEvents : Type 0
 TablesAreOfEvents = (e : List EventValue) (k : StoreState) → IsStateAfter sha256 reading e k
@@ -62,7 +62,8 @@ pub record IsLeftByArrivals (m : List MRow) (l : List ArrivalValue) (k : StoreSt
   pub listed : k.listed ≡ m
   pub receipts : k.receipts
       ≡ receipts_after sha256 reading [] (distinct sha256 reading (came_with m l))
-  pub chain : IsLatestChain m (set.from_list (rows_of sha256 reading m (came_with m l))) k.steps
+  pub chain : IsLatestChain m
+      (set.from_list (rows_of_arrivals sha256 reading m (came_with m l))) k.steps
   pub registry : k.registry
       ≡ chain_state (deposits_of reading (held_body sha256 reading (manifest_then m l)) k.steps)
 

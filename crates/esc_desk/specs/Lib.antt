@@ -19,6 +19,5 @@ pub mod Reads
 pub mod Receiving
 pub mod Running
 pub mod Reflection
-pub mod UnwrittenLaws
 pub mod Walking
 pub mod Worked

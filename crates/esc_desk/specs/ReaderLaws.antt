@@ -1,15 +1,19 @@
 -- Laws of the reader of a store, from one read to the next.
-use Rattle.std.specs.Prelude.{Result, Ok, Err, OnOk}
+use Rattle.std.specs.Prelude.{Result, Ok, Err}
 use Rattle.std.proofs.Common.{arith, ◌∙◌}
 use Rattle.std.proofs.lemmas.Result.{on_ok_weaker}
 use Rattle.sqlite_trees.specs.declared.store.Store.{Ghosts}
 use Rattle.sqlite_catalog.proofs.QuietLemmas.{quiet_then}
 use Rattle.esc_store.specs.declared.reader.StoreReader.{StoreReader}
-use Rattle.esc_store.specs.Reading.{IsHonestReader, IsReadOnly}
+use Rattle.esc_store.specs.Reading.{AreHonest, AreUnwritten, IsHonestReader, IsReadOnly}
+use Rattle.esc_store.specs.ResultLaws.{on_any}
+use Rattle.esc_desk.specs.declared.reader.DeskReader.{DeskReader}
+use Rattle.esc_desk.specs.Readers.{IsUnchangedReader}
 
-on_any : {X E P : Type 0} (r : Result X E) → P → OnOk r P
-on_any (Ok x) p = p
-on_any (Err e) p = tt
+-- trees that are honest after a call to which nothing is committed were honest before it
+pub unwritten_honest : {S : Type 0} (g : Ghosts S) {a b : S} → AreUnwritten g a b → AreHonest g b
+    → AreHonest g a
+unwritten_honest g p clean = omega (arith, clean, p.clean)
 
 module _ {S : Type 0} {g : Ghosts S} {a b : StoreReader S} {X E : Type 0} where
   -- a reader that is honest after a read was honest before it
@@ -43,3 +47,16 @@ module _ {S : Type 0} {g : Ghosts S} {a b : StoreReader S} {X E : Type 0} where
     unwritten = quiet_then p.unwritten q.unwritten;
     stands = on_ok_weaker r (λ stands k h. stands k (p.stands k h)) q.stands;
   }
+
+-- a desk's reader whose store was read
+pub reader_stays : {S X E : Type 0} (g : Ghosts S) (old new : DeskReader S) (result : Result X E)
+    → IsReadOnly g old.store new.store result → IsUnchangedReader g old new result
+reader_stays g old new result same = record {
+  same = same;
+  honest = reader_was_honest same;
+  reflects = on_ok_weaker result (λ stands e was. record {
+    kept = was.kept;
+    stands = stands was.kept was.stands;
+    stands_for = was.stands_for;
+  }) same.stands;
+}

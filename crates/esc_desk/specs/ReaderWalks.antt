@@ -24,8 +24,8 @@ abbrev pub reader_of : {S P : Type 0} → ReaderWalk S P → DeskReader S
 reader_of walk = walk.reader.now
 
 -- the name of the reference by which the reader is lent to a walk
-abbrev pub lent_as : {S P : Type 0} → ReaderWalk S P → ℕ
-lent_as walk = walk.reader.ghost_name
+abbrev pub reader_lent_as : {S P : Type 0} → ReaderWalk S P → ℕ
+reader_lent_as walk = walk.reader.ghost_name
 
 -- the keys of the objects that a walk still returns
 abbrev pub keys_left_of : {S : Type 0} → ReaderWalk S KeysLeft → List TableKey
@@ -35,12 +35,12 @@ keys_left_of walk = into_iter_items walk.left.keys
 abbrev pub has_failed : {S : Type 0} → ReaderWalk S KeysLeft → Bool
 has_failed walk = walk.left.has_failed
 
-abbrev pub HasFailed : {S : Type 0} → ReaderWalk S KeysLeft → Type 0
-HasFailed walk = has_failed walk ≡ true
+abbrev pub HasReaderWalkFailed : {S : Type 0} → ReaderWalk S KeysLeft → Type 0
+HasReaderWalkFailed walk = has_failed walk ≡ true
 
 -- these entries are still to come: they have the keys that are left, and the objects that the
 -- tables have there
-pub record AreToCome {S : Type 0} (g : Ghosts S) (reader : DeskReader S) (keys : List TableKey)
+pub record AreOfKeysLeft {S : Type 0} (g : Ghosts S) (reader : DeskReader S) (keys : List TableKey)
     (es : List Entry) : Type 0 where
   pub order : InOrder es
   pub same_keys : keys_of es ≡ map key_at keys
@@ -53,12 +53,12 @@ pub record AreToCome {S : Type 0} (g : Ghosts S) (reader : DeskReader S) (keys :
 abbrev pub ListsKeys : {S : Type 0} → Ghosts S → DeskReader S → KeysLeft → Option Kind
     → List EventValue → Type 0
 ListsKeys g reader left kind e = WhereApart e ((es : List Entry) → AreEntries e es → InOrder es
-    → AreToCome g reader (into_iter_items left.keys) (of_kinds kind es))
+    → AreOfKeysLeft g reader (into_iter_items left.keys) (of_kinds kind es))
 
 -- a walk still returns the objects of the tables after these events, of one kind or all
-abbrev pub ListsTables : {S : Type 0} → Ghosts S → ReaderWalk S KeysLeft → Option Kind
+abbrev pub ReaderListsTables : {S : Type 0} → Ghosts S → ReaderWalk S KeysLeft → Option Kind
     → List EventValue → Type 0
-ListsTables g walk kind e = ListsKeys g (reader_of walk) walk.left kind e
+ReaderListsTables g walk kind e = ListsKeys g (reader_of walk) walk.left kind e
 
 -- nothing was committed through a reader, a crash leaves nothing new, and its manifest is as before
 pub record IsUnwrittenReader {S : Type 0} (g : Ghosts S) (old new : DeskReader S) : Type 0 where
@@ -74,10 +74,11 @@ ForReaderEvents g old new says = IsHonestDeskReader g new → (e : List EventVal
 
 -- what a walk leaves as it was, whatever its calls return; and as long as none of them has failed,
 -- the reader's store stands for what it stood for
-pub record Follows {S : Type 0} (g : Ghosts S) (old new : ReaderWalk S KeysLeft) : Type 0 where
-  pub same_reference : lent_as new ≡ lent_as old
+pub record ReaderWalkFollows {S : Type 0} (g : Ghosts S) (old new : ReaderWalk S KeysLeft)
+    : Type 0 where
+  pub same_reference : reader_lent_as new ≡ reader_lent_as old
   pub same : IsUnwrittenReader g (reader_of old) (reader_of new)
-  pub fails : HasFailed old → HasFailed new
-  pub stands : (HasFailed new → ⊥) → (k : StoreState)
+  pub fails : HasReaderWalkFailed old → HasReaderWalkFailed new
+  pub stands : (HasReaderWalkFailed new → ⊥) → (k : StoreState)
       → ReaderRepresents g (store_read_by (reader_of old)) k
       → ReaderRepresents g (store_read_by (reader_of new)) k

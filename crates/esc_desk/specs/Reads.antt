@@ -23,7 +23,7 @@ use Rattle.esc_store.specs.declared.parked.ParkedBody.{ParkedBody}
 use Rattle.esc_events.specs.Apart.{WhereApart}
 use Rattle.esc_events.specs.Events.{EventValue, union}
 use Rattle.esc_store.specs.Parks.{AreParkedBodies}
-use Rattle.esc_events.specs.LatestTables.{IsChainOf, tables_of}
+use Rattle.esc_events.specs.LatestTables.{IsChainOf, tables_of_chain}
 use Rattle.esc_events.specs.Receipts.{receipts_of}
 use Rattle.esc_events.specs.StateAfter.{deposit_of, held_body, parked_body}
 use Rattle.esc_desk.specs.declared.status.Status.{Status}
@@ -49,8 +49,8 @@ module _ (e : List EventValue) where
   replies_of = replies_from (union e) 1 (receipts_of sha256 reading e)
 
   -- these are the rows that have a body, in ascending order
-  abbrev pub AreHeldRows : List ℕ → Type 0
-  AreHeldRows rows = WhereApart e (AreHeld (held_body sha256 reading e) rows)
+  abbrev pub AreHeldOf : List ℕ → Type 0
+  AreHeldOf rows = WhereApart e (AreHeld (held_body sha256 reading e) rows)
 
   -- these are the bodies that no row lists, in the order of their digests
   abbrev pub AreParkedOf : List ParkedBody → Type 0
@@ -82,7 +82,7 @@ module _ (e : List EventValue) where
     pub step_count : status.chain ≡ length chain
     pub end_is : status.end
         ≡ option_map (λ (s : Step). (s.place, s.resend)) (last (map (step_at (union e)) chain))
-    pub objects_are : AreCounts (tables_of e chain) status.objects.entries
+    pub objects_are : AreCounts (tables_of_chain e chain) status.objects.entries
 
   -- and those of the listed rows and the receipts
   pub record IsStatus (status : Status) : Type 0 where

@@ -24,7 +24,7 @@ use Rattle.esc_envelope.specs.declared.kind.Kind.{Kind}
 use Rattle.esc_envelope.specs.Kinds.{kind_rank}
 use Rattle.esc_tables.specs.KeyName.{KeyName, key_eq}
 use Rattle.esc_apply.specs.ObjectStreams.{Entry, InOrder}
-use Rattle.esc_apply.specs.Registry.{Content}
+use Rattle.esc_apply.specs.Registry.{ObjectsByKey}
 use Rattle.esc_store.specs.declared.store.Store.{Store}
 use Rattle.esc_store.specs.StoreState.{StoreState}
 use Rattle.esc_store.specs.Representation.{Represents, IsAsBefore}
@@ -50,7 +50,7 @@ is_behind (Some kind) from alone q =
     match_ordering (nat_cmp (kind_rank q.kind) (kind_rank kind)) false is_from (not alone)
 
 -- the entries that the content has from this place on, by key, and nothing else
-pub record AreBehind (content : Content) (kind : Option Kind) (from : List ℕ) (alone : Bool)
+pub record AreBehind (content : ObjectsByKey) (kind : Option Kind) (from : List ℕ) (alone : Bool)
     (es : List Entry) : Type 0 where
   pub order : InOrder es
   pub each : (q : KeyName)
@@ -98,7 +98,7 @@ ListsPages g store pages kind e = WhereApart e ((es : List Entry) → AreEntries
     → AreToCome g store pages (of_kinds kind es))
 
 -- what a walk leaves as it was, whatever its calls return
-pub record Follows {S : Type 0} (g : Ghosts S) (old new : Walk S Pages) : Type 0 where
+pub record WalkFollows {S : Type 0} (g : Ghosts S) (old new : Walk S Pages) : Type 0 where
   pub same_reference : new.desk.ghost_name ≡ old.desk.ghost_name
   pub same : IsAsBefore g old.desk.now.store new.desk.now.store
   pub cache : new.desk.now.cache ≡ old.desk.now.cache

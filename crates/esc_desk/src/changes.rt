@@ -31,17 +31,17 @@ ghost use Rattle.esc_store.specs.Representation.{
 ghost use Rattle.esc_events.specs.Amended.{with_all_adopted, with_all_dropped};
 ghost use Rattle.esc_desk.specs.Causes.{IsEditFault, IsFillFault};
 ghost use Rattle.esc_desk.specs.Edits.{
-  noted,
+  receipted,
   stored,
   timed,
   listed_more,
   edited,
   IsSoundPlan,
-  IsRead,
+  HasItsDeposit,
   Begins,
   IsFromChainOf,
   IsFilled,
-  Fills,
+  HasAllParts,
   IsCommitted,
 };
 
@@ -72,7 +72,7 @@ pub(crate) fn commit<S: Alter>(
 ) -> Result<Committed, SFault>
     requires begins { Begins edit.listing store.old.manifest }
     requires sound { IfSome edit.plan IsSoundPlan }
-    requires read { IsRead edit.body }
+    requires read { HasItsDeposit edit.body }
     ensures honest { IsHonest S.Store store.new → IsHonest S.Store store.old }
     ensures made { IsHonest S.Store store.new → (k : StoreState) → IsFromChainOf k edit.entry.plan
         → Represents S.Store store.old k
@@ -103,12 +103,12 @@ fn fill<S: Alter>(
 ) -> Result<Committed, SFault>
     requires begins { Begins edit.listing (listed_by change.now) }
     requires sound { IfSome edit.plan IsSoundPlan }
-    requires read { IsRead edit.body }
+    requires read { HasItsDeposit edit.body }
     ensures goes_on { IsUncommitted S.Store change.old change.new }
     ensures fills { IsHonest S.Store change.new.store.now → (k : StoreState)
         → IsFromChainOf k edit.entry.plan
         → HasMadeBooks S.Store change.old k k → HasMadeTables S.Store change.old k.registry
-        → IfOk result (Fills S.Store change.new edit.entry k) }
+        → IfOk result (HasAllParts S.Store change.new edit.entry k) }
     ensures counted { IfOk result (λ done. saturated change.new.count
         ≡ saturated (saturated change.old.count + done.work.writes)) }
     ensures cause { IfErr result
@@ -134,7 +134,7 @@ fn add_receipt<S: Alter>(
     change: &mut Change<'_, S>,
     receipt: &Option<Receipt<'_>>,
 ) -> Result<u64, SFault>
-    ensures part { IsChangePart S.Store change.old change.new result (noted receipt.now) }
+    ensures part { IsChangePart S.Store change.old change.new result (receipted receipt.now) }
     ensures listed { listed_by change.new ≡ listed_by change.old }
     ensures numbered { IfOk result (λ n. IfSome receipt.now (λ r.
         IsHonest S.Store change.new.store.now → (before k : StoreState)

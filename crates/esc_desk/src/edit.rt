@@ -4,7 +4,7 @@ ghost use Rattle.std.specs.Prelude.{◌≡◌, ℕ, List, Option, IfSome};
 ghost use Rattle.esc_tables.specs.Reading.{reading};
 ghost use Rattle.esc_store.specs.StoreState.{StoreState};
 ghost use Rattle.esc_events.specs.StateAfter.{deposit_of};
-ghost use Rattle.esc_desk.specs.Edits.{is_empty, stored, IsRead, IsAtHand};
+ghost use Rattle.esc_desk.specs.Edits.{is_empty, stored, HasItsDeposit, IsAtHand};
 
 use crate::judging::Judged;
 use esc_events::Plan;
@@ -69,7 +69,7 @@ pub(crate) struct AtHand {
 impl Storing<'_> {
     /// The deposit of the body that is held, if one is.
     pub(crate) fn at_hand(self) -> AtHand
-        ensures { IsRead self.entry → (k : StoreState)
+        ensures { HasItsDeposit self.entry → (k : StoreState)
             → IsAtHand result (stored self.entry k).bodies }
     {
         match self {

@@ -34,7 +34,7 @@ ghost use Rattle.esc_store.specs.Representation.{
   HasMadeBooks,
   HasMadeTables,
   IsUncommitted,
-  Follows,
+  ChangeFollows,
 };
 ghost use Rattle.esc_store.specs.Faults.{IsS1OrS2};
 ghost use Rattle.esc_events.specs.Plans.{
@@ -43,7 +43,7 @@ ghost use Rattle.esc_events.specs.Plans.{
   deposits_past,
   front_of,
   moved_by,
-  rows_in,
+  rows_in_steps,
 };
 ghost use Rattle.esc_events.specs.StateAfter.{deposit_of, deposits_of};
 ghost use Rattle.esc_desk.specs.Edits.{
@@ -134,7 +134,7 @@ fn move_by<S: Alter>(
 fn same_rows(old: &[Step], new: &[Step]) -> usize
     ensures in_old { result ≤ length old.now }
     ensures in_new { result ≤ length new.now }
-    ensures same { take result (rows_in old.now) ≡ take result (rows_in new.now) }
+    ensures same { take result (rows_in_steps old.now) ≡ take result (rows_in_steps new.now) }
     ensures longest { IfSome (slice_get old.now result)
         (λ a. IfSome (slice_get new.now result) (λ b. a.row ≢ b.row)) }
 {
@@ -156,7 +156,7 @@ fn move_tables<S: Alter>(
 ) -> Result<Work, SFault>
     requires few_old { length plan.now.old.items ≤ 4096 }
     requires few_new { length plan.now.new.items ≤ 4096 }
-    ensures follows { Follows S.Store change.old change.new }
+    ensures follows { ChangeFollows S.Store change.old change.new }
     ensures counted { IfOk result (λ work. saturated change.new.count
         ≡ saturated (saturated change.old.count + work.writes)) }
     ensures moved { OnOk result (IsHonest S.Store change.new.store.now
@@ -189,18 +189,19 @@ fn apply_held<S: Alter>(
     at_hand: AtHand,
 ) -> Result<u64, SFault>
     requires few { front + length steps.now < 2 ^ 32 }
-    ensures follows { Follows S.Store change.old change.new }
+    ensures follows { ChangeFollows S.Store change.old change.new }
     ensures counted { IfOk result (λ n. saturated change.new.count
         ≡ saturated (saturated change.old.count + n)) }
     ensures number { IfOk result (λ n. IsHonest S.Store change.new.store.now
         → (before k : StoreState) → IsAtHand at_hand k.bodies
         → HasMadeBooks S.Store change.old before k
-        → n ≡ saturated (sum_by mention_count (deposits_of reading k.bodies (rows_in steps.now)))) }
+        → n ≡ saturated (sum_by mention_count
+        (deposits_of reading k.bodies (rows_in_steps steps.now)))) }
     ensures applied { OnOk result (IsHonest S.Store change.new.store.now
         → (before k : StoreState) (c : List DepositValue) → length c ≡ front
         → IsAtHand at_hand k.bodies → HasMadeBooks S.Store change.old before k
         → HasMadeTables S.Store change.old (chain_state c) → HasMadeTables S.Store change.new
-        (chain_state (c ++ deposits_of reading k.bodies (rows_in steps.now)))) }
+        (chain_state (c ++ deposits_of reading k.bodies (rows_in_steps steps.now)))) }
     ensures cause { IfErr result IsS1OrS2 }
 {
     let mut at_hand = at_hand;
@@ -223,7 +224,7 @@ fn apply_row<S: Alter>(
     row: usize,
     at_hand: &mut AtHand,
 ) -> Result<u64, SFault>
-    ensures follows { Follows S.Store change.old change.new }
+    ensures follows { ChangeFollows S.Store change.old change.new }
     ensures left { OnOk result ((bodies : ℕ → Option (List ℕ)) → IsAtHand at_hand.old bodies
         → IsAtHand at_hand.new bodies) }
     ensures counted { IfOk result (λ n. saturated change.new.count
@@ -251,7 +252,7 @@ fn next_deposit<S: Alter>(
     row: usize,
     at_hand: &mut AtHand,
 ) -> Result<Deposit, SFault>
-    ensures follows { Follows S.Store change.old change.new }
+    ensures follows { ChangeFollows S.Store change.old change.new }
     ensures count { change.new.count ≡ change.old.count }
     ensures left { (bodies : ℕ → Option (List ℕ)) → IsAtHand at_hand.old bodies
         → IsAtHand at_hand.new bodies }
@@ -274,7 +275,7 @@ fn held_deposit<S: Alter>(
     alloc: Global,
     row: usize,
 ) -> Result<Deposit, SFault>
-    ensures follows { Follows S.Store change.old change.new }
+    ensures follows { ChangeFollows S.Store change.old change.new }
     ensures count { change.new.count ≡ change.old.count }
     ensures found { IfOk result (λ d. IsHonest S.Store change.new.store.now
         → (before k : StoreState) → HasMadeBooks S.Store change.old before k

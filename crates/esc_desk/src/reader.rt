@@ -14,7 +14,7 @@ ghost use Rattle.esc_desk.specs.Readers.{
   IsUnchangedReader,
   OkForReaderEvents,
 };
-ghost use Rattle.esc_desk.specs.Reads.{replies_of, AreHeldRows, AreParkedOf, IsEnd, IsStatus};
+ghost use Rattle.esc_desk.specs.Reads.{replies_of, AreHeldOf, AreParkedOf, IsEnd, IsStatus};
 
 pub mod walk;
 
@@ -58,7 +58,7 @@ impl<S: Store> DeskReader<S> {
     }
 
     /// All replies, in the order of their receipts. `S1`, `S2`.
-    #[tactic(auto, using(crate::proofs::ReaderLemmas::reader_stays))]
+    #[tactic(auto, using(crate::specs::ReaderLaws::reader_stays))]
     pub fn receipts(&mut self, alloc: Global) -> Result<Vec<Reply>, SFault>
         ensures stays { IsUnchangedReader S.Store self.old self.new result }
         ensures all { OkForReaderEvents S.Store self.old self.new result
@@ -70,11 +70,11 @@ impl<S: Store> DeskReader<S> {
 
     /// The listed rows that have a body, as indices from 0 in ascending order. Each body is read,
     /// one at a time. `S1`, `S2`.
-    #[tactic(auto, using(crate::proofs::ReaderLemmas::reader_stays))]
+    #[tactic(auto, using(crate::specs::ReaderLaws::reader_stays))]
     pub fn held(&mut self, alloc: Global) -> Result<Vec<usize>, SFault>
         ensures stays { IsUnchangedReader S.Store self.old self.new result }
         ensures rows { OkForReaderEvents S.Store self.old self.new result
-            (λ e rows. AreHeldRows e rows.items) }
+            (λ e rows. AreHeldOf e rows.items) }
         ensures cause { IfErr result IsS1OrS2 }
     {
         self.store.held(alloc)
@@ -82,7 +82,7 @@ impl<S: Store> DeskReader<S> {
 
     /// The bodies that no row lists, each as its digest and length, in the order of digests. They
     /// are read one at a time. `S1`, `S2`.
-    #[tactic(auto, using(crate::proofs::ReaderLemmas::reader_stays))]
+    #[tactic(auto, using(crate::specs::ReaderLaws::reader_stays))]
     pub fn parked(&mut self, alloc: Global) -> Result<Vec<ParkedBody>, SFault>
         ensures stays { IsUnchangedReader S.Store self.old self.new result }
         ensures bodies { OkForReaderEvents S.Store self.old self.new result
@@ -94,7 +94,7 @@ impl<S: Store> DeskReader<S> {
 
     /// The moment as of which the registry is rebuilt, in nanoseconds since 1970-01-01T00:00:00Z,
     /// if one is set. `S1`, `S2`.
-    #[tactic(auto, using(crate::proofs::ReaderLemmas::reader_stays))]
+    #[tactic(auto, using(crate::specs::ReaderLaws::reader_stays))]
     pub fn moment(&mut self, alloc: Global) -> Result<Option<i64>, SFault>
         ensures stays { IsUnchangedReader S.Store self.old self.new result }
         ensures moment { OkForReaderEvents S.Store self.old self.new result

@@ -22,7 +22,7 @@ ghost use Rattle.esc_desk.specs.Reflection.{StoreReflects};
 ghost use Rattle.esc_desk.specs.Reads.{
   last,
   replies_of,
-  AreHeldRows,
+  AreHeldOf,
   AreParkedOf,
   SaysOfBody,
   IsEnd,
@@ -79,7 +79,7 @@ impl<S: Alter> Desk<S> {
     pub fn held(&mut self, alloc: Global) -> Result<Vec<usize>, SFault>
         ensures stays { IsUnchangedDesk S.Store self.old self.new }
         ensures rows { OkForStoreEvents S.Store self.old self.new result
-            (λ e rows. AreHeldRows e rows.items) }
+            (λ e rows. AreHeldOf e rows.items) }
         ensures cause { IfErr result IsS1OrS2 }
     {
         self.store.held(alloc)
@@ -246,8 +246,8 @@ fn stored_end<S: Alter>(store: &mut Store<S>, alloc: Global, row: usize) -> Resu
     end_in(alloc, body)
 }
 
-// What the deposit of a body says of the registry. Its envelope alone is parsed. `S1` where there is
-// no body.
+// What the deposit of a body says of the registry. Its envelope alone is parsed. `S1` where there
+// is no body.
 pub(crate) fn end_in(alloc: Global, body: Option<Vec<u8>>) -> Result<End, SFault>
     ensures says { IfOk result (SaysOfBody (option_map (λ b. b.items) body)) }
     ensures cause { IfErr result IsS1OrS2 }

@@ -223,7 +223,7 @@ impl<'a, S: Alter> Objects for Walk<'a, S, Pages> {
     ghost use Rattle.sqlite.proofs.StateLemmas.{survives_then};
     ghost use Rattle.esc_desk.specs.Calls.{IsHonestDesk};
     ghost use Rattle.esc_store.specs.Faults.{IsS1OrS2};
-    ghost use Rattle.esc_desk.specs.Walking.{Lists, Follows, HasFailed, desk_of, most_left};
+    ghost use Rattle.esc_desk.specs.Walking.{Lists, WalkFollows, HasFailed, desk_of, most_left};
 
     type Error = SFault;
 
@@ -237,7 +237,7 @@ impl<'a, S: Alter> Objects for Walk<'a, S, Pages> {
 
     ghost is_honest = { λ walk. IsHonestDesk S.Store (desk_of walk) };
 
-    ghost follows = { λ a b. Follows S.Store a b };
+    ghost follows = { λ a b. WalkFollows S.Store a b };
 
     // A walk counts as failed during a call, so that each early return leaves it failed.
     #[tactic(auto, using(crate::proofs::StoreFacts::still_serves))]

@@ -8,7 +8,7 @@ use Rattle.esc_envelope.specs.declared.kind.Kind.{Kind}
 use Rattle.esc_envelope.specs.declared.kind.Kind.TheVariants.{Registrar, Contact, Host, Domain, Idn, Nndn}
 use Rattle.esc_envelope.specs.Kinds.{kind_rank, kinds}
 use Rattle.esc_envelope.specs.Sequences.{◌>>=◌}
-use Rattle.esc_envelope.specs.Members.{AreBelow, count_of, count_entry, counts_among, counts_in}
+use Rattle.esc_envelope.specs.Members.{AreBelow, declared_count, count_entry, counts_among, counts_in}
 use Rattle.esc_envelope.proofs.KindOrder.{are_below_push}
 
 abbrev pub Counted : Type 0
@@ -33,7 +33,7 @@ started json items = record { front = none (counts_among json items); below = tt
     none None = refl
     none (Some more) = refl
 
-one_more : (json : Data) (kind : Kind) (others : List Kind) (count : Option ℕ) (front : Counted) → count_of json kind ≡ Some count
+one_more : (json : Data) (kind : Kind) (others : List Kind) (count : Option ℕ) (front : Counted) → declared_count json kind ≡ Some count
     → after_front front (counts_among json (kind ∷ others)) ≡ after_front (front ++ count_entry kind count) (counts_among json others)
 unfolding counts_among
 one_more json kind others count front told = rw told (moved front (count_entry kind count) (counts_among json others))
@@ -45,7 +45,7 @@ one_more json kind others count front told = rw told (moved front (count_entry k
 here_is : (items : List Kind) (i : ℕ) (d : Kind) → i < length items → drop i items ≡ get_or items i d ∷ drop (i + 1) items
 here_is items i d inside = drop_more items i d inside
 
-pub next : (json : Data) (items : List Kind) (i : ℕ) (d : Kind) (count : Option ℕ) (es more : Counted) → i < length items → kind_rank (get_or items i d) ≡ i → count_of json (get_or items i d) ≡ Some count
+pub next : (json : Data) (items : List Kind) (i : ℕ) (d : Kind) (count : Option ℕ) (es more : Counted) → i < length items → kind_rank (get_or items i d) ≡ i → declared_count json (get_or items i d) ≡ Some count
     → more ≡ es ++ count_entry (get_or items i d) count → AreCounted json items i es → AreCounted json items (i + 1) more
 next json items i d count es more inside rank told is known =
     let kind = get_or items i d in
@@ -54,7 +54,7 @@ next json items i d count es more inside rank told is known =
       below = rw is (are_below_push i es kind count rank known.below);
     }
 
-pub fails : (json : Data) (items : List Kind) (i : ℕ) (d : Kind) (es : Counted) → i < length items → count_of json (get_or items i d) ≡ None → AreCounted json items i es → None ≡ counts_among json items
+pub fails : (json : Data) (items : List Kind) (i : ℕ) (d : Kind) (es : Counted) → i < length items → declared_count json (get_or items i d) ≡ None → AreCounted json items i es → None ≡ counts_among json items
 unfolding counts_among
 fails json items i d es inside told known =
     let none : after_front es (counts_among json (get_or items i d ∷ drop (i + 1) items)) ≡ None = rw told refl in

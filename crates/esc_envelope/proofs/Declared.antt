@@ -16,7 +16,7 @@ use Rattle.esc_envelope.specs.Id.{is_id}
 use Rattle.esc_envelope.specs.Members.{text_at, array_in, if_id}
 use Rattle.esc_envelope.specs.SequenceLaws.{Bound, bound}
 use Rattle.esc_envelope.specs.Sequences.{◌>>=◌}
-use Rattle.esc_envelope.specs.DeclaredTables.{all_of, are_distinct, is_name, if_name, name_of, kind_of, parent_of, field_of, if_distinct, fields_in, fields_of, place_of, key_of, IsTable, table_of, have_distinct_names, have_one_parent, AreContents, AreDeletes, if_contents, if_deletes, contents_in, deletes_in}
+use Rattle.esc_envelope.specs.DeclaredTables.{all_of, are_distinct, is_table_name, if_name, name_of, kind_of, parent_of, field_of, if_distinct, fields_in, fields_of, text_index, key_index, IsTable, table_of, have_distinct_names, have_one_parent, AreContents, AreDeletes, if_contents, if_deletes, contents_in, deletes_in}
 
 -- ---- one step after another
 
@@ -53,11 +53,11 @@ all_pass : {A : Type 0} (test : A → Bool) (xs : List A) → All (λ x. test x 
 all_pass test [] h = refl
 all_pass test (x ∷ xs) h = let first : test x ≡ true = h 0 x (omega arith) in rw first (all_pass test xs (λ k d below. h (suc k) d (omega (arith, below))))
 
-named : (json : Data) (name : List ℕ) → name_of json ≡ Some name → is_name name ≡ true
+named : (json : Data) (name : List ℕ) → name_of json ≡ Some name → is_table_name name ≡ true
 named json name h =
     let text = then_bound (text_at (codes "name") json) if_name name h in
-    let k = kept (is_name text.it) text.it name text.goes in
-    ap is_name (sym k.1) ∙ k.0
+    let k = kept (is_table_name text.it) text.it name text.goes in
+    ap is_table_name (sym k.1) ∙ k.0
 
 an_id : (value : Data) (field : List ℕ) → field_of value ≡ Some field → is_id field ≡ true
 an_id value field h =
@@ -89,13 +89,13 @@ are_fields json fields h =
     let values = then_bound (option_and_then array_in (get (codes "fields") json)) fields_in fields h in
     are_fields_in values.it fields values.goes
 
-is_key : (json : Data) (fields : List (List ℕ)) (key : ℕ) → key_of json fields ≡ Some key → key < length fields
+is_key : (json : Data) (fields : List (List ℕ)) (key : ℕ) → key_index json fields ≡ Some key → key < length fields
 is_key json fields key h =
-    let text = then_bound (text_at (codes "key") json) (place_of fields) key h in
+    let text = then_bound (text_at (codes "key") json) (text_index fields) key h in
     (position-Some (λ other. bytes_eq other text.it) fields key [] text.goes).0
 
 -- the parts of a table that were read make one
-pub is_table_of : (json : Data) (t : TableValue) → name_of json ≡ Some t.name → fields_of json ≡ Some t.fields → key_of json t.fields ≡ Some t.key → IsTable t
+pub is_table_of : (json : Data) (t : TableValue) → name_of json ≡ Some t.name → fields_of json ≡ Some t.fields → key_index json t.fields ≡ Some t.key → IsTable t
 is_table_of json t name fields key =
     let f = are_fields json t.fields fields in
     record { named = named json t.name name; formed = f.formed; few = f.few; distinct = f.distinct; keyed = is_key json t.fields t.key key }
@@ -107,7 +107,7 @@ is_table json t h =
     let kind = bound (kind_of json) _ t name.goes in
     let parent = bound (parent_of json) _ t kind.goes in
     let fields = bound (fields_of json) _ t parent.goes in
-    let key = bound (key_of json fields.it) _ t fields.goes in
+    let key = bound (key_index json fields.it) _ t fields.goes in
     let file = bound (text_at (codes "file") json) _ t key.goes in
     subst IsTable (same_Some _ t file.goes) (is_table_of json _ name.was fields.was key.was)
 

@@ -47,25 +47,26 @@ all_of f (x ∷ xs) = do
   Some (y ∷ ys)
 
 -- whether a text is among others
-abbrev pub is_among : List ℕ → List (List ℕ) → Bool
-is_among text others = list_any (λ other. bytes_eq other text) others
+abbrev pub is_text_among : List ℕ → List (List ℕ) → Bool
+is_text_among text others = list_any (λ other. bytes_eq other text) others
 
 -- whether no text occurs twice
 unfoldable pub are_distinct : List (List ℕ) → Bool
 are_distinct [] = true
-are_distinct (text ∷ others) = not (is_among text others) && are_distinct others
+are_distinct (text ∷ others) = not (is_text_among text others) && are_distinct others
 
 -- a byte of a table's name: A to Z, a to z, 0 to 9 or an underscore
-abbrev pub is_name_byte : ℕ → Bool
-is_name_byte b = (nat_le 65 b && nat_le b 90) || (nat_le 97 b && nat_le b 122)
+abbrev pub is_table_name_byte : ℕ → Bool
+is_table_name_byte b = (nat_le 65 b && nat_le b 90) || (nat_le 97 b && nat_le b 122)
     || (nat_le 48 b && nat_le b 57) || (b == 95)
 
 -- 1 to 64 such bytes
-abbrev pub is_name : List ℕ → Bool
-is_name text = nat_lt 0 (length text) && nat_le (length text) 64 && list_all is_name_byte text
+abbrev pub is_table_name : List ℕ → Bool
+is_table_name text = nat_lt 0 (length text) && nat_le (length text) 64
+    && list_all is_table_name_byte text
 
 abbrev pub if_name : List ℕ → Option (List ℕ)
-if_name text = if is_name text then Some text else None
+if_name text = if is_table_name text then Some text else None
 
 -- `name`: a table's name
 abbrev pub name_of : Data → Option (List ℕ)
@@ -100,17 +101,17 @@ abbrev pub fields_of : Data → Option (List (List ℕ))
 fields_of json = option_and_then fields_in (option_and_then array_in (get (codes "fields") json))
 
 -- the index of a text among others, from 0
-abbrev pub place_of : List (List ℕ) → List ℕ → Option ℕ
-place_of texts text = position (λ other. bytes_eq other text) texts
+abbrev pub text_index : List (List ℕ) → List ℕ → Option ℕ
+text_index texts text = position (λ other. bytes_eq other text) texts
 
 -- `key`: the name of one of the fields, as its index from 0
-abbrev pub key_of : Data → List (List ℕ) → Option ℕ
-key_of json fields = option_and_then (place_of fields) (text_at (codes "key") json)
+abbrev pub key_index : Data → List (List ℕ) → Option ℕ
+key_index json fields = option_and_then (text_index fields) (text_at (codes "key") json)
 
 -- a declared table: its name and its fields have their forms, no field occurs twice, and the key is
 -- one of them
 pub record IsTable (t : TableValue) : Type 0 where
-  pub named : is_name t.name ≡ true
+  pub named : is_table_name t.name ≡ true
   pub formed : list_all is_id t.fields ≡ true
   pub few : length t.fields ≤ 64
   pub distinct : are_distinct t.fields ≡ true
@@ -123,7 +124,7 @@ table_of json = do
   kind ← kind_of json
   parent ← parent_of json
   fields ← fields_of json
-  key ← key_of json fields
+  key ← key_index json fields
   file ← text_at (codes "file") json
   Some (record {
     name = name;

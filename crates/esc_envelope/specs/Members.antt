@@ -61,8 +61,8 @@ abbrev pub type_of : Data → Option DepositType
 type_of json = option_and_then type_named (text_at (codes "type") json)
 
 -- `watermark`: the text of a moment
-abbrev pub moment_of : Data → Option ℤ
-moment_of json = option_and_then watermark_of (text_at (codes "watermark") json)
+abbrev pub watermark_member : Data → Option ℤ
+watermark_member json = option_and_then watermark_of (text_at (codes "watermark") json)
 
 -- an empty text names no deposit; any other has to be an id
 abbrev pub id_if_any : List ℕ → Option (Option (List ℕ))
@@ -94,17 +94,17 @@ resend_from (Some value) = if is_some (as_null value) then Some 0 else option_an
     (whole_number value)
 
 -- `resend`: missing or null for 0, else a whole number up to 999999
-abbrev pub resend_of : Data → Option ℕ
-resend_of json = resend_from (get (codes "resend") json)
+abbrev pub resend_member : Data → Option ℕ
+resend_member json = resend_from (get (codes "resend") json)
 
 -- the header, or nothing if one of its members is not of its form
 unfoldable pub header_of : Data → Option HeaderValue
 header_of json = do
   id ← id_of json
   kind ← type_of json
-  watermark ← moment_of json
+  watermark ← watermark_member json
   prev ← prev_of json
-  resend ← resend_of json
+  resend ← resend_member json
   Some (record {
     id = id;
     place = record { watermark = watermark; kind = kind };
@@ -117,8 +117,8 @@ count_from None = Some None
 count_from (Some value) = option_map (λ n. Some n) (whole_number value)
 
 -- the declared number of one kind, if there is one
-abbrev pub count_of : Data → Kind → Option (Option ℕ)
-count_of counts kind = count_from (get (kind_name kind) counts)
+abbrev pub declared_count : Data → Kind → Option (Option ℕ)
+declared_count counts kind = count_from (get (kind_name kind) counts)
 
 -- the entry of a declared number
 abbrev pub count_entry : Kind → Option ℕ → List (Kind × ℕ)
@@ -134,7 +134,7 @@ AreBelow rank (entry ∷ others) = (kind_rank entry.0 < rank) × AreBelow rank o
 unfoldable pub counts_among : Data → List Kind → Option (List (Kind × ℕ))
 counts_among counts [] = Some []
 counts_among counts (kind ∷ others) = do
-  count ← count_of counts kind
+  count ← declared_count counts kind
   more ← counts_among counts others
   Some (count_entry kind count ++ more)
 

@@ -3,7 +3,13 @@
 ghost use Rattle.std.specs.Prelude.{◌≡◌, ◌++◌, IfOk, OnOk, Some, option_map};
 ghost use Rattle.serde_json.specs.View.{view};
 ghost use Rattle.esc_envelope.specs.Kinds.{kind_rank};
-ghost use Rattle.esc_envelope.specs.Members.{AreBelow, count_of, count_entry, counts_of, counts_in};
+ghost use Rattle.esc_envelope.specs.Members.{
+  AreBelow,
+  declared_count,
+  count_entry,
+  counts_of,
+  counts_in,
+};
 
 use crate::kind::Kind;
 use esc_bundle::NoMemory;
@@ -12,7 +18,7 @@ use std::alloc::Global;
 use std::collections::BTreeMap;
 
 fn count_in(counts: &Value, kind: Kind) -> Option<Option<u64>>
-    ensures { result ≡ count_of (view counts.now) kind }
+    ensures { result ≡ declared_count (view counts.now) kind }
 {
     match counts.get(kind.name()) {
         None => Some(None),

@@ -23,10 +23,10 @@
 //!
 //! Its contract says exactly that. `specs/Envelope.antt` has the function `envelope_of` from bytes
 //! to an envelope or a refusal's number, put together from one small definition for each member
-//! (`specs/Members.antt`, `specs/DeclaredTables.antt`); `specs/EnvelopeFaults.antt` says which texts each
-//! number refuses, and that the refusal is the least of them (`IsLeastEnvelopeFault`). An `Ok` is the envelope
-//! that `envelope_of` gives, and a refusal is its number; only out of memory may be returned in
-//! place of either. Contracts see an `Envelope` as an `EnvelopeValue`, a `Header` as a
+//! (`specs/Members.antt`, `specs/DeclaredTables.antt`); `specs/EnvelopeFaults.antt` says which texts
+//! each number refuses, and that the refusal is the least of them (`IsLeastEnvelopeFault`). An `Ok`
+//! is the envelope that `envelope_of` gives, and a refusal is its number; only out of memory may be
+//! returned in place of either. Contracts see an `Envelope` as an `EnvelopeValue`, a `Header` as a
 //! `HeaderValue` and a `Table` as a `TableValue`, records of texts as bytes, numbers and lists.
 //!
 //! A watermark is a moment in UTC, in nanoseconds since 1970-01-01T00:00:00Z, of the years 1970 to

@@ -7,11 +7,11 @@ ghost use Rattle.esc_envelope.specs.Members.{
   text_at,
   id_of,
   type_of,
-  moment_of,
+  watermark_member,
   prev_of,
   prev_from,
   id_if_any,
-  resend_of,
+  resend_member,
   resend_from,
   header_of,
 };
@@ -50,7 +50,7 @@ fn type_in(envelope: &Value) -> Option<DepositType>
 }
 
 fn moment_in(envelope: &Value) -> Option<i64>
-    ensures { result ≡ moment_of (view envelope.now) }
+    ensures { result ≡ watermark_member (view envelope.now) }
 {
     watermark(text_at(envelope, "watermark")?)
 }
@@ -98,7 +98,7 @@ fn resend_from(value: &Value) -> Option<u32>
 }
 
 fn resend_in(envelope: &Value) -> Option<u32>
-    ensures { result ≡ resend_of (view envelope.now) }
+    ensures { result ≡ resend_member (view envelope.now) }
 {
     match envelope.get("resend") {
         None => Some(0),

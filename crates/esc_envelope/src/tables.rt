@@ -6,13 +6,13 @@ ghost use Rattle.std.specs.List.{list_all};
 ghost use Rattle.serde_json.specs.View.{view};
 ghost use Rattle.esc_envelope.specs.DeclaredTables.{
   all_of,
-  is_name_byte,
-  is_name,
+  is_table_name_byte,
+  is_table_name,
   name_of,
   kind_of,
   parent_of,
   fields_of,
-  key_of,
+  key_index,
   table_of,
   have_distinct_names,
   is_parent_of,
@@ -34,19 +34,19 @@ use std::collections::BTreeSet;
 pub const LONGEST_TABLE_NAME: usize = 64;
 
 fn is_name_byte(byte: u8) -> bool
-    ensures { result ≡ is_name_byte byte }
+    ensures { result ≡ is_table_name_byte byte }
 {
     matches!(byte, b'A'..=b'Z' | b'a'..=b'z' | b'0'..=b'9' | b'_')
 }
 
 fn are_name_bytes(text: &[u8]) -> bool
-    ensures { result ≡ list_all is_name_byte text.now }
+    ensures { result ≡ list_all is_table_name_byte text.now }
 {
     text.iter().all(|byte| is_name_byte(*byte))
 }
 
 fn is_name(text: &str) -> bool
-    ensures { result ≡ is_name text.now }
+    ensures { result ≡ is_table_name text.now }
 {
     if text.is_empty() || text.len() > LONGEST_TABLE_NAME {
         return false;
@@ -91,7 +91,7 @@ fn fields_of(alloc: Global, table: &Value) -> Result<Option<Vec<String>>, NoMemo
 }
 
 fn key_in(table: &Value, fields: &[String]) -> Option<usize>
-    ensures { result ≡ key_of (view table.now) (map string_bytes fields.now) }
+    ensures { result ≡ key_index (view table.now) (map string_bytes fields.now) }
 {
     place_of(fields, text_at(table, "key")?)
 }

@@ -24,7 +24,7 @@ use Rattle.esc_manifest.specs.declared.row.MRow.{MRow}
 use Rattle.esc_manifest.specs.Extension.{extended}
 use Rattle.esc_manifest.specs.ManifestRows.{row_at}
 use Rattle.esc_store.specs.StoreState.{StoreState, with_adopted, with_listed, with_parked}
-use Rattle.esc_events.specs.Assessment.{found, row_of}
+use Rattle.esc_events.specs.Assessment.{found, row_with_digest}
 use Rattle.esc_events.specs.Receipts.{holds_row}
 
 -- the body, if there is one and it is the deposit of row r of n; else none
@@ -68,7 +68,7 @@ module _ (n : List MRow) (parked : List ℕ → Option (List ℕ)) where
 
   -- the parked bodies that no row lists
   abbrev pub still_parked : List ℕ → Option (List ℕ)
-  still_parked d = if is_some (row_of n d) then None else parked d
+  still_parked d = if is_some (row_with_digest n d) then None else parked d
 
 -- what is kept, with the parked bodies of these rows of n held for them
 abbrev pub with_all_adopted : List MRow → StoreState → List ℕ → StoreState

@@ -3,7 +3,7 @@
 use Rattle.std.specs.Prelude.{ℕ, if◌then◌else◌, List, Option, Some, None, Result, Ok, Err}
 use Rattle.esc_tables.specs.DepositValue.{DepositValue}
 use Rattle.esc_manifest.specs.declared.row.MRow.{MRow}
-pub use Rattle.esc_manifest.specs.Listed.{as_listed, row_of}
+pub use Rattle.esc_manifest.specs.Listed.{as_listed, row_with_digest}
 use Rattle.esc_manifest.specs.ManifestRows.{row_at}
 use Rattle.esc_events.specs.declared.assessment.Assessment.{Assessment}
 use Rattle.esc_events.specs.declared.assessment.Assessment.TheVariants.{
@@ -30,7 +30,7 @@ found_at m (Some r) reading = found m r reading
 -- the body, or another deposit than listed, or the listed one
 abbrev pub assessment : (List ℕ → List ℕ) → (List ℕ → Result DepositValue ℕ) → List MRow → List ℕ
     → Assessment
-assessment digest reads m body = found_at m (row_of m (digest body)) (reads body)
+assessment digest reads m body = found_at m (row_with_digest m (digest body)) (reads body)
 
 -- the row whose deposit the body is, if any
 abbrev pub held_row : Assessment → Option ℕ

@@ -5,7 +5,7 @@ use Rattle.esc_tables.specs.KeyName.{KeyName}
 use Rattle.esc_tables.specs.ObjectValue.{ObjectValue}
 use Rattle.esc_tables.specs.Reading.{reading}
 use Rattle.esc_chain.specs.Chain.{IsLatestChainAt}
-use Rattle.esc_apply.specs.Registry.{Content, IsEntriesOf}
+use Rattle.esc_apply.specs.Registry.{ObjectsByKey, IsEntriesOf}
 use Rattle.esc_apply.specs.Tables.{tables}
 use Rattle.esc_events.specs.Apart.{WhereApart}
 use Rattle.esc_events.specs.Events.{EventValue, union, last_moment}
@@ -18,14 +18,14 @@ module _ (e : List EventValue) where
       IsLatestChainAt (union e) (held_rows sha256 reading e) (last_moment e) chain
 
   -- the tables of a chain, by the bodies that are held
-  abbrev pub tables_of : List ℕ → Content
-  tables_of chain = tables (deposits_of reading (held_body sha256 reading e) chain)
+  abbrev pub tables_of_chain : List ℕ → ObjectsByKey
+  tables_of_chain chain = tables (deposits_of reading (held_body sha256 reading e) chain)
 
   -- these entries are the tables of the latest chain
   pub record AreEntries (entries : List (KeyName × ObjectValue)) : Type 0 where
     pub chain : List ℕ
     pub latest : IsChainOf chain
-    pub objects : IsEntriesOf (tables_of chain) entries
+    pub objects : IsEntriesOf (tables_of_chain chain) entries
 
   abbrev pub AreTables : List (KeyName × ObjectValue) → Type 0
   AreTables entries = WhereApart e (AreEntries entries)

@@ -36,12 +36,12 @@ abbrev pub AllInRange : List MRow → List ℕ → Type 0
 AllInRange m rows = (i : ℕ) → i < length rows → slice_index rows i < length m
 
 -- the rows of steps
-abbrev pub rows_in : List Step → List ℕ
-rows_in steps = map (λ (s : Step). s.row) steps
+abbrev pub rows_in_steps : List Step → List ℕ
+rows_in_steps steps = map (λ (s : Step). s.row) steps
 
 -- the rows of a plan's new chain
 abbrev pub new_chain : Plan → List ℕ
-new_chain plan = rows_in plan.new.items
+new_chain plan = rows_in_steps plan.new.items
 
 -- how many steps both chains of a plan begin with
 abbrev pub front_of : Plan → ℕ
@@ -50,15 +50,15 @@ front_of plan = common_front plan.old.items plan.new.items
 -- these are the steps of the latest chain of these rows of an accepted manifest up to a moment
 pub record AreLatestSteps (m : List MRow) (rows : List ℕ) (moment : Option ℤ)
     (steps : List Step) : Type 0 where
-  pub are_steps : steps ≡ map (step_at m) (rows_in steps)
+  pub are_steps : steps ≡ map (step_at m) (rows_in_steps steps)
   pub accepted : IsAccepted m
   pub in_range : InRange m (set.from_list rows)
-  pub latest : IsLatestChainAt m (set.from_list rows) moment (rows_in steps)
+  pub latest : IsLatestChainAt m (set.from_list rows) moment (rows_in_steps steps)
 
 -- the deposits of a plan's new steps past the common front, by the bodies that are held
 abbrev pub deposits_past : Plan → (ℕ → Option (List ℕ)) → List DepositValue
 deposits_past plan bodies =
-    deposits_of reading bodies (rows_in (drop (front_of plan) plan.new.items))
+    deposits_of reading bodies (rows_in_steps (drop (front_of plan) plan.new.items))
 
 -- what is kept once a plan was carried out: the plan's new chain, and the tables and before-images
 -- of that chain, where c are the deposits of the old chain
@@ -70,7 +70,7 @@ moved_by plan k c =
 -- the chain that is kept is a plan's old one, whose deposits are c, and the tables and
 -- before-images are those of that chain
 pub record IsMovedFrom (k : StoreState) (c : List DepositValue) (plan : Plan) : Type 0 where
-  pub steps : k.steps ≡ rows_in plan.old.items
+  pub steps : k.steps ≡ rows_in_steps plan.old.items
   pub count : length c ≡ length plan.old.items
   pub registry : k.registry ≡ chain_state c
 

@@ -35,7 +35,7 @@ use Rattle.esc_apply.specs.Images.{chain_state}
 use Rattle.esc_store.specs.StoreState.{StoreState, SaysHeld, TellsUnlisted}
 pub use Rattle.esc_store.specs.Holding.{TellsOf}
 use Rattle.esc_events.specs.Events.{EventValue, Coming, union, comings, last_moment}
-use Rattle.esc_events.specs.Assessment.{assessment, held_row, row_of}
+use Rattle.esc_events.specs.Assessment.{assessment, held_row, row_with_digest}
 use Rattle.esc_events.specs.Receipts.{holds_row, receipts_of}
 
 -- a placeholder where there is no body, or no deposit reads from it; a held row never has it
@@ -82,7 +82,7 @@ HaveBodies bodies held = (r : ℕ) → set.contains held r ≡ is_some (bodies r
 module _ (digest : List ℕ → List ℕ) (reads : List ℕ → Result DepositValue ℕ) where
   -- the body of the arrival was not kept: it is an early one, and no row listed its body then
   abbrev pub is_lost : Coming → Bool
-  is_lost c = c.early && is_none (row_of c.rows (digest c.body))
+  is_lost c = c.early && is_none (row_with_digest c.rows (digest c.body))
 
   -- judged by these listed rows, the body that came is the deposit of row r
   abbrev pub holds_by : List MRow → ℕ → Coming → Bool
@@ -93,9 +93,10 @@ module _ (digest : List ℕ → List ℕ) (reads : List ℕ → Result DepositVa
   has_digest d c = bytes_eq (digest c.body) d
 
   -- the rows whose deposits came, judged by the listed rows m, with repeats
-  abbrev pub rows_of : List MRow → List Coming → List ℕ
-  rows_of m [] = []
-  rows_of m (c ∷ l) = with_some (held_row (assessment digest reads m c.body)) (rows_of m l)
+  abbrev pub rows_of_arrivals : List MRow → List Coming → List ℕ
+  rows_of_arrivals m [] = []
+  rows_of_arrivals m (c ∷ l) =
+      with_some (held_row (assessment digest reads m c.body)) (rows_of_arrivals m l)
 
   module _ (e : List EventValue) where
     -- the arrivals whose bodies count: all whose body was kept when they came
@@ -105,7 +106,7 @@ module _ (digest : List ℕ → List ℕ) (reads : List ℕ → Result DepositVa
     -- the rows that are held after a list of events: each body that counts is judged by all rows
     -- that are listed in the end
     abbrev pub held_rows : Rows
-    held_rows = set.from_list (rows_of (union e) kept_arrivals)
+    held_rows = set.from_list (rows_of_arrivals (union e) kept_arrivals)
 
     -- the body that is held for a row after a list of events
     abbrev pub held_body : ℕ → Option (List ℕ)
@@ -114,7 +115,8 @@ module _ (digest : List ℕ → List ℕ) (reads : List ℕ → Result DepositVa
     -- the body with this digest that counts, if no row lists it
     abbrev pub parked_body : List ℕ → Option (List ℕ)
     parked_body d =
-        if is_some (row_of (union e) d) then None else arrived_body (find (has_digest d) kept_arrivals)
+        if is_some (row_with_digest (union e) d) then None
+        else arrived_body (find (has_digest d) kept_arrivals)
 
     -- no two different bodies that count have the same digest
     abbrev pub IsApart : Type 0

@@ -42,7 +42,8 @@
 //! events `e` before, it stands for them and the arrival after.
 //!
 //! ```text
-//! ensures { .. IsStateAfter sha256 reading e k → IsStateAfter sha256 reading (e ++ arrived a ∷ []) l }
+//! ensures { .. IsStateAfter sha256 reading e k
+//!     → IsStateAfter sha256 reading (e ++ arrived a ∷ []) l }
 //! ```
 #![tactic(auto)]
 

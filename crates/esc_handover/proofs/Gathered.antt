@@ -7,7 +7,7 @@ use Rattle.esc_tables.specs.KeyName.{KeyName}
 use Rattle.esc_tables.specs.ObjectValue.{RowValue}
 use Rattle.esc_apply.specs.ObjectStreams.{Entry}
 use Rattle.esc_csv.specs.Lines.{Line, line_text, text_of}
-use Rattle.esc_handover.specs.Layouts.{TableNameValue, LayoutValue, row_fields, row_line, fields_in, columns_of, layout_of}
+use Rattle.esc_handover.specs.Layouts.{TableNameValue, LayoutValue, row_fields, row_line, entry_fields, columns_of, layout_of}
 use Rattle.esc_handover.specs.Gathering.{with_name, with_names, bare, with_fields, finished}
 use Rattle.esc_handover.proofs.Names.{once_each}
 
@@ -31,7 +31,7 @@ next_row rows i x within is = drop_more rows i x within ∙ ap (λ (y : RowValue
 pub object_finished : (e : Entry) (es : List Entry) (l : LayoutValue) → finished es (with_fields e l) ≡ finished (e ∷ es) l
 object_finished e es l = λ i. record {
   table = l.table;
-  columns = sym (fold-append with_name l.columns (fields_in l.table e) (flat_map (fields_in l.table) es)) i;
+  columns = sym (fold-append with_name l.columns (entry_fields l.table e) (flat_map (entry_fields l.table) es)) i;
 }
 
 pub all_finished : (e : Entry) (es : List Entry) (ls : List LayoutValue) → map (finished es) (map (with_fields e) ls) ≡ map (finished (e ∷ es)) ls
@@ -46,4 +46,4 @@ none_left (l ∷ ls) = ap (λ (rest : List LayoutValue). l ∷ rest) (none_left 
 -- before the first, all columns are still to come
 pub from_bare : (es : List Entry) (ts : List TableNameValue) → map (finished es) (map bare ts) ≡ map (layout_of es) ts
 from_bare es [] = refl
-from_bare es (t ∷ ts) = λ i. record { table = t; columns = once_each (flat_map (fields_in t) es) i } ∷ from_bare es ts i
+from_bare es (t ∷ ts) = λ i. record { table = t; columns = once_each (flat_map (entry_fields t) es) i } ∷ from_bare es ts i

@@ -29,7 +29,7 @@ use Rattle.esc_events.specs.Assessment.{assessment, held_row}
 use Rattle.esc_events.specs.Receipts.{holds_row}
 use Rattle.esc_events.specs.StateAfter.{with_some, arrived_body, or_no_deposit, deposit_of, held_rows, held_body}
 use Rattle.esc_events.specs.HeldLaws.{exact}
-use Rattle.esc_handover.specs.FullBundle.{full_header, full_of}
+use Rattle.esc_handover.specs.FullBundle.{first_full_header, full_of}
 use Rattle.esc_handover.specs.Restored.{FullHasItsObjects, FullIsRestored}
 
 -- ---- the tables of a Full
@@ -75,7 +75,7 @@ no_other q held =
 module _ (digest : List ℕ → List ℕ) (reads : List ℕ → Result DepositValue ℕ) (id : List ℕ) (w : ℤ) (es : List Entry) (body number : List ℕ)
     (full : reads body ≡ Ok (full_of id w es)) where
   abbrev row : MRow
-  row = record { header = full_header id w; digest = digest body }
+  row = record { header = first_full_header id w; digest = digest body }
 
   abbrev events : List EventValue
   events = listed (row ∷ []) ∷ arrived (an_arrival number body) ∷ []

@@ -5,7 +5,7 @@ use Rattle.std.specs.Io.KnownBytes.{Appends}
 use Rattle.std.proofs.lemmas.List.Concat.{flat_map-append}
 use Rattle.esc_apply.specs.ObjectStreams.{Entry}
 use Rattle.esc_csv.specs.Lines.{Line, line_text, text_of}
-use Rattle.esc_handover.specs.Layouts.{LayoutValue, object_lines}
+use Rattle.esc_handover.specs.Layouts.{LayoutValue, entry_lines}
 
 -- a write after others
 pub appended_more : (first mid last : Option (List ℕ)) (text piece : List ℕ) → Appends first mid text → Appends mid last piece
@@ -18,7 +18,7 @@ appended_more (Some xs) (Some ys) (Some zs) text piece before now =
 
 -- the text of the objects that are left is that of the first, and then that of the others
 pub next_object : (l : LayoutValue) (e : Entry) (es left : List Entry) → left ≡ e ∷ es
-    → text_of (flat_map (object_lines l) left) ≡ text_of (object_lines l e) ++ text_of (flat_map (object_lines l) es)
+    → text_of (flat_map (entry_lines l) left) ≡ text_of (entry_lines l e) ++ text_of (flat_map (entry_lines l) es)
 next_object l e es left is =
-    ap (λ (all : List Entry). text_of (flat_map (object_lines l) all)) is
-    ∙ flat_map-append line_text (object_lines l e) (flat_map (object_lines l) es)
+    ap (λ (all : List Entry). text_of (flat_map (entry_lines l) all)) is
+    ∙ flat_map-append line_text (entry_lines l e) (flat_map (entry_lines l) es)

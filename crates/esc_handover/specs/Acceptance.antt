@@ -12,7 +12,7 @@ use Rattle.esc_chain.specs.declared.gap.State.{State}
 use Rattle.esc_chain.specs.declared.gap.State.TheVariants as state
 use Rattle.esc_handover.specs.declared.test.Test.{Test}
 use Rattle.esc_handover.specs.declared.test.Test.TheVariants as test
-use Rattle.esc_handover.specs.Guides.{guides, is_wanted, is_declared, is_disguise}
+use Rattle.esc_handover.specs.Guides.{guides, is_wanted, is_guide_declared, is_disguise}
 
 -- what was seen of a store: the moment that is set, the chain's end, the line of each listed place,
 -- how many bodies are parked and how many findings there are, the objects and the declared numbers
@@ -85,7 +85,8 @@ passes test.Parked s = s.parked == 0
 passes test.Findings s = s.findings == 0
 passes test.Orphans s = s.orphans == 0
 passes test.Counts s = list_all (is_counted s.counts) kinds
-passes test.Fields s = list_all (λ g. not (is_wanted s.objects g) || is_declared s.tables g) guides
+passes test.Fields s =
+    list_all (λ g. not (is_wanted s.objects g) || is_guide_declared s.tables g) guides
 passes test.Names s = list_all (λ g. not (list_any (is_disguise g) s.tables)) guides
 passes test.Bodies s = s.spoiled == 0
 passes test.Tables s = s.is_rebuilt

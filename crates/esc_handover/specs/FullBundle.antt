@@ -19,22 +19,22 @@ use Rattle.esc_tables.specs.KeyName.{KeyName}
 use Rattle.esc_apply.specs.ObjectStreams.{Entry}
 
 -- how many objects are of a kind
-abbrev pub count_of : List Entry → Kind → ℕ
-count_of es kind = count_by (λ (k : KeyName). is_kind k.kind kind) (keys_of es)
+abbrev pub entry_count : List Entry → Kind → ℕ
+entry_count es kind = count_by (λ (k : KeyName). is_kind k.kind kind) (keys_of es)
 
 -- a kind with the number of its objects
-abbrev pub counted : List Entry → Kind → Kind × ℕ
-counted es kind = (kind, count_of es kind)
+abbrev pub counted_kind : List Entry → Kind → Kind × ℕ
+counted_kind es kind = (kind, entry_count es kind)
 
 -- each kind with the number of its objects
-abbrev pub counts_of : List Entry → List (Kind × ℕ)
-counts_of es =
-    counted es Registrar ∷ counted es Contact ∷ counted es Host ∷ counted es Domain
-    ∷ counted es Idn ∷ counted es Nndn ∷ []
+abbrev pub counted_kinds : List Entry → List (Kind × ℕ)
+counted_kinds es =
+    counted_kind es Registrar ∷ counted_kind es Contact ∷ counted_kind es Host
+    ∷ counted_kind es Domain ∷ counted_kind es Idn ∷ counted_kind es Nndn ∷ []
 
 -- what a Full of a moment says of itself, the first time that it is generated
-abbrev pub full_header : List ℕ → ℤ → HeaderValue
-full_header id watermark = record {
+abbrev pub first_full_header : List ℕ → ℤ → HeaderValue
+first_full_header id watermark = record {
   id = id;
   place = record { watermark = watermark; kind = Full };
   prev = None;
@@ -44,8 +44,8 @@ full_header id watermark = record {
 -- the Full of these objects, which declares how many there are of each kind
 abbrev pub full_of : List ℕ → ℤ → List Entry → DepositValue
 full_of id watermark es = record {
-  header = full_header id watermark;
-  counts = counts_of es;
+  header = first_full_header id watermark;
+  counts = counted_kinds es;
   deletes = [];
   contents = es;
   orphans = 0;

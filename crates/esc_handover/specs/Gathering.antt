@@ -3,7 +3,7 @@ use Rattle.std.specs.Prelude.{◌≡◌, ℕ, if◌then◌else◌, List, [], ◌
 use Rattle.std.specs.List.{list_any, fold, flat_map}
 use Rattle.std.specs.Str.{bytes_eq}
 use Rattle.esc_apply.specs.ObjectStreams.{Entry}
-use Rattle.esc_handover.specs.Layouts.{TableNameValue, LayoutValue, fields_in}
+use Rattle.esc_handover.specs.Layouts.{TableNameValue, LayoutValue, entry_fields}
 
 -- these names, and one more at their end, unless it is among them
 abbrev pub with_name : List (List ℕ) → List ℕ → List (List ℕ)
@@ -19,11 +19,14 @@ bare t = record { table = t; columns = [] }
 
 -- a table, with the fields of an object's rows as further columns
 abbrev pub with_fields : Entry → LayoutValue → LayoutValue
-with_fields e l = record { table = l.table; columns = with_names l.columns (fields_in l.table e) }
+with_fields e l = record {
+  table = l.table;
+  columns = with_names l.columns (entry_fields l.table e);
+}
 
 -- a table, with the fields of these objects' rows as further columns
 abbrev pub finished : List Entry → LayoutValue → LayoutValue
 finished es l = record {
   table = l.table;
-  columns = with_names l.columns (flat_map (fields_in l.table) es);
+  columns = with_names l.columns (flat_map (entry_fields l.table) es);
 }

@@ -94,23 +94,23 @@ child_name DomainStatus = codes "domainStatuses"
 child_name NndnTable = []
 
 -- the name of the field
-abbrev pub field_name : Guide → List ℕ
-field_name RegistrarCreation = codes "crDate"
-field_name ContactSponsor = codes "clID"
-field_name ContactCreation = codes "crDate"
-field_name ContactStatus = codes "status"
-field_name HostSponsor = codes "clID"
-field_name HostCreation = codes "crDate"
-field_name HostStatus = codes "status"
-field_name DomainSponsor = codes "clID"
-field_name DomainRegistrant = codes "registrant"
-field_name DomainTable = codes "idnTableId"
-field_name DomainCreation = codes "crDate"
-field_name DomainExpiry = codes "exDate"
-field_name DomainContact = codes "contactId"
-field_name DomainHost = codes "hostName"
-field_name DomainStatus = codes "status"
-field_name NndnTable = codes "idnTableId"
+abbrev pub guide_field_name : Guide → List ℕ
+guide_field_name RegistrarCreation = codes "crDate"
+guide_field_name ContactSponsor = codes "clID"
+guide_field_name ContactCreation = codes "crDate"
+guide_field_name ContactStatus = codes "status"
+guide_field_name HostSponsor = codes "clID"
+guide_field_name HostCreation = codes "crDate"
+guide_field_name HostStatus = codes "status"
+guide_field_name DomainSponsor = codes "clID"
+guide_field_name DomainRegistrant = codes "registrant"
+guide_field_name DomainTable = codes "idnTableId"
+guide_field_name DomainCreation = codes "crDate"
+guide_field_name DomainExpiry = codes "exDate"
+guide_field_name DomainContact = codes "contactId"
+guide_field_name DomainHost = codes "hostName"
+guide_field_name DomainStatus = codes "status"
+guide_field_name NndnTable = codes "idnTableId"
 
 -- whether it leads to IDN tables, which a registry may be without
 abbrev pub leads_to_idn : Guide → Bool
@@ -147,8 +147,9 @@ abbrev pub has_field : List ℕ → TableValue → Bool
 has_field field t = list_any (λ f. bytes_eq f field) t.fields
 
 -- whether it is declared
-abbrev pub is_declared : List TableValue → Guide → Bool
-is_declared tables g = list_any (λ t. is_its_table g t && has_field (field_name g) t) tables
+abbrev pub is_guide_declared : List TableValue → Guide → Bool
+is_guide_declared tables g =
+    list_any (λ t. is_its_table g t && has_field (guide_field_name g) t) tables
 
 -- whether there are objects of a kind
 abbrev pub has_objects : List (Kind × ℕ) → Kind → Bool
@@ -162,12 +163,12 @@ is_wanted objects g = has_objects objects (guide_kind g)
 -- ---- a table that looks as if it had it
 
 -- whether a byte is one of the signs that names of tables and fields have beside letters and digits
-abbrev pub is_sign : ℕ → Bool
-is_sign b = (b == 46) || ((b == 95) || (b == 45))
+abbrev pub is_name_sign : ℕ → Bool
+is_name_sign b = (b == 46) || ((b == 95) || (b == 45))
 
 -- a name without signs and in lower case
 abbrev pub folded : List ℕ → List ℕ
-folded name = map to_ascii_lowercase (filter (λ b. not (is_sign b)) name)
+folded name = map to_ascii_lowercase (filter (λ b. not (is_name_sign b)) name)
 
 -- whether a name is folded to another in lower case
 abbrev pub folds_to : List ℕ → List ℕ → Bool
@@ -198,7 +199,7 @@ has_disguised_field field t = list_any (λ f. is_disguised f field) t.fields
 
 -- whether a declared table is the one that has it, and has a field that looks like it
 abbrev pub has_disguise : Guide → TableValue → Bool
-has_disguise g t = is_its_table g t && has_disguised_field (field_name g) t
+has_disguise g t = is_its_table g t && has_disguised_field (guide_field_name g) t
 
 -- whether a declared child table looks like the one that has it
 abbrev pub stands_for_its_table : Guide → TableValue → Bool

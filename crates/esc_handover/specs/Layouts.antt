@@ -25,7 +25,7 @@ use Rattle.esc_tables.specs.ObjectValue.{RowValue, ObjectValue}
 use Rattle.esc_apply.specs.ObjectStreams.{Entry}
 use Rattle.esc_csv.specs.Lines.{Line, text_of}
 use Rattle.esc_csv.specs.Records.{records_of}
-use Rattle.esc_check.specs.Export.{is_in}
+use Rattle.esc_check.specs.Export.{is_of_table}
 use Rattle.esc_check.specs.Fields.{cell}
 
 -- the name of a table: the kind of its objects, and the name of their child rows that it has; none
@@ -78,23 +78,23 @@ called t = unwrap_or t.child (kind_name t.kind)
 -- the rows of an object that a table of this name has
 abbrev pub rows_named : Option (List ℕ) → ObjectValue → List RowValue
 rows_named None o = o.parent ∷ []
-rows_named (Some name) o = filter (is_in name) o.children
+rows_named (Some name) o = filter (is_of_table name) o.children
 
 -- the rows of an object that a table has
-abbrev pub rows_in : TableNameValue → Entry → List RowValue
-rows_in t e = if is_kind e.0.kind t.kind then rows_named t.child e.1 else []
+abbrev pub entry_rows : TableNameValue → Entry → List RowValue
+entry_rows t e = if is_kind e.0.kind t.kind then rows_named t.child e.1 else []
 
 -- the fields of a row, in the declared order
 abbrev pub row_fields : RowValue → List (List ℕ)
 row_fields r = map (λ c. c.0) r.cells
 
 -- the fields of an object's rows in a table
-abbrev pub fields_in : TableNameValue → Entry → List (List ℕ)
-fields_in t e = flat_map row_fields (rows_in t e)
+abbrev pub entry_fields : TableNameValue → Entry → List (List ℕ)
+entry_fields t e = flat_map row_fields (entry_rows t e)
 
 -- the columns of a table after that of the key: each field that a row of it has
 abbrev pub columns_of : List Entry → TableNameValue → List (List ℕ)
-columns_of es t = each_once (flat_map (fields_in t) es)
+columns_of es t = each_once (flat_map (entry_fields t) es)
 
 -- a table with its columns
 abbrev pub layout_of : List Entry → TableNameValue → LayoutValue
@@ -108,17 +108,18 @@ abbrev pub row_line : List (List ℕ) → KeyName → RowValue → Line
 row_line columns k r = k.text ∷ map (λ f. cell f r) columns
 
 -- the lines of an object's rows in a table
-abbrev pub object_lines : LayoutValue → Entry → List Line
-object_lines l e = map (row_line l.columns e.0) (rows_in l.table e)
+abbrev pub entry_lines : LayoutValue → Entry → List Line
+entry_lines l e = map (row_line l.columns e.0) (entry_rows l.table e)
 
 -- the lines of a table: its heading, and its rows by their objects' keys
 abbrev pub table_lines : LayoutValue → List Entry → List Line
-table_lines l es = (codes "key" ∷ l.columns) ∷ flat_map (object_lines l) es
+table_lines l es = (codes "key" ∷ l.columns) ∷ flat_map (entry_lines l) es
 
-abbrev pub table_text : LayoutValue → List Entry → List ℕ
-table_text l es = text_of (table_lines l es)
+-- these lines as a text
+abbrev pub table_csv : LayoutValue → List Entry → List ℕ
+table_csv l es = text_of (table_lines l es)
 
 -- the text of a table reads as its lines
 abbrev pub TablesAreReadBack : Type 0
 TablesAreReadBack = (l : LayoutValue) (es : List Entry)
-    → records_of (table_text l es) ≡ table_lines l es
+    → records_of (table_csv l es) ≡ table_lines l es

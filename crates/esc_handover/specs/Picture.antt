@@ -79,9 +79,9 @@ takes (Marks look axis) g = has_look look g
 takes (Runs kind) g = is_type g.place.kind kind
 
 -- how many places are in a group, if there is one
-abbrev pub places_of : Option Group → ℕ
-places_of None = 0
-places_of (Some group) = group.count
+abbrev pub places_in_group : Option Group → ℕ
+places_in_group None = 0
+places_in_group (Some group) = group.count
 
 -- how many places are in groups
 abbrev pub places_in : List Group → ℕ

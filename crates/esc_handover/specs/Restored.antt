@@ -10,12 +10,12 @@ use Rattle.esc_events.specs.ArrivalValue.{an_arrival}
 use Rattle.esc_events.specs.Events.{EventValue}
 use Rattle.esc_events.specs.Events.EventValue.{listed, arrived}
 use Rattle.esc_events.specs.LatestTables.{AreEntries}
-use Rattle.esc_handover.specs.FullBundle.{full_header, full_of, IsFullOf}
+use Rattle.esc_handover.specs.FullBundle.{first_full_header, full_of, IsFullOf}
 
 -- the row that lists a body as the Full of a moment
 abbrev pub full_row : List ℕ → ℤ → List ℕ → MRow
 full_row id watermark body = record {
-  header = full_header id watermark;
+  header = first_full_header id watermark;
   digest = sha256 body;
 }
 

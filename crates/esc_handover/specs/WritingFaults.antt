@@ -8,13 +8,13 @@ use Rattle.esc_handover.specs.declared.writing_fault.WritingFault.TheVariants.{
 }
 
 -- P holds, if the fault is the source's
-abbrev pub IfSource : {E : Type 0} → WritingFault E → Type 0 → Type 0
-IfSource (Source e) P = P
-IfSource (Output e) P = ⊤
-IfSource NoMemory P = ⊤
+abbrev pub IfWritingSource : {E : Type 0} → WritingFault E → Type 0 → Type 0
+IfWritingSource (Source e) P = P
+IfWritingSource (Output e) P = ⊤
+IfWritingSource NoMemory P = ⊤
 
 -- P holds of the source's fault, if the fault is the source's
-abbrev pub OfSource : {E : Type 0} → (E → Type 0) → WritingFault E → Type 0
-OfSource P (Source e) = P e
-OfSource P (Output e) = ⊤
-OfSource P NoMemory = ⊤
+abbrev pub OfWritingSource : {E : Type 0} → (E → Type 0) → WritingFault E → Type 0
+OfWritingSource P (Source e) = P e
+OfWritingSource P (Output e) = ⊤
+OfWritingSource P NoMemory = ⊤

@@ -18,7 +18,7 @@ ghost use Rattle.esc_handover.specs.Acceptance.{
   tests,
   is_accepted,
 };
-ghost use Rattle.esc_handover.specs.Guides.{is_disguise, is_wanted, is_declared, guides};
+ghost use Rattle.esc_handover.specs.Guides.{is_disguise, is_wanted, is_guide_declared, guides};
 
 use crate::guide::Guide;
 use crate::guides::{all_guides, is_declared, is_disguise, is_wanted};
@@ -129,8 +129,8 @@ fn are_counted(counts: &[(Kind, u64)]) -> bool
 }
 
 fn are_fields_there(objects: &[(Kind, u64)], tables: &[Table]) -> bool
-    ensures { result ≡ list_all (λ g. not (is_wanted objects.now g) || is_declared tables.now g)
-        guides }
+    ensures { result ≡ list_all
+        (λ g. not (is_wanted objects.now g) || is_guide_declared tables.now g) guides }
 {
     let guides = all_guides();
     guides.iter().all(|guide| !is_wanted(objects, *guide) || is_declared(tables, *guide))

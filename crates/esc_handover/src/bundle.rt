@@ -1,7 +1,13 @@
 //! The tables of a registry as one deposit.
 
 ghost use Rattle.std.specs.Prelude.{◌≡◌, true, IfOk};
-ghost use Rattle.esc_handover.specs.FullBundle.{count_of, counts_of, full_header, full_of, IsFullOf};
+ghost use Rattle.esc_handover.specs.FullBundle.{
+  entry_count,
+  counted_kinds,
+  first_full_header,
+  full_of,
+  IsFullOf,
+};
 
 use crate::draft::draft_bundle;
 use crate::refusal::BundleRefusal;
@@ -13,14 +19,14 @@ use std::collections::BTreeMap;
 
 // How many objects are of a kind.
 fn count_of(tables: &BTreeMap<Key, Object>, kind: Kind) -> u64
-    ensures { result ≡ count_of tables.now.entries kind }
+    ensures { result ≡ entry_count tables.now.entries kind }
 {
     tables.keys().filter(|key| key.kind == kind).count() as u64
 }
 
 // Each kind with the number of its objects.
 fn counts_of(tables: &BTreeMap<Key, Object>) -> [(Kind, u64); 6]
-    ensures { result ≡ counts_of tables.now.entries }
+    ensures { result ≡ counted_kinds tables.now.entries }
 {
     [
         (Kind::Registrar, count_of(tables, Kind::Registrar)),
@@ -34,7 +40,7 @@ fn counts_of(tables: &BTreeMap<Key, Object>) -> [(Kind, u64); 6]
 
 // Whether a header is that of a Full, the first time that it is generated.
 fn is_full_header(header: &Header, id: &str, watermark: i64) -> bool
-    ensures { result ≡ true → header.now ≡ full_header id.now watermark }
+    ensures { result ≡ true → header.now ≡ first_full_header id.now watermark }
 {
     header.id.as_str() == id
         && header.place.watermark == watermark
@@ -51,7 +57,7 @@ fn is_full_of(
     counts: &[(Kind, u64)],
     tables: &BTreeMap<Key, Object>,
 ) -> bool
-    requires { counts.now ≡ counts_of tables.now.entries }
+    requires { counts.now ≡ counted_kinds tables.now.entries }
     ensures { result ≡ true → deposit.now ≡ full_of id.now watermark tables.now.entries }
 {
     is_full_header(&deposit.header, id, watermark)

@@ -45,7 +45,7 @@ impl Guide {
     ghost use Rattle.esc_handover.specs.Guides.{
       guide_kind,
       child_name,
-      field_name,
+      guide_field_name,
       leads_to_idn,
     };
 
@@ -115,7 +115,7 @@ impl Guide {
 
     /// The name of the field.
     pub fn field_name(self) -> &'static str
-        ensures { result.now ≡ field_name self }
+        ensures { result.now ≡ guide_field_name self }
     {
         match self {
             Guide::RegistrarCreation

@@ -9,10 +9,10 @@ ghost use Rattle.esc_handover.specs.Guides.{
   is_of_parents,
   is_its_table,
   has_field,
-  is_declared,
+  is_guide_declared,
   has_objects,
   is_wanted,
-  is_sign,
+  is_name_sign,
   folds_to,
   looks_like,
   is_disguised,
@@ -67,7 +67,7 @@ fn has_field(table: &Table, field: &str) -> bool
 
 /// Whether a field is in a declared table.
 pub(crate) fn is_declared(tables: &[Table], guide: Guide) -> bool
-    ensures { result ≡ is_declared tables.now guide }
+    ensures { result ≡ is_guide_declared tables.now guide }
 {
     tables.iter().any(|table| is_its_table(guide, table) && has_field(table, guide.field_name()))
 }
@@ -88,7 +88,7 @@ pub(crate) fn is_wanted(objects: &[(Kind, u64)], guide: Guide) -> bool
 }
 
 fn is_sign(byte: u8) -> bool
-    ensures { result ≡ is_sign byte }
+    ensures { result ≡ is_name_sign byte }
 {
     byte == b'.' || byte == b'_' || byte == b'-'
 }

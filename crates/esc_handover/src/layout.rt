@@ -3,7 +3,7 @@
 ghost use Rattle.std.specs.Prelude.{◌≡◌, List, map, filter, IfOk, IfErr, OnOk, string_bytes};
 ghost use Rattle.std.specs.List.{flat_map};
 ghost use Rattle.esc_apply.specs.ObjectStreams.{Entry};
-ghost use Rattle.esc_check.specs.Export.{is_in};
+ghost use Rattle.esc_check.specs.Export.{is_of_table};
 ghost use Rattle.esc_check.specs.ObjectReports.{IfSource, OfSource};
 ghost use Rattle.esc_handover.specs.Gathering.{with_names, bare, with_fields};
 ghost use Rattle.esc_handover.specs.Layouts.{row_fields, layout_of};
@@ -55,7 +55,7 @@ fn add_child_fields(
 ) -> Result<(), NoMemory>
     ensures { OnOk result (map string_bytes columns.new.items
         ≡ with_names (map string_bytes columns.old.items)
-        (flat_map row_fields (filter (is_in name.now) rows.now))) }
+        (flat_map row_fields (filter (is_of_table name.now) rows.now))) }
 {
     for row in rows {
         if row.table() != name {

@@ -58,14 +58,14 @@
 //! source that lists just these.
 //!
 //! `page_of` gives a page whose body is markup of a fixed list of elements around escaped texts
-//! (`IsPage` of `esc_html`): it loads nothing and runs nothing. `specs/Picture.antt` says where a
-//! moment stands on the time axis, that a later one stands no further left
+//! (`IsHtmlPage` of `esc_html`): it loads nothing and runs nothing. `specs/Picture.antt` says where
+//! a moment stands on the time axis, that a later one stands no further left
 //! (`moments_stand_in_order`), and that each place is in one group of marks or rows (`groups_of`).
 //! What else a page shows has no contract, and is tested.
 //!
 //! `specs/Layouts.antt` says which tables a kind has (`table_names`: a table of child rows for each
 //! name that they have), which columns (`columns_of`: each field that a row has, once, in the order
-//! in which they first come) and the text of each (`table_text`). An absent field is an empty text,
+//! in which they first come) and the text of each (`table_csv`). An absent field is an empty text,
 //! as one that is there and empty. `tables_are_read_back` is a law: the text reads as its heading
 //! and its rows.
 #![tactic(auto)]

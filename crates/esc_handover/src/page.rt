@@ -1,7 +1,7 @@
 //! A store as a page.
 
 ghost use Rattle.std.specs.Prelude.{IfOk};
-ghost use Rattle.esc_html.specs.Markup.{IsPage};
+ghost use Rattle.esc_html.specs.Markup.{IsHtmlPage};
 
 mod axis;
 mod findings;
@@ -41,7 +41,7 @@ pub fn page_of(
     receipts: &[Reply],
     parked: &[ParkedBody],
 ) -> Result<Vec<u8>, NoMemory>
-    ensures { IfOk result (λ page. IsPage page.items) }
+    ensures { IfOk result (λ page. IsHtmlPage page.items) }
 {
     let title = title_of(alloc, seen.end)?;
     let lines = lines_of(alloc, seen)?;

@@ -19,9 +19,9 @@ ghost use Rattle.std.specs.Map.{lookup};
 ghost use Rattle.std.specs.Str.{bytes_eq};
 ghost use Rattle.esc_apply.specs.ObjectStreams.{Entry};
 ghost use Rattle.esc_csv.specs.Lines.{line_text, text_of};
-ghost use Rattle.esc_check.specs.Export.{is_in};
-ghost use Rattle.esc_handover.specs.Layouts.{row_line, object_lines, table_text};
-ghost use Rattle.esc_handover.specs.WritingFaults.{IfSource, OfSource};
+ghost use Rattle.esc_check.specs.Export.{is_of_table};
+ghost use Rattle.esc_handover.specs.Layouts.{row_line, entry_lines, table_csv};
+ghost use Rattle.esc_handover.specs.WritingFaults.{IfWritingSource, OfWritingSource};
 
 use crate::layout::Layout;
 use crate::writing_fault::WritingFault;
@@ -101,7 +101,7 @@ fn write_children(
 ) -> Result<(), NoMemory>
     ensures { OnOk result (lines.new ≡ lines.old
         ++ text_of (map (row_line (map string_bytes columns.now) key.now)
-        (filter (is_in name.now) rows.now))) }
+        (filter (is_of_table name.now) rows.now))) }
 {
     for row in rows {
         if row.table() != name {
@@ -121,7 +121,7 @@ fn write_rows(
     object: &Object,
 ) -> Result<(), NoMemory>
     ensures { OnOk result (lines.new ≡ lines.old
-        ++ text_of (object_lines layout.now (key.now, object.now))) }
+        ++ text_of (entry_lines layout.now (key.now, object.now))) }
 {
     if key.kind != layout.table.kind {
         return Ok(());
@@ -152,7 +152,7 @@ fn rows_text(
     object: &Object,
 ) -> Result<Vec<u8>, NoMemory>
     ensures { IfOk result (λ text. text.items
-        ≡ text_of (object_lines layout.now (key.now, object.now))) }
+        ≡ text_of (entry_lines layout.now (key.now, object.now))) }
 {
     let mut lines = Lines::new(alloc);
     write_rows(alloc, &mut lines, layout, key, object)?;
@@ -170,11 +170,11 @@ pub fn write_table<O: Objects, W: Write>(
     layout: &Layout,
 ) -> Result<(), WritingFault<O::Error>>
     ensures follows { O.follows objects.old objects.new }
-    ensures source { IfErr result (λ fault. IfSource fault (O.has_failed objects.new)) }
-    ensures cause { IfErr result (OfSource O.fails) }
+    ensures source { IfErr result (λ fault. IfWritingSource fault (O.has_failed objects.new)) }
+    ensures cause { IfErr result (OfWritingSource O.fails) }
     ensures text { OnOk result (O.is_honest objects.new → (es : List Entry)
         → O.lists objects.old es
-        → Appends (W.contents output.old) (W.contents output.new) (table_text layout.now es)) }
+        → Appends (W.contents output.old) (W.contents output.new) (table_csv layout.now es)) }
 {
     let heading = heading_text(alloc, &layout.columns)?;
     output.write_all(&heading)?;

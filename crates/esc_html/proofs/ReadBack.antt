@@ -2,7 +2,7 @@
 use Rattle.std.proofs.Common.{◌≡◌, ℕ, List, [], ◌∷◌, ◌++◌, Option, Some, None, true, false, cond, refl, sym, ap, subst, ◌∙◌, ◌⊎◌, inl, inr}
 use Rattle.std.specs.Prelude.{◌==◌}
 use Rattle.std.proofs.lemmas.Bool.{eqb-true}
-use Rattle.esc_html.specs.Escape.{spelled, escaped, is_sign, before, read_on, read_text}
+use Rattle.esc_html.specs.Escape.{spelled, escaped, is_markup_sign, before, read_on, read_text}
 
 -- a byte is another one, or the test says that it isn't
 either : (b c : ℕ) → (b ≡ c) ⊎ ((b == c) ≡ false)
@@ -24,13 +24,13 @@ module _ (b : ℕ) (a : (b == 38) ≡ false) (l : (b == 60) ≡ false) (g : (b =
   stands : spelled b ≡ b ∷ []
   stands = rw (a, l, g, q, s) refl
 
-  no_sign : is_sign b ≡ false
+  no_sign : is_markup_sign b ≡ false
   no_sign = rw (l, g, q, s) refl
 
   read_next : (rest : List ℕ) → read_on (b ∷ rest) None ≡ before (Some b) (read_on rest None)
   read_next rest =
       let next : Option (List ℕ) = before (Some b) (read_on rest None) in
-      ap (λ v. cond v (read_on rest (Some [])) (cond (is_sign b) None next)) a ∙ ap (λ v. cond v None next) no_sign
+      ap (λ v. cond v (read_on rest (Some [])) (cond (is_markup_sign b) None next)) a ∙ ap (λ v. cond v None next) no_sign
 
   as_it_is : (rest text : List ℕ) → read_on rest None ≡ Some text → Reads rest text b
   unfolding Reads

@@ -34,8 +34,8 @@ escaped text = flat_map spelled text
 -- ---- reading
 
 -- whether a byte is one of < > " '
-abbrev pub is_sign : ℕ → Bool
-is_sign b = (b == 60) || ((b == 62) || ((b == 34) || (b == 39)))
+abbrev pub is_markup_sign : ℕ → Bool
+is_markup_sign b = (b == 60) || ((b == 62) || ((b == 34) || (b == 39)))
 
 -- the sign to which a reference of this name leads
 abbrev pub referred : List ℕ → Option ℕ
@@ -59,7 +59,7 @@ read_on [] None = Some []
 read_on [] (Some name) = None
 read_on (b ∷ rest) None =
     if b == 38 then read_on rest (Some [])
-    else (if is_sign b then None else before (Some b) (read_on rest None))
+    else (if is_markup_sign b then None else before (Some b) (read_on rest None))
 read_on (b ∷ rest) (Some name) =
     if b == 59 then before (referred name) (read_on rest None)
     else read_on rest (Some (name ++ b ∷ []))

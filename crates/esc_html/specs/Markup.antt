@@ -46,15 +46,15 @@ element_text tag attributes inside = codes "<" ++ tag_name tag ++ flat_map attri
     ++ codes ">" ++ inside ++ codes "</" ++ tag_name tag ++ codes ">"
 
 -- markup as it is written
-abbrev pub written : Markup → List ℕ
-written nothing = []
-written (text t rest) = escaped t ++ written rest
-written (element tag attributes inside rest) = element_text tag attributes (written inside)
-    ++ written rest
+abbrev pub markup_text : Markup → List ℕ
+markup_text nothing = []
+markup_text (text t rest) = escaped t ++ markup_text rest
+markup_text (element tag attributes inside rest) = element_text tag attributes (markup_text inside)
+    ++ markup_text rest
 
 -- these bytes are markup
 abbrev pub IsMarkup : List ℕ → Type 0
-IsMarkup bytes = (m : Markup) × (written m ≡ bytes)
+IsMarkup bytes = (m : Markup) × (markup_text m ≡ bytes)
 
 -- ---- pages
 
@@ -68,9 +68,9 @@ page_text title style body = page_front ++ escaped title ++ codes "</title><styl
     ++ codes "</style></head><body>" ++ body ++ codes "</body></html>\n"
 
 -- these bytes are a page whose body is markup
-abbrev pub IsPage : List ℕ → Type 0
-IsPage bytes = (title style : List ℕ) × (body : Markup)
-    × (page_text title style (written body) ≡ bytes)
+abbrev pub IsHtmlPage : List ℕ → Type 0
+IsHtmlPage bytes = (title style : List ℕ) × (body : Markup)
+    × (page_text title style (markup_text body) ≡ bytes)
 
 -- ---- pieces, which are nothing once memory was refused
 
@@ -81,5 +81,5 @@ joined (Some a) None = None
 joined None b = None
 
 -- what there is now is this; or memory was refused
-abbrev pub Gives : Option (List ℕ) → Option (List ℕ) → Type 0
-Gives wanted got = IfSome got (λ bytes. wanted ≡ Some bytes)
+abbrev pub IsUnlessRefused : Option (List ℕ) → Option (List ℕ) → Type 0
+IsUnlessRefused wanted got = IfSome got (λ bytes. wanted ≡ Some bytes)

@@ -3,7 +3,14 @@
 ghost use Rattle.std.specs.Prelude.{◌≡◌, [], Some, option_map, IfOk};
 ghost use Rattle.std.specs.Fmt.{decimal};
 ghost use Rattle.esc_html.specs.Escape.{escaped};
-ghost use Rattle.esc_html.specs.Markup.{given, element_text, page_text, IsPage, joined, Gives};
+ghost use Rattle.esc_html.specs.Markup.{
+  given,
+  element_text,
+  page_text,
+  IsHtmlPage,
+  joined,
+  IsUnlessRefused,
+};
 
 use crate::attribute::Attribute;
 use crate::escape::push_escaped;
@@ -36,7 +43,7 @@ impl Model for Html {
 // These functions add to what there is, unless memory was refused.
 
 fn with_text(bytes: Option<Vec<u8>>, text: &[u8]) -> Option<Vec<u8>>
-    ensures { Gives (joined (option_map (λ v. v.items) bytes) (Some (escaped text.now)))
+    ensures { IsUnlessRefused (joined (option_map (λ v. v.items) bytes) (Some (escaped text.now)))
         (option_map (λ v. v.items) result) }
 {
     let mut bytes = bytes?;
@@ -45,7 +52,8 @@ fn with_text(bytes: Option<Vec<u8>>, text: &[u8]) -> Option<Vec<u8>>
 }
 
 fn with_bytes(bytes: Option<Vec<u8>>, more: Option<Vec<u8>>) -> Option<Vec<u8>>
-    ensures { Gives (joined (option_map (λ v. v.items) bytes) (option_map (λ v. v.items) more))
+    ensures { IsUnlessRefused
+        (joined (option_map (λ v. v.items) bytes) (option_map (λ v. v.items) more))
         (option_map (λ v. v.items) result) }
 {
     let mut bytes = bytes?;
@@ -61,7 +69,7 @@ fn with_element(
     attributes: &[(Attribute, Value<'_>)],
     inside: Option<Vec<u8>>,
 ) -> Option<Vec<u8>>
-    ensures { Gives (joined (option_map (λ v. v.items) bytes)
+    ensures { IsUnlessRefused (joined (option_map (λ v. v.items) bytes)
         (option_map (element_text tag (given attributes.now)) (option_map (λ v. v.items) inside)))
         (option_map (λ v. v.items) result) }
 {
@@ -84,7 +92,7 @@ impl Html {
 
     /// This, and then a text.
     pub fn text(self, text: &str) -> Html
-        ensures { Gives (joined self (Some (escaped text.now))) result }
+        ensures { IsUnlessRefused (joined self (Some (escaped text.now))) result }
     {
         Html {
             alloc: self.alloc,
@@ -94,7 +102,7 @@ impl Html {
 
     /// This, and then a number.
     pub fn number(self, number: u64) -> Html
-        ensures { Gives (joined self (Some (escaped (decimal number)))) result }
+        ensures { IsUnlessRefused (joined self (Some (escaped (decimal number)))) result }
     {
         match format!(in self.alloc; "{number}") {
             Ok(text) => self.text(text.as_str()),
@@ -114,7 +122,7 @@ impl Html {
 
     /// This, and then another piece.
     pub fn add(self, more: Html) -> Html
-        ensures { Gives (joined self more) result }
+        ensures { IsUnlessRefused (joined self more) result }
     {
         Html {
             alloc: self.alloc,
@@ -124,8 +132,8 @@ impl Html {
 
     /// This, and then an element around a piece.
     pub fn element(self, tag: Tag, attributes: &[(Attribute, Value<'_>)], inside: Html) -> Html
-        ensures { Gives (joined self (option_map (element_text tag (given attributes.now)) inside))
-            result }
+        ensures { IsUnlessRefused
+            (joined self (option_map (element_text tag (given attributes.now)) inside)) result }
     {
         Html {
             alloc: self.alloc,
@@ -139,7 +147,7 @@ impl Html {
     ///
     /// `NoMemory`, here or before.
     pub fn into_page(self, title: &str, style: &str) -> Result<Vec<u8>, NoMemory>
-        ensures markup { IfOk result (λ page. IsPage page.items) }
+        ensures markup { IfOk result (λ page. IsHtmlPage page.items) }
         ensures page { IfOk result
             (λ page. option_map (page_text title.now style.now) self ≡ Some page.items) }
     {

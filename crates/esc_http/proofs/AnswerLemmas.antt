@@ -23,7 +23,7 @@ use Rattle.esc_request.specs.Pieces.{Pieces, AreAwaited, ReadsWhile}
 use Rattle.esc_request.specs.PieceLaws.{awaited_after}
 use Rattle.esc_http.specs.RequestPlans.{plan_of_head}
 use Rattle.esc_request.specs.Response.{out_of_memory}
-use Rattle.esc_http.specs.Answering.{Request, refused, arrives, wants, with_body, Asks, IsAnswered, IsUndecided, IsOrMemory, LeavesStill, LosesArrival, text_or_memory}
+use Rattle.esc_http.specs.Answering.{Request, refused, arrives, wants, request_with_body, Asks, IsAnswered, IsUndecided, IsOrMemory, LeavesStill, LosesArrival, text_or_memory}
 
 -- the text that was made, or the out-of-memory response
 pub text_is : (expected : List ℕ) (o : Option (Vec ℕ)) → IfSome o (λ text. text.items ≡ expected) → IsOrMemory expected (text_or_memory o)
@@ -36,7 +36,7 @@ longer front h rest more has = record { reads = ReadsRequest-append front h rest
 
 -- what the head at the front of what was read asks for is what the whole input asks for
 pub asked : (before after : Option (List ℕ)) (front : List ℕ) (n : ℕ) (h : RequestHead) (request : Request) → Consumes before after front → HasHead front h (drop n front)
-    → IfSome (prepend_known (drop n front) after) (λ rest. request ≡ with_body (plan_of_head h) rest) → IfSome before (λ input. Asks input request)
+    → IfSome (prepend_known (drop n front) after) (λ rest. request ≡ request_with_body (plan_of_head h) rest) → IfSome before (λ input. Asks input request)
 asked None after front n h request took has is = tt
 asked (Some input) None front n h request took has is = absurd took
 asked (Some input) (Some rest) front n h request took has is =
@@ -54,14 +54,14 @@ headless (Some input) none = inr (none, refl)
 
 -- the request of a body that is whole
 pub whole_arrives : (o : Option (List ℕ)) (number body seen : List ℕ) (size : ℕ) → seen ≡ body → IfSome o (λ input. (size ≤ length input) × (body ≡ take size input))
-    → IfSome o (λ input. arrives (record { number = number; body = seen }) ≡ with_body (Put number size) input)
+    → IfSome o (λ input. arrives (record { number = number; body = seen }) ≡ request_with_body (Put number size) input)
 whole_arrives None number body seen size same is = tt
 whole_arrives (Some input) number body seen size same (fits, is) =
     let long : nat_le size (length input) ≡ true = grind (arith, nat_tests) in
     rw long (ap (λ (b : List ℕ). arrives (record { number = number; body = b })) (same ∙ is))
 
 -- the request of a body that is cut
-pub cut_refused : (o : Option (List ℕ)) (number : List ℕ) (size : ℕ) → IfSome o (λ input. length input < size) → IfSome o (λ input. refused BadRequest ≡ with_body (Put number size) input)
+pub cut_refused : (o : Option (List ℕ)) (number : List ℕ) (size : ℕ) → IfSome o (λ input. length input < size) → IfSome o (λ input. refused BadRequest ≡ request_with_body (Put number size) input)
 cut_refused None number size short = tt
 cut_refused (Some input) number size short =
     let cut : nat_le size (length input) ≡ false = grind (arith, nat_tests) in
@@ -69,15 +69,15 @@ cut_refused (Some input) number size short =
 
 -- the same request of the same plan, with the bytes that were read before written in another way
 pub same_request : (o : Option (List ℕ)) (front tail : List ℕ) (plan other : RequestPlan) (request : Request) → front ≡ tail → plan ≡ other
-    → IfSome (prepend_known front o) (λ rest. request ≡ with_body plan rest) → IfSome (prepend_known tail o) (λ rest. request ≡ with_body other rest)
+    → IfSome (prepend_known front o) (λ rest. request ≡ request_with_body plan rest) → IfSome (prepend_known tail o) (λ rest. request ≡ request_with_body other rest)
 same_request o front tail plan other request same is holds =
-    subst (λ (p : RequestPlan). IfSome (prepend_known tail o) (λ rest. request ≡ with_body p rest)) is
-    (subst (λ (l : List ℕ). IfSome (prepend_known l o) (λ rest. request ≡ with_body plan rest)) same holds)
+    subst (λ (p : RequestPlan). IfSome (prepend_known tail o) (λ rest. request ≡ request_with_body p rest)) is
+    (subst (λ (l : List ℕ). IfSome (prepend_known l o) (λ rest. request ≡ request_with_body plan rest)) same holds)
 
 -- some request that an input may make of a plan
-pub some_request : (o : Option (List ℕ)) (plan : RequestPlan) → (request : Request) × IfSome o (λ rest. request ≡ with_body plan rest)
+pub some_request : (o : Option (List ℕ)) (plan : RequestPlan) → (request : Request) × IfSome o (λ rest. request ≡ request_with_body plan rest)
 some_request None plan = (refused BadRequest, tt)
-some_request (Some rest) plan = (with_body plan rest, refl)
+some_request (Some rest) plan = (request_with_body plan rest, refl)
 
 -- what was read while the body was shorter was read while the whole made no request
 pub undecided : (a b : Pieces) (bytes front last : List ℕ) (h : RequestHead) (number : List ℕ) (size : ℕ) → HasHead bytes h front → plan_of_head h ≡ Put number size → ReadsWhile (IsShorter size) a b front last
@@ -128,5 +128,5 @@ module _ {S : Type 0} (g : Ghosts S) (desk : Desk S) where
   memory_answers (wants report) = (stays_itself, leaves_still g desk desk stays_itself, inr (record { fault = S2; cause = inr refl; sends = inr refl }))
 
   -- so it does whatever the input is
-  pub memory_answers_some : (o : Option (List ℕ)) (plan : RequestPlan) → (request : Request) × IfSome o (λ rest. request ≡ with_body plan rest) × IsAnswered g desk desk request out_of_memory
+  pub memory_answers_some : (o : Option (List ℕ)) (plan : RequestPlan) → (request : Request) × IfSome o (λ rest. request ≡ request_with_body plan rest) × IsAnswered g desk desk request out_of_memory
   memory_answers_some o plan = let (request, is) = some_request o plan in (request, is, memory_answers request)

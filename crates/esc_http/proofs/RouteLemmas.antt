@@ -13,7 +13,7 @@ use Rattle.matchit.specs.Seek.{own, step, or_else, seek, first, param_step, has_
 use Rattle.esc_http.specs.declared.route.Target.{Target}
 use Rattle.esc_reports.specs.declared.catalog.Report.TheVariants as report
 use Rattle.esc_http.specs.declared.route.Target.TheVariants.{Arrivals, Export, Report}
-use Rattle.esc_http.specs.Route.{Leads, arrival, strip, is_segment, if_segment, export_named, route_of, way_to}
+use Rattle.esc_http.specs.Route.{Destination, arrival, strip, is_segment, if_segment, export_named, route_of, way_to}
 use Rattle.esc_http.specs.Router.{fixed, ending, rows}
 
 -- each of these is a byte, and no token of a parameter
@@ -146,7 +146,7 @@ letter c z P here other = by (c == z) refl
     by false e = other e
 
 -- where the first of the rows leads that a path has
-abbrev found_in : RowsOf (RouteOf Target) → List ℕ → List ℕ → Option Leads
+abbrev found_in : RowsOf (RouteOf Target) → List ℕ → List ℕ → Option Destination
 found_in rs path rest = option_and_then (λ (r : RouteOf Target). way_to r.value path) (first rs rest)
 
 -- a path whose second byte is this one has one row, that ends there

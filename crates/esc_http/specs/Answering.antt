@@ -59,18 +59,18 @@ pub data Request : Type 0 where
 
 -- what a head asks for, and the bytes that follow it: where fewer follow than its length says, it
 -- is a bad request
-abbrev pub with_body : RequestPlan → List ℕ → Request
-with_body (Refuse refusal) rest = refused refusal
-with_body (Put number size) rest
+abbrev pub request_with_body : RequestPlan → List ℕ → Request
+request_with_body (Refuse refusal) rest = refused refusal
+request_with_body (Put number size) rest
     = if nat_le size (length rest) then arrives (an_arrival number (take size rest)) else refused
     BadRequest
-with_body (Get report) rest = wants report
+request_with_body (Get report) rest = wants report
 
 -- the request that an input makes: that of its head, or a bad request where it has none
 abbrev pub Asks : List ℕ → Request → Type 0
 Asks input request =
     ((h : RequestHead) × (rest : List ℕ) × HasHead input h rest
-    × (request ≡ with_body (plan_of_head h) rest))
+    × (request ≡ request_with_body (plan_of_head h) rest))
     ⊎ (HasNoHead input × (request ≡ refused BadRequest))
 
 -- these bytes begin with the head of an arrival, and less than its body follows

@@ -25,8 +25,8 @@ use Rattle.esc_request.specs.declared.refusal.Refusal.TheVariants.{
 }
 use Rattle.esc_http.specs.declared.request_plan.RequestPlan.{RequestPlan}
 use Rattle.esc_http.specs.declared.request_plan.RequestPlan.TheVariants.{Refuse, Put, Get}
-use Rattle.esc_request.specs.BodyLength.{Line, body_length}
-use Rattle.esc_http.specs.Route.{Leads, arrival, a_report, route_of}
+use Rattle.esc_request.specs.BodyLength.{HeaderLine, body_length}
+use Rattle.esc_http.specs.Route.{Destination, arrival, a_report, route_of}
 
 -- the target up to its first question mark (63)
 abbrev pub path_of : List ℕ → List ℕ
@@ -40,7 +40,7 @@ plan_sized number Malformed = Refuse BadRequest
 plan_sized number TooLong = Refuse TooLarge
 
 -- at the route of an arrival: the method, the number's form, the length
-abbrev pub plan_to_put : List ℕ → List ℕ → List Line → RequestPlan
+abbrev pub plan_to_put : List ℕ → List ℕ → List HeaderLine → RequestPlan
 plan_to_put method number lines =
     if bytes_eq method (codes "PUT") then
     (if is_id number then plan_sized number (body_length lines) else Refuse BadNumber) else
@@ -51,13 +51,13 @@ abbrev pub plan_to_get : List ℕ → Report → RequestPlan
 plan_to_get method report = if bytes_eq method (codes "GET") then Get report else Refuse GetOnly
 
 -- at a route, if the path has one
-abbrev pub plan_on : Option Leads → List ℕ → List Line → RequestPlan
+abbrev pub plan_on : Option Destination → List ℕ → List HeaderLine → RequestPlan
 plan_on None method lines = Refuse NotFound
 plan_on (Some (arrival number)) method lines = plan_to_put method number lines
 plan_on (Some (a_report report)) method lines = plan_to_get method report
 
 -- what a method, a target and header lines ask for
-abbrev pub plan_of : List ℕ → List ℕ → List Line → RequestPlan
+abbrev pub plan_of : List ℕ → List ℕ → List HeaderLine → RequestPlan
 plan_of method target lines = plan_on (route_of (path_of target)) method lines
 
 -- what a head asks for

@@ -38,9 +38,9 @@ use Rattle.esc_http.specs.declared.route.Route.{Route}
 use Rattle.esc_http.specs.declared.route.Route.TheVariants as way
 
 -- to the arrival with this number, or to a report
-pub data Leads : Type 0 where
-  arrival : List ℕ → Leads
-  a_report : Report → Leads
+pub data Destination : Type 0 where
+  arrival : List ℕ → Destination
+  a_report : Report → Destination
 
 -- what comes after this beginning of a text, if the text begins with it
 abbrev pub strip : List ℕ → List ℕ → Option (List ℕ)
@@ -59,12 +59,12 @@ abbrev pub segment_after : List ℕ → List ℕ → Option (List ℕ)
 segment_after front path = option_and_then if_segment (strip front path)
 
 -- the export of the kind with this name, if there is one
-abbrev pub export_named : List ℕ → Option Leads
+abbrev pub export_named : List ℕ → Option Destination
 export_named name = option_map (λ kind. a_report (Export kind)) (kind_named name)
 
 -- where a path leads: /status, /gaps, /links, /receipts, /parked, /moment, /arrivals/ and a number,
 -- /export/ and a kind; nothing is decoded
-abbrev pub route_of : List ℕ → Option Leads
+abbrev pub route_of : List ℕ → Option Destination
 route_of path =
     if bytes_eq (codes "/status") path then Some (a_report Status)
     else (if bytes_eq (codes "/gaps") path then Some (a_report Gaps)
@@ -77,12 +77,12 @@ route_of path =
     else option_and_then export_named (segment_after (codes "/export/") path)))))))
 
 -- where a path leads, by the target that the router has for it
-abbrev pub way_to : Target → List ℕ → Option Leads
+abbrev pub way_to : Target → List ℕ → Option Destination
 way_to to.Arrivals path = option_map arrival (strip (codes "/arrivals/") path)
 way_to to.Export path = option_and_then export_named (strip (codes "/export/") path)
 way_to (to.Report report) path = Some (a_report report)
 
 -- where a route leads, by what contracts see of the path's text
-abbrev pub route_seen : Route → Leads
+abbrev pub route_seen : Route → Destination
 route_seen (way.Arrival number) = arrival number.now
 route_seen (way.Report report) = a_report report

@@ -15,7 +15,7 @@ ghost use Rattle.esc_http.specs.Answering.{
   Request,
   arrives,
   wants,
-  with_body,
+  request_with_body,
   Asks,
   IsAnswered,
   IsUndecided,
@@ -76,7 +76,7 @@ fn answer_head<S: Alter, R: Source>(
         → IsRequestAt bytes.now lines.now found.now.spans h
         → (request : Request) × IfSome
         (prepend_known (drop found.now.spans.len bytes.now) (R.remaining source.old))
-        (λ rest. request ≡ with_body (plan_of_head h) rest)
+        (λ rest. request ≡ request_with_body (plan_of_head h) rest)
         × IsAnswered S.Store desk.old desk.new request (text_or_memory text)) }
     ensures honest { WasHonest S.Store desk.old desk.new }
     ensures unread { (last : List ℕ) × ReadsWhile IsUndecided (R.pieces source.old)
@@ -109,7 +109,7 @@ fn answer_put<S: Alter, R: Source>(
 ) -> Result<Option<Vec<u8>>, ReadFailed>
     ensures answers { IfOk result (λ text. (request : Request)
         × IfSome (prepend_known front.now (R.remaining source.old))
-        (λ rest. request ≡ with_body (Put number.now size) rest)
+        (λ rest. request ≡ request_with_body (Put number.now size) rest)
         × IsAnswered S.Store desk.old desk.new request (text_or_memory text)) }
     ensures honest { WasHonest S.Store desk.old desk.new }
     ensures unread { (last : List ℕ) × ReadsWhile (IsShorter size) (R.pieces source.old)

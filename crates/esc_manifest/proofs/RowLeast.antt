@@ -5,13 +5,13 @@ use Rattle.std.proofs.lemmas.Bool.{cases_Bool, cases_lt}
 use Rattle.std.proofs.lemmas.Bool.Decides.{nat_tests}
 use Rattle.esc_manifest.specs.declared.row.MRow.{MRow}
 use Rattle.esc_manifest.specs.LeastFault.{has_fault, IsManifestFault, IsLeastManifestFault}
-use Rattle.esc_manifest.specs.RowFaults.{most_rows, has_bad_id, has_bad_watermark, lacks_prev, has_bad_resend, same_revision, moved_id, follows_later, same_digest, first_against_earlier, first_against_any, fault_or, rows_fault}
+use Rattle.esc_manifest.specs.RowFaults.{most_manifest_rows, has_bad_id, has_bad_watermark, lacks_prev, has_bad_resend, same_revision, moved_id, follows_later, same_digest, first_against_earlier, first_against_any, fault_or, rows_fault}
 use Rattle.esc_manifest.specs.ManifestRows.{no_row}
 use Rattle.esc_manifest.proofs.LeastFrom.{first_of_list, first_of_numbers, LeastFrom, AtLeastRow, up, found, step, lower, fault_or_is, at_row, least_of, is_least, IsFirst}
 
 -- M1 of rows
 abbrev above : List MRow → ℕ → ℕ → Type 0
-above m code row = (code ≡ 1) × (row ≡ 0) × (most_rows < length m)
+above m code row = (code ≡ 1) × (row ≡ 0) × (most_manifest_rows < length m)
 
 -- numbers that no row has
 low_number : (m : List MRow) (k r : ℕ) → k < 4 → has_fault m k r ≡ false
@@ -98,15 +98,15 @@ from_one m k s there = elim (cases_lt 1 k) [
   ]
 ]
 
-few_low : (m : List MRow) → length m ≤ most_rows → (k s : ℕ) → k < 4 → IsManifestFault m k s → ⊥
+few_low : (m : List MRow) → length m ≤ most_manifest_rows → (k s : ℕ) → k < 4 → IsManifestFault m k s → ⊥
 few_low m few k s lt (inl there) = absurd (omega (arith, there.2))
 few_low m few k s lt (inr (r, below, is, holds)) = let fails = low_number m k r lt in absurd cc
 
 pub least_from : (m : List MRow) → LeastFrom (IsManifestFault m) 0 (rows_fault m)
 unfolding rows_fault
-least_from m = elim (cases_Bool (nat_lt most_rows (length m))) [
-  | inl many ↦ let over : most_rows < length m = grind (arith, nat_tests) in rw many (found (IsManifestFault m) 0 1 0 (inl (refl, refl, over)) (λ k s le there. from_one m k s there))
-  | inr few ↦ let within : length m ≤ most_rows = grind (arith, nat_tests) in rw few (lower (IsManifestFault m) 0 4 (chain m) (λ k s le lt. few_low m within k s lt) (all_numbers m))
+least_from m = elim (cases_Bool (nat_lt most_manifest_rows (length m))) [
+  | inl many ↦ let over : most_manifest_rows < length m = grind (arith, nat_tests) in rw many (found (IsManifestFault m) 0 1 0 (inl (refl, refl, over)) (λ k s le there. from_one m k s there))
+  | inr few ↦ let within : length m ≤ most_manifest_rows = grind (arith, nat_tests) in rw few (lower (IsManifestFault m) 0 4 (chain m) (λ k s le lt. few_low m within k s lt) (all_numbers m))
 ]
 
 pub rows_least : (m : List MRow) (code row : ℕ) → rows_fault m ≡ Some (code, row) → IsLeastManifestFault m code row

@@ -8,7 +8,7 @@ use Rattle.esc_manifest.specs.declared.row.MRow.{MRow}
 use Rattle.esc_csv.specs.Records.{records_of}
 use Rattle.esc_manifest.specs.LeastFault.{IsLeastOf, IsLeastManifestFault, records_below, record_at, is_faulty, IsFaultAbove, IsFaultInText, IsLeastInText}
 use Rattle.esc_manifest.specs.Manifest.{most_bytes, has_other_length, lacks_heading, lacks_id, lacks_type, lacks_watermark, is_diff_alone, lacks_resend, lacks_digest, records_fault, typed_rows, fault_then, text_fault, unless, manifest_of}
-use Rattle.esc_manifest.specs.RowFaults.{most_rows, fault_or, rows_fault}
+use Rattle.esc_manifest.specs.RowFaults.{most_manifest_rows, fault_or, rows_fault}
 use Rattle.esc_manifest.proofs.LeastFrom.{first_of_list, LeastFrom, AtLeastRow, up, found, step, lower, fault_or_is, at_row, least_of, is_least, IsFirst}
 use Rattle.esc_manifest.proofs.RowLeast.{rows_least, least_rows}
 use Rattle.esc_manifest.proofs.RowLeast as rows
@@ -117,7 +117,7 @@ shape text = let first = first_of_list has_other_length (records_of text) [] in 
 }
 
 -- M1
-few_low : (text : List ℕ) → length text ≤ most_bytes → length (records_of text) ≤ most_rows + 1 → (k s : ℕ) → k < 2 → IsFaultInText text k s → ⊥
+few_low : (text : List ℕ) → length text ≤ most_bytes → length (records_of text) ≤ most_manifest_rows + 1 → (k s : ℕ) → k < 2 → IsFaultInText text k s → ⊥
 few_low text bytes rows k s lt there = elim (not_below text k s (omega arith) there) [
   | inl one ↦ elim one.2 [ inl long ↦ absurd (omega arith) | inr many ↦ absurd (omega arith) ]
   | inr (inl two) ↦ absurd (omega (arith, two.0))
@@ -134,15 +134,15 @@ from_one text k s there = elim (cases_lt 1 k) [
   ]
 ]
 
-many : (text : List ℕ) → ((most_bytes < length text) ⊎ (most_rows + 1 < length (records_of text))) → LeastFrom (IsFaultInText text) 0 (Some (1, 0))
+many : (text : List ℕ) → ((most_bytes < length text) ⊎ (most_manifest_rows + 1 < length (records_of text))) → LeastFrom (IsFaultInText text) 0 (Some (1, 0))
 many text over = found (IsFaultInText text) 0 1 0 (inl (inl (refl, refl, over))) (λ k s le there. from_one text k s there)
 
 records_least : (text : List ℕ) → length text ≤ most_bytes → LeastFrom (IsFaultInText text) 0 (records_fault (records_of text))
 unfolding records_fault
-records_least text bytes = elim (cases_Bool (nat_lt (most_rows + 1) (length (records_of text)))) [
-  | inl over ↦ let long : most_rows + 1 < length (records_of text) = grind (arith, nat_tests) in rw over (many text (inr long))
+records_least text bytes = elim (cases_Bool (nat_lt (most_manifest_rows + 1) (length (records_of text)))) [
+  | inl over ↦ let long : most_manifest_rows + 1 < length (records_of text) = grind (arith, nat_tests) in rw over (many text (inr long))
   | inr few ↦
-      let within : length (records_of text) ≤ most_rows + 1 = grind (arith, nat_tests) in
+      let within : length (records_of text) ≤ most_manifest_rows + 1 = grind (arith, nat_tests) in
       rw few (lower (IsFaultInText text) 0 2 _ (λ k s le lt. few_low text bytes within k s lt)
       (step (IsFaultInText text) 2 3 (position has_other_length (records_of text)) (heading_or (lacks_heading (records_of text)) (below_chain text)) (omega arith) (λ k s more less. absurd (omega arith)) (shape text) (heading text (lacks_heading (records_of text)) refl)))
 ]

@@ -5,6 +5,6 @@ use Rattle.esc_manifest.specs.declared.fault.MFault.{MFault}
 use Rattle.esc_manifest.specs.declared.fault.MFault.TheVariants.{Refused, NoMemory}
 
 -- the text of a fault: `M`, its number, and its row; or the words for out of memory
-abbrev pub fault_text : MFault → List ℕ
-fault_text (Refused code row) = 77 ∷ (decimal code ++ (codes " row " ++ decimal row))
-fault_text NoMemory = codes "out of memory"
+abbrev pub manifest_fault_text : MFault → List ℕ
+manifest_fault_text (Refused code row) = 77 ∷ (decimal code ++ (codes " row " ++ decimal row))
+manifest_fault_text NoMemory = codes "out of memory"

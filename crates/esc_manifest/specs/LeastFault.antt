@@ -39,7 +39,7 @@ use Rattle.esc_manifest.specs.Manifest.{
   lacks_digest,
 }
 use Rattle.esc_manifest.specs.RowFaults.{
-  most_rows,
+  most_manifest_rows,
   has_bad_id,
   has_bad_watermark,
   lacks_prev,
@@ -74,7 +74,7 @@ has_fault m code r =
 -- rows have this fault: M1 of the whole, at row 0, or another one at a row counted from 1
 abbrev pub IsManifestFault : List MRow → ℕ → ℕ → Type 0
 IsManifestFault m code row =
-    ((code ≡ 1) × (row ≡ 0) × (most_rows < length m))
+    ((code ≡ 1) × (row ≡ 0) × (most_manifest_rows < length m))
     ⊎ ((r : ℕ) × (r < length m) × (row ≡ suc r) × (has_fault m code r ≡ true))
 
 -- the least fault of rows
@@ -105,7 +105,7 @@ is_faulty fields code =
 abbrev pub IsFaultAbove : List ℕ → ℕ → ℕ → Type 0
 IsFaultAbove text code row =
     ((code ≡ 1) × (row ≡ 0)
-    × ((most_bytes < length text) ⊎ (most_rows + 1 < length (records_of text))))
+    × ((most_bytes < length text) ⊎ (most_manifest_rows + 1 < length (records_of text))))
     ⊎ ((code ≡ 2) × (row < length (records_of text))
     × (has_other_length (record_at (records_of text) row) ≡ true))
     ⊎ ((code ≡ 3) × (row ≡ 0) × (lacks_heading (records_of text) ≡ true))

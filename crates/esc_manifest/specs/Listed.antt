@@ -1,5 +1,5 @@
--- Which row lists a body, and whether a deposit is the one that a row lists (this project's profile;
--- the comparison is with what RFC 8909 has a deposit say of itself).
+-- Which row lists a body, and whether a deposit is the one that a row lists (this project's
+-- profile; the comparison is with what RFC 8909 has a deposit say of itself).
 use Rattle.std.specs.Prelude.{ℕ, Bool, ◌&&◌, ◌||◌, ◌==◌, not, List, position, Option}
 use Rattle.std.specs.Str.{bytes_eq}
 use Rattle.esc_envelope.specs.HeaderValue.{HeaderValue}
@@ -15,5 +15,5 @@ as_listed row d = bytes_eq row.id d.id
     && (not (is_diff row.place.kind) || same_prev row.prev d.prev)))
 
 -- the first row with this digest, if any
-abbrev pub row_of : List MRow → List ℕ → Option ℕ
-row_of m digest = position (λ row. bytes_eq row.digest digest) m
+abbrev pub row_with_digest : List MRow → List ℕ → Option ℕ
+row_with_digest m digest = position (λ row. bytes_eq row.digest digest) m

@@ -14,7 +14,7 @@ ghost use Rattle.std.specs.Prelude.{
 };
 ghost use Rattle.esc_csv.specs.Records.{records_of};
 ghost use Rattle.esc_manifest.specs.declared.fault.MFault.TheVariants as MFault;
-ghost use Rattle.esc_manifest.specs.RowFaults.{most_rows};
+ghost use Rattle.esc_manifest.specs.RowFaults.{most_manifest_rows};
 
 use crate::fault::MFault;
 use crate::rows::MOST_LISTED_ROWS;
@@ -27,12 +27,12 @@ fn push_all(
     unread: &mut Records<'_>,
     records: &mut Vec<Record>,
 ) -> Result<(), MFault>
-    requires { length records.old.items ≤ most_rows + 1 }
+    requires { length records.old.items ≤ most_manifest_rows + 1 }
     ensures all { OnOk result (records.new.items ≡ records.old.items ++ unread.old) }
-    ensures few { OnOk result (length records.new.items ≤ most_rows + 1) }
+    ensures few { OnOk result (length records.new.items ≤ most_manifest_rows + 1) }
     ensures refused { (code row : ℕ) → result ≡ Err (MFault.Refused code row)
         → (code ≡ 1) × (row ≡ 0)
-        × (most_rows + 1 < length (records.old.items ++ unread.old)) }
+        × (most_manifest_rows + 1 < length (records.old.items ++ unread.old)) }
 {
     let mut fields = Record::new(alloc);
     while unread.next(&mut fields)? {
@@ -48,9 +48,9 @@ fn push_all(
 /// The records of a text, with the heading; M1 if there are more than a heading and 4,096 rows.
 pub(crate) fn read_records(alloc: Global, text: &[u8]) -> Result<Vec<Record>, MFault>
     ensures all { IfOk result (λ v. v.items ≡ records_of text.now) }
-    ensures few { IfOk result (λ v. length v.items ≤ most_rows + 1) }
+    ensures few { IfOk result (λ v. length v.items ≤ most_manifest_rows + 1) }
     ensures refused { (code row : ℕ) → result ≡ Err (MFault.Refused code row)
-        → (code ≡ 1) × (row ≡ 0) × (most_rows + 1 < length (records_of text.now)) }
+        → (code ≡ 1) × (row ≡ 0) × (most_manifest_rows + 1 < length (records_of text.now)) }
 {
     let mut unread = Records::of(alloc, text);
     let mut records = Vec::new(alloc);

@@ -18,7 +18,7 @@ use Rattle.esc_pack.specs.Bundling.{AreSectionsOf}
 use Rattle.esc_pack.specs.declared.bundle_fault.BundleFault.{BundleFault}
 use Rattle.esc_pack.specs.declared.bundle_fault.BundleFault.TheVariants.{Refused, Unmatched, Heading, Row, Marked, NoMemory}
 use Rattle.esc_pack.specs.GivenRows.{GivenTable, has_width}
-use Rattle.esc_pack.specs.BundleRefusals.{of_fault, OrNoMemory, is_row, IsFileRefusal, IsTableRefusal, IsTablesRefusal, IsSectionsRefusal, IsBundleRefusal}
+use Rattle.esc_pack.specs.BundleRefusals.{of_fault, OrNoMemory, is_table_row, IsFileRefusal, IsTableRefusal, IsTablesRefusal, IsSectionsRefusal, IsBundleRefusal}
 use Rattle.esc_pack.proofs.SectionFacts.{IsFile}
 
 -- another reason for the same refusal
@@ -43,7 +43,7 @@ drop_next (y ∷ ys) (suc k) e =
     (more.0, rw one_more more.1)
 
 -- a row that isn't broken has its width
-pub wide : (width : ℕ) (fields : Line) → 0 < width → is_row width fields ≡ true → has_width width fields ≡ true
+pub wide : (width : ℕ) (fields : Line) → 0 < width → is_table_row width fields ≡ true → has_width width fields ≡ true
 wide width fields some right =
     let many = (and_parts (length fields == width) (list_all is_utf8 fields) right).0 in
     rw many (grind (arith, nat_tests))

@@ -14,7 +14,7 @@ use Rattle.esc_envelope.specs.Members.{if_id, id_if_any, type_name, type_named}
 use Rattle.esc_manifest.specs.declared.row.MRow.{MRow}
 use Rattle.esc_manifest.specs.Fields.{resend_of, row_of}
 use Rattle.esc_manifest.specs.Manifest.{lacks_id, lacks_type, lacks_watermark, lacks_resend, lacks_digest, is_diff_alone}
-use Rattle.esc_pack.specs.Written.{resend_field, row_line, IsLegible}
+use Rattle.esc_pack.specs.Written.{resend_field, manifest_line, IsLegible}
 
 id_read : (id : List ℕ) → IsTrue (is_id id) → if_id id ≡ Some id
 id_read id good = rw good refl
@@ -54,12 +54,12 @@ resend_read n few =
 
 -- each field of a row's line reads, and the line as the row
 pub record Reads (r : MRow) : Type 0 where
-  pub id : lacks_id (row_line r) ≡ false
-  pub kind : lacks_type (row_line r) ≡ false
-  pub watermark : lacks_watermark (row_line r) ≡ false
-  pub resend : lacks_resend (row_line r) ≡ false
-  pub digest : lacks_digest (row_line r) ≡ false
-  pub row : row_of (row_line r) ≡ Some r
+  pub id : lacks_id (manifest_line r) ≡ false
+  pub kind : lacks_type (manifest_line r) ≡ false
+  pub watermark : lacks_watermark (manifest_line r) ≡ false
+  pub resend : lacks_resend (manifest_line r) ≡ false
+  pub digest : lacks_digest (manifest_line r) ≡ false
+  pub row : row_of (manifest_line r) ≡ Some r
 
 pub row_reads : (r : MRow) → IsTrue (is_id r.header.id) → HasIdOrNone r.header.prev → r.header.resend ≤ 999999 → IsLegible r
     → Reads r
@@ -80,7 +80,7 @@ row_reads r good prev_good few legible =
 
 -- a Differential has its prevId
 pub not_alone : (r : MRow) → HasIdOrNone r.header.prev → (r.header.place.kind ≡ Diff → IsSome r.header.prev)
-    → is_diff_alone (row_line r) ≡ false
+    → is_diff_alone (manifest_line r) ≡ false
 not_alone r = alone r.header.place.kind r.header.prev
   where
     alone : (kind : DepositType) (prev : Option (List ℕ)) → HasIdOrNone prev → (kind ≡ Diff → IsSome prev)

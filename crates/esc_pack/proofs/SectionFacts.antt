@@ -22,7 +22,7 @@ use Rattle.esc_envelope.specs.EnvelopeValue.{TableValue, EnvelopeValue}
 use Rattle.esc_envelope.specs.Envelope.{envelope_of}
 use Rattle.esc_tables.specs.DepositValue.{DepositValue}
 use Rattle.esc_tables.specs.TableRow.{bytes_named, table_rows, in_table, rows_in, are_filed}
-use Rattle.esc_tables.specs.Reading.{check_rows, tables_of, deposit_of, deposit_in, sections_deposit, reading}
+use Rattle.esc_tables.specs.Reading.{check_rows, tables_of, deposit_of_files, deposit_in, sections_deposit, reading}
 use Rattle.esc_pack.specs.GivenRows.{GivenTable, given_rows, file_rows, has_width, IsReadBack}
 use Rattle.esc_pack.specs.Bundling.{section_of, sections_of}
 
@@ -235,16 +235,16 @@ passed (Ok u) (Err n) x y e = absurd cc
 passed (Err m) b x y e = absurd cc
 
 only_deposit : (files : List Named) (e : EnvelopeValue) (d : DepositValue) → deposit_in files e ≡ Ok d
-    → deposit_in files e ≡ Ok (deposit_of files e)
+    → deposit_in files e ≡ Ok (deposit_of_files files e)
 unfolding deposit_in
 only_deposit files e d read =
     let filed = check (are_filed files (tables_of e)) 8 in
-    passed filed (check_rows (rows_in files (tables_of e))) (deposit_of files e) d read
+    passed filed (check_rows (rows_in files (tables_of e))) (deposit_of_files files e) d read
 
 -- a body that reads is the deposit of its files and its envelope
 pub read_as : (body : List ℕ) {first : Named} {files : List Named} {e : EnvelopeValue} {d : DepositValue}
     → frame body ≡ Ok (first ∷ files) → envelope_of first.bytes ≡ Ok e → reading body ≡ Ok d
-    → reading body ≡ Ok (deposit_of files e)
+    → reading body ≡ Ok (deposit_of_files files e)
 unfolding reading sections_deposit
 read_as body {first} {files} {e} {d} framed told read =
     let same : reading body ≡ deposit_in files e = rw (framed, told) refl in

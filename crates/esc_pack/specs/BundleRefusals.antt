@@ -54,13 +54,13 @@ OrNoMemory P NoMemory = Unit {0}
 OrNoMemory P e = P e
 
 -- whether a row has so many fields, each of them UTF-8
-abbrev pub is_row : ℕ → Line → Bool
-is_row width fields = (length fields == width) && list_all is_utf8 fields
+abbrev pub is_table_row : ℕ → Line → Bool
+is_table_row width fields = (length fields == width) && list_all is_utf8 fields
 
 -- the row of this number, counted from 1, has another number of fields, or one that is no UTF-8
 abbrev pub IsBrokenAt : ℕ → List Line → ℕ → Type 0
 IsBrokenAt width rows number = (k : ℕ) × (fields : Line)
-    × (number ≡ k + 1) × (slice_get rows k ≡ Some fields) × (is_row width fields ≡ false)
+    × (number ≡ k + 1) × (slice_get rows k ≡ Some fields) × (is_table_row width fields ≡ false)
 
 -- why the rows of a file are refused: one of them is broken
 abbrev pub IsRowRefusal : ℕ → List Line → ℕ → ℕ → BundleFault → Type 0

@@ -6,7 +6,7 @@ use Rattle.esc_csv.specs.Lines.{text_of}
 use Rattle.esc_envelope.specs.EnvelopeValue.{TableValue, EnvelopeValue}
 use Rattle.esc_envelope.specs.Envelope.{envelope_of}
 use Rattle.esc_tables.specs.TableRow.{table_rows, in_table}
-use Rattle.esc_tables.specs.Reading.{tables_of, deposit_of, reading}
+use Rattle.esc_tables.specs.Reading.{tables_of, deposit_of_files, reading}
 use Rattle.esc_pack.specs.GivenRows.{GivenTable, given_rows, IsHeaded, IsReadBack}
 
 -- the section of a table: the text of the rows that its files have
@@ -50,4 +50,4 @@ pub record IsBundleOf (description : List ℕ) (given : List GivenTable) (body :
   pub rows : map (table_rows (sections_of (tables_of envelope) given)) (tables_of envelope)
       ≡ map (λ p. map (in_table p.0) (given_rows p.1)) (zip (tables_of envelope) given)
   pub read : reading body
-      ≡ Ok (deposit_of (sections_of (tables_of envelope) given) envelope)
+      ≡ Ok (deposit_of_files (sections_of (tables_of envelope) given) envelope)

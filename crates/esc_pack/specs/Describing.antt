@@ -102,21 +102,22 @@ abbrev pub if_fields_of : KnownTable → Line → Option Line
 if_fields_of k fields = if are_fields_of k fields then Some fields else None
 
 -- the fields that a row has as the heading of a table, by the desk's names, if it is one
-abbrev pub heading_of : KnownTable → Line → Option Line
-heading_of k row = if list_all is_utf8 row
+abbrev pub heading_fields : KnownTable → Line → Option Line
+heading_fields k row = if list_all is_utf8 row
     then if_fields_of k (map (desk_field (table_name k)) row) else None
 
 -- the fields of a file of a table, if it is one and begins with a heading
 abbrev pub heading_in : KnownTable → FileValue → Option Line
-heading_in k f = if is_file_of (file_stem k) f.name then heading_of k (first_row f.bytes) else None
+heading_in k f =
+    if is_file_of (file_stem k) f.name then heading_fields k (first_row f.bytes) else None
 
 abbrev pub first : List Line → Option Line
 first [] = None
 first (line ∷ _) = Some line
 
 -- the fields of a table: those of its first file with a heading
-abbrev pub fields_in : List FileValue → KnownTable → Option Line
-fields_in files k = first (filter_map (heading_in k) files)
+abbrev pub table_fields : List FileValue → KnownTable → Option Line
+table_fields files k = first (filter_map (heading_in k) files)
 
 -- whether two lists of names are the same
 abbrev pub are_same : Line → Line → Bool
@@ -145,7 +146,7 @@ draft_of files k = option_map (λ fields. record {
   table = k;
   fields = fields;
   files = filter_map (name_in k fields) files;
-}) (fields_in files k)
+}) (table_fields files k)
 
 -- whether a declared table has the name and the kind of a known one
 abbrev pub is_known_as : KnownTable → TableValue → Bool
@@ -156,13 +157,13 @@ abbrev pub has_role : KnownTable → TableValue → Bool
 has_role k t = if t.parent then is_parent k else not (is_parent k)
 
 -- whether its key is one of that one's
-abbrev pub has_key : KnownTable → TableValue → Bool
-has_key k t = is_key k (get_or t.fields t.key [])
+abbrev pub has_known_key : KnownTable → TableValue → Bool
+has_known_key k t = is_key k (get_or t.fields t.key [])
 
 -- whether a table is declared as proposed
-abbrev pub is_declared : DraftValue × TableValue → Bool
-is_declared p = is_known_as p.0.table p.1
-    && (has_role p.0.table p.1 && (has_key p.0.table p.1 && are_same p.1.fields p.0.fields))
+abbrev pub is_declared_draft : DraftValue × TableValue → Bool
+is_declared_draft p = is_known_as p.0.table p.1
+    && (has_role p.0.table p.1 && (has_known_key p.0.table p.1 && are_same p.1.fields p.0.fields))
 
 -- whether the files of a table are named as proposed, with headings
 abbrev pub is_filed : DraftValue × SourceValue → Bool
@@ -172,7 +173,7 @@ is_filed p = p.1.has_heading && are_same p.1.files p.0.files
 abbrev pub are_proposed : List DraftValue → List TableValue → List SourceValue → Bool
 are_proposed drafts tables sources =
     ((length tables == length drafts) && (length sources == length drafts))
-    && (list_all is_declared (zip drafts tables) && list_all is_filed (zip drafts sources))
+    && (list_all is_declared_draft (zip drafts tables) && list_all is_filed (zip drafts sources))
 
 -- why a file with this heading, if it has one, isn't in its table, whose fields are these, if any
 abbrev pub why_apart : Option Line → Option Line → Option Why
@@ -183,7 +184,7 @@ why_apart (Some heading) fields =
 -- the same for the table that its name stands for, if any
 abbrev pub why_of : List FileValue → FileValue → Option KnownTable → Option Why
 why_of files f None = Some Name
-why_of files f (Some k) = why_apart (heading_of k (first_row f.bytes)) (fields_in files k)
+why_of files f (Some k) = why_apart (heading_fields k (first_row f.bytes)) (table_fields files k)
 
 -- the file as one that isn't named, if it isn't
 abbrev pub unknown_of : List FileValue → FileValue → Option UnknownValue

@@ -10,7 +10,7 @@ use Rattle.esc_tables.specs.DepositValue.{DepositValue}
 use Rattle.esc_tables.specs.Reading.{reading}
 use Rattle.esc_manifest.specs.declared.row.MRow.{MRow}
 use Rattle.esc_manifest.specs.Extension.{same_prev}
-use Rattle.esc_manifest.specs.Listed.{as_listed, row_of}
+use Rattle.esc_manifest.specs.Listed.{as_listed, row_with_digest}
 use Rattle.esc_manifest.specs.ManifestRows.{row_at}
 use Rattle.esc_manifest.specs.RowFaults.{is_diff}
 use Rattle.esc_pack.specs.declared.forecast.Forecast.{Forecast}
@@ -28,41 +28,43 @@ abbrev pub said : Result DepositValue ℕ → Result HeaderValue ℕ
 said (Ok d) = Ok d.header
 said (Err n) = Err n
 
--- what is found at row r of a deposit with this header
-abbrev pub compared : List MRow → ℕ → HeaderValue → Forecast
-compared m r h = if as_listed (row_at m r).header h then Holding r else Differing r h
+-- what is found of a deposit with this header at row r
+abbrev pub header_forecast : List MRow → ℕ → HeaderValue → Forecast
+header_forecast m r h = if as_listed (row_at m r).header h then Holding r else Differing r h
 
 -- the same of a deposit, or of the refusal of a body that is none
-abbrev pub found : List MRow → ℕ → Result HeaderValue ℕ → Forecast
-found m r (Ok h) = compared m r h
-found m r (Err n) = Unreadable r n
+abbrev pub row_forecast : List MRow → ℕ → Result HeaderValue ℕ → Forecast
+row_forecast m r (Ok h) = header_forecast m r h
+row_forecast m r (Err n) = Unreadable r n
 
-abbrev pub found_at : List MRow → Option ℕ → Result HeaderValue ℕ → Forecast
-found_at m None h = Unlisted h
-found_at m (Some r) h = found m r h
+-- the same where a row has the body's SHA-256, or none has
+abbrev pub forecast_at : List MRow → Option ℕ → Result HeaderValue ℕ → Forecast
+forecast_at m None h = Unlisted h
+forecast_at m (Some r) h = row_forecast m r h
 
 -- what is found of a body: the first row with its SHA-256, if any, and how what it says of itself
 -- compares with that
 abbrev pub forecast : List MRow → List ℕ → Forecast
-forecast m body = found_at m (row_of m (sha256 body)) (said (reading body))
+forecast m body = forecast_at m (row_with_digest m (sha256 body)) (said (reading body))
 
-abbrev pub is_row : ℕ → Option ℕ → Bool
-is_row r None = false
-is_row r (Some q) = q == r
+-- whether there is a row, and it is row r
+abbrev pub is_at_row : ℕ → Option ℕ → Bool
+is_at_row r None = false
+is_at_row r (Some q) = q == r
 
 -- the row that lists the body, if any
-abbrev pub listed_row : Forecast → Option ℕ
-listed_row (Unlisted h) = None
-listed_row (Unreadable r n) = Some r
-listed_row (Differing r h) = Some r
-listed_row (Holding r) = Some r
+abbrev pub forecast_listed_row : Forecast → Option ℕ
+forecast_listed_row (Unlisted h) = None
+forecast_listed_row (Unreadable r n) = Some r
+forecast_listed_row (Differing r h) = Some r
+forecast_listed_row (Holding r) = Some r
 
 -- the row whose deposit the body is, if any
-abbrev pub held_row : Forecast → Option ℕ
-held_row (Unlisted h) = None
-held_row (Unreadable r n) = None
-held_row (Differing r h) = None
-held_row (Holding r) = Some r
+abbrev pub forecast_held_row : Forecast → Option ℕ
+forecast_held_row (Unlisted h) = None
+forecast_held_row (Unreadable r n) = None
+forecast_held_row (Differing r h) = None
+forecast_held_row (Holding r) = Some r
 
 -- what a header and a row can differ in
 unfoldable pub members : List Member

@@ -20,7 +20,7 @@ use Rattle.std.specs.List.{flat_map, list_all, zip}
 use Rattle.esc_csv.specs.Lines.{Line, text_of}
 use Rattle.esc_csv.specs.Records.{records_of}
 use Rattle.esc_envelope.specs.EnvelopeValue.{TableValue}
-use Rattle.esc_pack.specs.KnownFields.{is_named}
+use Rattle.esc_pack.specs.KnownFields.{names_field}
 
 -- the files of a table, and whether each begins with a heading row
 pub record GivenTable : Type 0 where
@@ -37,14 +37,14 @@ given_rows t = flat_map (file_rows t.has_heading) t.files
 
 -- whether a row names the declared fields of a table in their order, each by its own name or by that
 -- of the CSV model
-abbrev pub is_heading : TableValue → Line → Bool
-is_heading t row =
-    (length row == length t.fields) && list_all (is_named t.name) (zip row t.fields)
+abbrev pub is_table_heading : TableValue → Line → Bool
+is_table_heading t row =
+    (length row == length t.fields) && list_all (names_field t.name) (zip row t.fields)
 
 -- a file begins with a heading of a declared table
 abbrev pub IsHeaded : TableValue → List ℕ → Type 0
 IsHeaded t text = (row : Line)
-    × (take 1 (records_of text) ≡ row ∷ []) × (is_heading t row ≡ true)
+    × (take 1 (records_of text) ≡ row ∷ []) × (is_table_heading t row ≡ true)
 
 -- whether a row has so many fields, and some
 abbrev pub has_width : ℕ → Line → Bool

@@ -57,20 +57,20 @@ desk_name HostName = codes "hostName"
 
 -- whether a table of this name has the field by this name: elsewhere `fId` is a contact's own, and
 -- `fHostName` a host's
-abbrev pub is_in : KnownField → List ℕ → Bool
-is_in ClId table = true
-is_in Registrant table = true
-is_in IdnTableId table = true
-is_in CrDate table = true
-is_in ExDate table = true
-is_in Status table = true
-is_in ContactId table = bytes_eq table (codes "domainContacts")
-is_in HostName table = bytes_eq table (codes "domainNs")
+abbrev pub is_field_of : KnownField → List ℕ → Bool
+is_field_of ClId table = true
+is_field_of Registrant table = true
+is_field_of IdnTableId table = true
+is_field_of CrDate table = true
+is_field_of ExDate table = true
+is_field_of Status table = true
+is_field_of ContactId table = bytes_eq table (codes "domainContacts")
+is_field_of HostName table = bytes_eq table (codes "domainNs")
 
 -- the field that a name in a heading of a table stands for
 abbrev pub known_field : List ℕ → List ℕ → Option KnownField
 known_field table name =
-    find (λ k. is_in k table && bytes_eq (model_name k) name) known_fields
+    find (λ k. is_field_of k table && bytes_eq (model_name k) name) known_fields
 
 -- the name by which the desk knows a field, if any does
 abbrev pub desk_name_or : List ℕ → Option KnownField → List ℕ
@@ -82,5 +82,5 @@ abbrev pub desk_field : List ℕ → List ℕ → List ℕ
 desk_field table name = desk_name_or name (known_field table name)
 
 -- whether a name in a heading of a table is that of a declared field, or stands for it
-abbrev pub is_named : List ℕ → List ℕ × List ℕ → Bool
-is_named table p = bytes_eq p.0 p.1 || bytes_eq (desk_field table p.0) p.1
+abbrev pub names_field : List ℕ → List ℕ × List ℕ → Bool
+names_field table p = bytes_eq p.0 p.1 || bytes_eq (desk_field table p.0) p.1

@@ -22,9 +22,10 @@ IsUnlisted m code row =
     ⊎ ((code ≡ 1) × (row ≡ 0) × (most_bytes < length (manifest_text m)))
 
 -- why there is no manifest of these rows
-abbrev pub IsRefused : List MRow → ReleaseFault → Type 0
-IsRefused rows (Unlisted code row) = (m : List MRow) × IsOrdered rows m × IsUnlisted m code row
-IsRefused rows NoMemory = Unit {0}
+abbrev pub IsManifestRefusal : List MRow → ReleaseFault → Type 0
+IsManifestRefusal rows (Unlisted code row) =
+    (m : List MRow) × IsOrdered rows m × IsUnlisted m code row
+IsManifestRefusal rows NoMemory = Unit {0}
 
 -- rows in order have a fault, or memory was refused; there is no other reason
 abbrev pub UnlistedAlone : List MRow → ReleaseFault → Type 0

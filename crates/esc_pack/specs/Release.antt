@@ -23,8 +23,8 @@ abbrev pub comes_before : MRow → MRow → Bool
 comes_before a b = is_lt (row_cmp a b)
 
 -- a body adds its row to these rows
-abbrev pub Adds : List ℕ → List MRow → List MRow → Type 0
-Adds body before after =
+abbrev pub AddsRow : List ℕ → List MRow → List MRow → Type 0
+AddsRow body before after =
     (row : MRow) × (row_of_body body ≡ Ok row) × (after ≡ before ++ row ∷ [])
 
 -- the same rows, in order

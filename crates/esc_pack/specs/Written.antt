@@ -10,8 +10,8 @@ use Rattle.esc_manifest.specs.Fields.{moment_of, digest_of}
 use Rattle.esc_manifest.specs.declared.row.MRow.{MRow}
 
 -- the names of the six fields
-abbrev pub heading : Line
-heading =
+abbrev pub manifest_heading : Line
+manifest_heading =
     codes "id" ∷ codes "type" ∷ codes "watermark" ∷ codes "prevId"
     ∷ codes "resend" ∷ codes "sha256" ∷ []
 
@@ -20,17 +20,17 @@ abbrev pub resend_field : ℕ → List ℕ
 resend_field n = if n == 0 then [] else decimal n
 
 -- the six fields of a row
-abbrev pub row_line : MRow → Line
-row_line r =
+abbrev pub manifest_line : MRow → Line
+manifest_line r =
     r.header.id ∷ type_name r.header.place.kind ∷ printed r.header.place.watermark
     ∷ unwrap_or r.header.prev [] ∷ resend_field r.header.resend ∷ encode_lower r.digest ∷ []
 
 abbrev pub rows_text : List MRow → List ℕ
-rows_text m = text_of (map row_line m)
+rows_text m = text_of (map manifest_line m)
 
 -- the heading, and a line for each row
 abbrev pub manifest_text : List MRow → List ℕ
-manifest_text m = line_text heading ++ rows_text m
+manifest_text m = line_text manifest_heading ++ rows_text m
 
 -- watermark and digest of a row are read from the fields that they are written in
 pub record IsLegible (r : MRow) : Type 0 where

@@ -5,15 +5,15 @@ ghost use Rattle.std.specs.List.{list_all, zip};
 ghost use Rattle.std.specs.Str.{bytes_eq};
 ghost use Rattle.esc_pack.specs.Describing.{
   heading_in,
-  fields_in,
+  table_fields,
   are_same,
   has_fields,
   name_in,
   draft_of,
   is_known_as,
   has_role,
-  has_key,
-  is_declared,
+  has_known_key,
+  is_declared_draft,
   is_filed,
   are_proposed,
   why_apart,
@@ -61,7 +61,7 @@ fn fields_in(
     files: &[FolderFile<'_>],
     table: KnownTable,
 ) -> Result<Option<Fields>, NoMemory>
-    ensures { IfOk result (λ fields. fields ≡ fields_in files.now table) }
+    ensures { IfOk result (λ fields. fields ≡ table_fields files.now table) }
 {
     for file in files {
         if let Some(heading) = heading_in(alloc, table, file)? {
@@ -254,7 +254,7 @@ fn has_role(known: KnownTable, table: &Table) -> bool
 
 // Whether its key is one of this one's.
 fn has_key(known: KnownTable, table: &Table) -> bool
-    ensures { result ≡ has_key known table.now }
+    ensures { result ≡ has_known_key known table.now }
 {
     known.is_key(table.fields[table.key].as_str())
 }
@@ -268,7 +268,7 @@ fn have_fields(fields: &Fields, table: &Table) -> bool
 
 // Whether a table is declared as proposed.
 fn is_declared(draft: &Draft, table: &Table) -> bool
-    ensures { result ≡ is_declared (draft.now, table.now) }
+    ensures { result ≡ is_declared_draft (draft.now, table.now) }
 {
     is_known_as(draft.table, table)
         && has_role(draft.table, table)
@@ -284,7 +284,7 @@ fn is_filed(draft: &Draft, source: &Source) -> bool
 }
 
 fn are_declared(drafts: &[Draft], tables: &[Table]) -> bool
-    ensures { result ≡ list_all is_declared (zip drafts.now tables.now) }
+    ensures { result ≡ list_all is_declared_draft (zip drafts.now tables.now) }
 {
     drafts
         .iter()

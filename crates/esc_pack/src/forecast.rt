@@ -6,12 +6,12 @@ ghost use Rattle.esc_tables.specs.Reading.{reading};
 ghost use Rattle.esc_manifest.specs.Listed.{as_listed};
 ghost use Rattle.esc_pack.specs.Forecasts.{
   said,
-  compared,
-  found,
+  header_forecast,
+  row_forecast,
   forecast,
-  is_row,
-  listed_row,
-  held_row,
+  is_at_row,
+  forecast_listed_row,
+  forecast_held_row,
   members,
   differs,
 };
@@ -64,7 +64,7 @@ fn header_of(alloc: Global, body: &[u8]) -> Result<Result<Header, u8>, NoMemory>
 // What is found at a row.
 fn found(rows: &[MRow], row: usize, said: Result<Header, u8>) -> Forecast
     requires { row < length rows.now }
-    ensures { result ≡ found rows.now row said }
+    ensures { result ≡ row_forecast rows.now row said }
 {
     match said {
         Ok(header) => compare(rows, row, header),
@@ -74,7 +74,7 @@ fn found(rows: &[MRow], row: usize, said: Result<Header, u8>) -> Forecast
 
 fn compare(rows: &[MRow], row: usize, header: Header) -> Forecast
     requires { row < length rows.now }
-    ensures { result ≡ compared rows.now row header }
+    ensures { result ≡ header_forecast rows.now row header }
 {
     if is_as_listed(&rows[row].header, &header) {
         Forecast::Holding(row)
@@ -116,7 +116,7 @@ pub fn differs(row: &Header, deposit: &Header, member: Member) -> bool
 impl Forecast {
     /// The row that lists the body, if any.
     pub fn listed_row(&self) -> Option<usize>
-        ensures { result ≡ listed_row self.now }
+        ensures { result ≡ forecast_listed_row self.now }
     {
         match self {
             Forecast::Unlisted(_) => None,
@@ -128,7 +128,7 @@ impl Forecast {
 
     /// The row whose deposit the body is, if any.
     pub fn held_row(&self) -> Option<usize>
-        ensures { result ≡ held_row self.now }
+        ensures { result ≡ forecast_held_row self.now }
     {
         match self {
             Forecast::Holding(row) => Some(*row),
@@ -139,7 +139,7 @@ impl Forecast {
 
 /// Whether a row lists one of these bodies.
 pub fn is_there(forecasts: &[Forecast], row: usize) -> bool
-    ensures { result ≡ list_any (λ f. is_row row (listed_row f)) forecasts.now }
+    ensures { result ≡ list_any (λ f. is_at_row row (forecast_listed_row f)) forecasts.now }
 {
     forecasts
         .iter()
@@ -148,7 +148,7 @@ pub fn is_there(forecasts: &[Forecast], row: usize) -> bool
 
 /// Whether one of these bodies is the deposit of a row: then one more is `again`.
 pub fn is_held(forecasts: &[Forecast], row: usize) -> bool
-    ensures { result ≡ list_any (λ f. is_row row (held_row f)) forecasts.now }
+    ensures { result ≡ list_any (λ f. is_at_row row (forecast_held_row f)) forecasts.now }
 {
     forecasts
         .iter()

@@ -17,7 +17,7 @@ ghost use Rattle.std.specs.Str.{bytes_eq, is_utf8};
 ghost use Rattle.esc_envelope.specs.Id.{is_id};
 ghost use Rattle.esc_pack.specs.KnownFields.{desk_field};
 ghost use Rattle.esc_pack.specs.KnownTables.{table_name, is_key};
-ghost use Rattle.esc_pack.specs.Describing.{first_row, if_fields_of, heading_of, heading_in};
+ghost use Rattle.esc_pack.specs.Describing.{first_row, if_fields_of, heading_fields, heading_in};
 
 use crate::known_field::desk_text;
 use crate::known_table::{KnownTable, is_file_of};
@@ -119,7 +119,7 @@ fn if_fields_of(table: KnownTable, names: Vec<String>) -> Option<Fields>
 
 // The fields that a row has as the heading of a table, if it is one.
 fn heading_of(alloc: Global, table: KnownTable, row: &Record) -> Result<Option<Fields>, NoMemory>
-    ensures { IfOk result (λ fields. fields ≡ heading_of table row.now) }
+    ensures { IfOk result (λ fields. fields ≡ heading_fields table row.now) }
 {
     if !row.is_text() {
         return Ok(None);
@@ -134,7 +134,7 @@ pub(crate) fn first_heading(
     table: KnownTable,
     bytes: &[u8],
 ) -> Result<Option<Fields>, NoMemory>
-    ensures { IfOk result (λ fields. fields ≡ heading_of table (first_row bytes.now)) }
+    ensures { IfOk result (λ fields. fields ≡ heading_fields table (first_row bytes.now)) }
 {
     let row = first_row(alloc, bytes)?;
     heading_of(alloc, table, &row)

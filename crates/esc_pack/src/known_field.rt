@@ -6,10 +6,10 @@ ghost use Rattle.std.specs.Str.{bytes_eq};
 ghost use Rattle.esc_pack.specs.KnownFields.{
   known_fields,
   model_name,
-  is_in,
+  is_field_of,
   known_field,
   desk_field,
-  is_named,
+  names_field,
 };
 
 /// A field by which the desk finds links, statuses or dates. In the heading of a file it may have
@@ -28,7 +28,7 @@ pub enum KnownField {
 
 impl KnownField {
     ghost use Rattle.std.specs.Prelude.{◌≡◌};
-    ghost use Rattle.esc_pack.specs.KnownFields.{model_name, desk_name, is_in};
+    ghost use Rattle.esc_pack.specs.KnownFields.{model_name, desk_name, is_field_of};
 
     /// All of them.
     pub const ALL: [KnownField; 8] = [
@@ -76,7 +76,7 @@ impl KnownField {
 
     /// Whether a table of this name has it under its name in the CSV model.
     pub fn is_in(self, table: &str) -> bool
-        ensures { result ≡ is_in self table.now }
+        ensures { result ≡ is_field_of self table.now }
     {
         match self {
             KnownField::ContactId => table == "domainContacts",
@@ -102,7 +102,7 @@ fn all_known() -> [KnownField; 8]
 // The first of these fields that a table has under this name.
 fn first_named<'a>(known: &'a [KnownField], table: &str, name: &[u8]) -> Option<&'a KnownField>
     ensures { option_map (λ k. k.now) result
-        ≡ find (λ k. is_in k table.now && bytes_eq (model_name k) name.now) known.now }
+        ≡ find (λ k. is_field_of k table.now && bytes_eq (model_name k) name.now) known.now }
 {
     known.iter().find(|field| field.is_in(table) && field.model_name().as_bytes() == name)
 }
@@ -140,7 +140,7 @@ pub(crate) fn desk_text<'a>(table: &str, name: &'a str) -> &'a str
 
 /// Whether a name in a heading of a table is that of a declared field, or stands for it.
 pub(crate) fn is_named(table: &str, name: &[u8], field: &[u8]) -> bool
-    ensures { result ≡ is_named table.now (name.now, field.now) }
+    ensures { result ≡ names_field table.now (name.now, field.now) }
 {
     name == field || desk_field(table, name) == field
 }

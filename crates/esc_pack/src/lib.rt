@@ -77,15 +77,15 @@
 //! (`IsBundleRefusal`): a refusal applies, at the table, file and row that it names. Which one is
 //! told where several apply, and when memory is refused, no clause says.
 //!
-//! `specs/Release.antt` says which row a bundle adds (`Adds`) and in which order rows are,
+//! `specs/Release.antt` says which row a bundle adds (`AddsRow`) and in which order rows are,
 //! `specs/Written.antt` what their text is, and `specs/Listing.antt` puts them together: a text that
 //! is given is the text of those rows, and `read_manifest` reads it as exactly those rows
-//! (`IsManifestOf`); a refusal applies to them (`IsRefused`), or memory was refused, of which the
-//! contract says nothing more.
+//! (`IsManifestOf`); a refusal applies to them (`IsManifestRefusal`), or memory was refused, of
+//! which the contract says nothing more.
 //!
 //! `specs/KnownTables.antt` says which tables are known by names, `specs/TableFiles.antt` which
 //! files a description names (`sources_of`): `read_sources` gives just these.
-//! `specs/KnownFields.antt` says which names fields may have in headings (`is_named`).
+//! `specs/KnownFields.antt` says which names fields may have in headings (`names_field`).
 //! `specs/Describing.antt` says what a proposal is (`IsProposalOf`): its text is read as an envelope
 //! and as files, table by table, just as the tables that are proposed (`draft_of`): each known table
 //! of which a file has a heading, with the fields of the first such file, and the names of all files
@@ -93,8 +93,9 @@
 //! reason.
 //!
 //! `specs/Forecasts.antt` says what is found of a body (`forecast`), by the definitions of the
-//! desk's own verdict: `reading` of `esc_tables`, `row_of` and `as_listed` of `esc_manifest`. No
-//! clause says that what `fault_spot` tells is right; it is tested against a plain model.
+//! desk's own verdict: `reading` of `esc_tables`, `row_with_digest` and `as_listed` of
+//! `esc_manifest`. No clause says that what `fault_spot` tells is right; it is tested against a
+//! plain model.
 #![tactic(auto)]
 
 mod bundle;

@@ -4,8 +4,8 @@ ghost use Rattle.std.specs.Prelude.{◌≡◌, ℕ, [], Ok, Err, None, OnOk, IfO
 ghost use Rattle.std.specs.List.Sorted.{IsPermutation, IsSortedBy};
 ghost use Rattle.esc_tables.specs.Reading.{reading};
 ghost use Rattle.esc_manifest.specs.RowFaults.{rows_fault};
-ghost use Rattle.esc_pack.specs.Release.{row_of_body, Adds, row_cmp, comes_before};
-ghost use Rattle.esc_pack.specs.Listing.{IsManifestOf, IsRefused, UnlistedAlone};
+ghost use Rattle.esc_pack.specs.Release.{row_of_body, AddsRow, row_cmp, comes_before};
+ghost use Rattle.esc_pack.specs.Listing.{IsManifestOf, IsManifestRefusal, UnlistedAlone};
 
 use crate::fault::ReleaseFault;
 use crate::written::manifest_text;
@@ -48,7 +48,7 @@ impl Release {
     /// bytes. At `Err` the release is as it was: `Refused` with 1 to 11 for U1 to U11, where it is
     /// no deposit, or `NoMemory`.
     pub fn read(&mut self, alloc: Global, body: &[u8]) -> Result<(), Fault>
-        ensures read { OnOk result (Adds body.now self.old self.new) }
+        ensures read { OnOk result (AddsRow body.now self.old self.new) }
         ensures unchanged { IfErr result (λ e. self.new ≡ self.old) }
         ensures refused { IfErr result (λ e. (n : ℕ) → e ≡ Fault.Refused n
             → reading body.now ≡ Err n) }
@@ -73,7 +73,7 @@ impl Release {
     /// `Unlisted`: no manifest can list these deposits. `NoMemory`.
     pub fn manifest(&self, alloc: Global) -> Result<Vec<u8>, ReleaseFault>
         ensures listed { IfOk result (λ text. IsManifestOf self.now text.items) }
-        ensures refused { IfErr result (IsRefused self.now) }
+        ensures refused { IfErr result (IsManifestRefusal self.now) }
     {
         let rows = copy_rows(alloc, self.rows.as_slice())?;
         let rows = in_order(rows)?;

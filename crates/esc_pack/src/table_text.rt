@@ -23,12 +23,12 @@ ghost use Rattle.csv.specs.Reading.{is_bom};
 ghost use Rattle.esc_csv.specs.Lines.{Line, line_text, text_of};
 ghost use Rattle.esc_csv.specs.Records.{IsUnmarked};
 ghost use Rattle.esc_pack.specs.GivenRows.{file_rows, given_rows, has_width};
-ghost use Rattle.esc_pack.specs.GivenRows.{is_heading, IsHeaded, IsReadBack};
-ghost use Rattle.esc_pack.specs.KnownFields.{is_named};
+ghost use Rattle.esc_pack.specs.GivenRows.{is_table_heading, IsHeaded, IsReadBack};
+ghost use Rattle.esc_pack.specs.KnownFields.{names_field};
 ghost use Rattle.esc_pack.specs.Bundling.{AreHeaded};
 ghost use Rattle.esc_pack.specs.BundleRefusals.{
   OrNoMemory,
-  is_row,
+  is_table_row,
   IsRowRefusal,
   IsFileRefusal,
   IsTableRefusal,
@@ -70,7 +70,7 @@ fn write_record(alloc: Global, lines: &mut Lines, line: &Record) -> Result<(), N
 
 // Whether a record has so many fields, all of them UTF-8.
 fn is_row(record: &Record, width: usize) -> bool
-    ensures { result ≡ is_row width record.now }
+    ensures { result ≡ is_table_row width record.now }
 {
     record.len() == width && record.is_text()
 }
@@ -108,7 +108,7 @@ fn write_rows(
 
 // Whether these names are those of the declared fields, as far as there are both.
 fn are_named(table: &str, names: &[&[u8]], fields: &[String]) -> bool
-    ensures { result ≡ list_all (λ p. is_named table.now (p.0.now, string_bytes p.1))
+    ensures { result ≡ list_all (λ p. names_field table.now (p.0.now, string_bytes p.1))
         (zip names.now fields.now) }
 {
     names
@@ -120,7 +120,7 @@ fn are_named(table: &str, names: &[&[u8]], fields: &[String]) -> bool
 // Whether there are as many, too.
 fn are_all_named(table: &str, names: &[&[u8]], fields: &[String]) -> bool
     ensures { result ≡ ((length names.now == length fields.now)
-        && list_all (λ p. is_named table.now (p.0.now, string_bytes p.1))
+        && list_all (λ p. names_field table.now (p.0.now, string_bytes p.1))
         (zip names.now fields.now)) }
 {
     names.len() == fields.len() && are_named(table, names, fields)
@@ -128,7 +128,7 @@ fn are_all_named(table: &str, names: &[&[u8]], fields: &[String]) -> bool
 
 // Whether a record is a heading of a table.
 fn is_heading(alloc: Global, table: &Table, line: &Record) -> Result<bool, NoMemory>
-    ensures { IfOk result (λ is. is ≡ is_heading table.now line.now) }
+    ensures { IfOk result (λ is. is ≡ is_table_heading table.now line.now) }
 {
     let names = fields_of(alloc, line)?;
     Ok(are_all_named(&table.name, &names, &table.fields))
@@ -137,9 +137,9 @@ fn is_heading(alloc: Global, table: &Table, line: &Record) -> Result<bool, NoMem
 // Reads a heading of a table, and returns whether there was one.
 fn skip_heading(alloc: Global, rows: &mut Records<'_>, table: &Table) -> Result<bool, NoMemory>
     ensures read { IfOk result (λ is. is ≡ true → (row : Line)
-        × (rows.old ≡ row ∷ rows.new) × (is_heading table.now row ≡ true)) }
+        × (rows.old ≡ row ∷ rows.new) × (is_table_heading table.now row ≡ true)) }
     ensures other { IfOk result (λ is. is ≡ false → (row : Line) → take 1 rows.old ≡ row ∷ []
-        → is_heading table.now row ≡ true → ⊥) }
+        → is_table_heading table.now row ≡ true → ⊥) }
 {
     let mut record = Record::new(alloc);
     if !rows.next(&mut record)? {

@@ -7,7 +7,7 @@ ghost use Rattle.esc_envelope.specs.Watermark.{IsInYears, watermark_text_of};
 ghost use Rattle.esc_csv.specs.Lines.{line_text};
 ghost use Rattle.esc_manifest.specs.Accepted.{IsAccepted};
 ghost use Rattle.esc_manifest.specs.Fields.{moment_of, digest_of};
-ghost use Rattle.esc_pack.specs.Written.{heading, resend_field, row_line, rows_text};
+ghost use Rattle.esc_pack.specs.Written.{manifest_heading, resend_field, manifest_line, rows_text};
 ghost use Rattle.esc_pack.specs.Written.{manifest_text, IsLegible};
 
 use esc_bundle::NoMemory;
@@ -53,7 +53,7 @@ fn prev_field(row: &MRow) -> &[u8]
 }
 
 fn write_heading(lines: &mut Lines) -> Result<(), NoMemory>
-    ensures { OnOk result (lines.new ≡ lines.old ++ line_text heading) }
+    ensures { OnOk result (lines.new ≡ lines.old ++ line_text manifest_heading) }
 {
     write_fields(
         lines,
@@ -83,7 +83,7 @@ fn write_fields<'x>(
 
 fn write_row(alloc: Global, lines: &mut Lines, row: &MRow) -> Result<(), NoMemory>
     requires { IsInYears row.now.header.place.watermark }
-    ensures written { OnOk result (lines.new ≡ lines.old ++ line_text (row_line row.now)) }
+    ensures written { OnOk result (lines.new ≡ lines.old ++ line_text (manifest_line row.now)) }
     ensures legible { OnOk result (IsLegible row.now) }
 {
     let watermark = moment_field(alloc, row.header.place.watermark)?;

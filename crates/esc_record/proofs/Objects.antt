@@ -12,8 +12,8 @@ use Rattle.std.proofs.lemmas.Option.{same_Some}
 use Rattle.esc_envelope.specs.Sequences.{◌>>=◌}
 use Rattle.esc_envelope.specs.SequenceLaws.{bound}
 use Rattle.esc_tables.specs.ObjectValue.{RowValue, ObjectValue}
-use Rattle.esc_record.specs.Record.{number_bytes, row_bytes, object_bytes, rows_of, is_small, is_small_cell, is_small_row, is_small_object, record_of, IsCellOfTexts, IsRowOfTexts, IsOfTexts}
-use Rattle.esc_record.specs.Reading.{cut, number_at, many, row_at, of_rows, object_of}
+use Rattle.esc_record.specs.Record.{number_bytes, row_bytes, object_bytes, object_rows, is_small, is_small_cell, is_small_row, is_small_object, record_of, IsCellOfTexts, IsRowOfTexts, IsOfTexts}
+use Rattle.esc_record.specs.Reading.{cut, number_in_front, many, row_in_front, of_rows, object_of_record}
 use Rattle.esc_record.proofs.Pieces.{AreBytes, IsGoodCell, IsGoodRow, number_again, number_takes, many_again, many_takes, row_again, row_takes}
 
 -- ---- which rows are good
@@ -79,17 +79,17 @@ small_rows is_text (r ∷ rs) all =
 -- ---- the rows of a record
 
 rows_at : (List ℕ → Bool) → List ℕ → Option (List RowValue × List ℕ)
-rows_at is_text bytes = number_at bytes >>= (λ n. many (row_at is_text) n.0 n.1)
+rows_at is_text bytes = number_in_front bytes >>= (λ n. many (row_in_front is_text) n.0 n.1)
 
-rows_again : (is_text : List ℕ → Bool) (o : ObjectValue) (more : List ℕ) → is_small_object o ≡ true → AllByRecursion (Passes is_text) (rows_of o) → rows_at is_text (object_bytes o ++ more) ≡ Some (rows_of o, more)
+rows_again : (is_text : List ℕ → Bool) (o : ObjectValue) (more : List ℕ) → is_small_object o ≡ true → AllByRecursion (Passes is_text) (object_rows o) → rows_at is_text (object_bytes o ++ more) ≡ Some (object_rows o, more)
 unfolding rows_at
 rows_again is_text o more small pass =
-    let a = and_parts (is_small (length (rows_of o))) (list_all is_small_row (rows_of o)) small in
-    let few : length (rows_of o) < 2 ^ 32 = let h = a.0 in grind (arith, nat_tests) in
-    let rows = flat_map row_bytes (rows_of o) in
-    let e : object_bytes o ++ more ≡ number_bytes (length (rows_of o)) ++ (rows ++ more) = append_assoc (number_bytes (length (rows_of o))) rows more in
-    ap (λ t. number_at t >>= (λ n. many (row_at is_text) n.0 n.1)) e
-    ∙ rw (number_again (length (rows_of o)) (rows ++ more) few) (many_again (row_at is_text) row_bytes (IsGoodRow is_text) (row_again is_text) (rows_of o) more (good_rows is_text (rows_of o) a.1 pass))
+    let a = and_parts (is_small (length (object_rows o))) (list_all is_small_row (object_rows o)) small in
+    let few : length (object_rows o) < 2 ^ 32 = let h = a.0 in grind (arith, nat_tests) in
+    let rows = flat_map row_bytes (object_rows o) in
+    let e : object_bytes o ++ more ≡ number_bytes (length (object_rows o)) ++ (rows ++ more) = append_assoc (number_bytes (length (object_rows o))) rows more in
+    ap (λ t. number_in_front t >>= (λ n. many (row_in_front is_text) n.0 n.1)) e
+    ∙ rw (number_again (length (object_rows o)) (rows ++ more) few) (many_again (row_in_front is_text) row_bytes (IsGoodRow is_text) (row_again is_text) (object_rows o) more (good_rows is_text (object_rows o) a.1 pass))
 
 record IsRecord (o : ObjectValue) (bytes : List ℕ) : Type 0 where
   small : is_small_object o ≡ true
@@ -102,7 +102,7 @@ record_is o bytes h = elim (cases_Bool (is_small_object o)) [
   | inr large ↦ let none : None ≡ Some bytes = rw large at h in absurd cc
 ]
 
-object_is : (o p : ObjectValue) → rows_of o ≡ rows_of p → o ≡ p
+object_is : (o p : ObjectValue) → object_rows o ≡ object_rows p → o ≡ p
 object_is o p h = let (a, b) : (o.parent ≡ p.parent) × (o.children ≡ p.children) = (cc, cc) in rw (a, b) refl
 
 -- no record begins another
@@ -110,21 +110,21 @@ pub alone : (o p : ObjectValue) (bytes more : List ℕ) → record_of o ≡ Some
 alone o p bytes more ho hp =
     let a = record_is o bytes ho in
     let b = record_is p (bytes ++ more) hp in
-    let first : rows_at any_text (bytes ++ more) ≡ Some (rows_of o, more) = ap (λ t. rows_at any_text (t ++ more)) (sym a.is) ∙ rows_again any_text o more a.small (all_pass (rows_of o)) in
-    let second : rows_at any_text (bytes ++ more) ≡ Some (rows_of p, []) = ap (rows_at any_text) (sym b.is ∙ sym (append-nil (object_bytes p))) ∙ rows_again any_text p [] b.small (all_pass (rows_of p)) in
-    let both : List RowValue × List ℕ = (rows_of o, more) in
-    let other : List RowValue × List ℕ = (rows_of p, []) in
+    let first : rows_at any_text (bytes ++ more) ≡ Some (object_rows o, more) = ap (λ t. rows_at any_text (t ++ more)) (sym a.is) ∙ rows_again any_text o more a.small (all_pass (object_rows o)) in
+    let second : rows_at any_text (bytes ++ more) ≡ Some (object_rows p, []) = ap (rows_at any_text) (sym b.is ∙ sym (append-nil (object_bytes p))) ∙ rows_again any_text p [] b.small (all_pass (object_rows p)) in
+    let both : List RowValue × List ℕ = (object_rows o, more) in
+    let other : List RowValue × List ℕ = (object_rows p, []) in
     let e : both ≡ other = same_Some _ _ (sym first ∙ second) in
     (ap (λ q. q.1) e, object_is o p (ap (λ q. q.0) e))
 
 -- the record of an object of texts is read as that object
-pub object_again : (o : ObjectValue) (bytes : List ℕ) → IsOfTexts o → record_of o ≡ Some bytes → object_of is_utf8 bytes ≡ Some o
-unfolding object_of rows_at
+pub object_again : (o : ObjectValue) (bytes : List ℕ) → IsOfTexts o → record_of o ≡ Some bytes → object_of_record is_utf8 bytes ≡ Some o
+unfolding object_of_record rows_at
 object_again o bytes texts h =
     let a = record_is o bytes h in
-    let rows : List RowValue × List ℕ = (rows_of o, []) in
-    let all : rows_at is_utf8 bytes ≡ Some rows = ap (rows_at is_utf8) (sym a.is ∙ sym (append-nil (object_bytes o))) ∙ rows_again is_utf8 o [] a.small (utf8_pass (rows_of o) texts) in
-    let b = bound (number_at bytes) (λ n. many (row_at is_utf8) n.0 n.1) rows all in
+    let rows : List RowValue × List ℕ = (object_rows o, []) in
+    let all : rows_at is_utf8 bytes ≡ Some rows = ap (rows_at is_utf8) (sym a.is ∙ sym (append-nil (object_bytes o))) ∙ rows_again is_utf8 o [] a.small (utf8_pass (object_rows o) texts) in
+    let b = bound (number_in_front bytes) (λ n. many (row_in_front is_utf8) n.0 n.1) rows all in
     rw (b.was, b.goes) refl
 
 nothing_left : (r : List ℕ) (p : List ℕ × List ℕ) → cut (length r) [] ≡ Some p → r ≡ []
@@ -134,34 +134,34 @@ nothing_left (x ∷ r) p h =
     let none : None ≡ Some p = rw short at h in
     absurd cc
 
-of_rows_is : (rows : List RowValue) (o : ObjectValue) → of_rows is_utf8 rows ≡ Some o → rows ≡ rows_of o
+of_rows_is : (rows : List RowValue) (o : ObjectValue) → of_rows is_utf8 rows ≡ Some o → rows ≡ object_rows o
 of_rows_is [] o h = absurd cc
-of_rows_is (r ∷ rs) o h = ap rows_of (same_Some _ _ h)
+of_rows_is (r ∷ rs) o h = ap object_rows (same_Some _ _ h)
 
 -- what is read as an object is its record
-pub object_takes : (bytes : List ℕ) (o : ObjectValue) → AreBytes bytes → object_of is_utf8 bytes ≡ Some o → record_of o ≡ Some bytes
-unfolding object_of record_of
+pub object_takes : (bytes : List ℕ) (o : ObjectValue) → AreBytes bytes → object_of_record is_utf8 bytes ≡ Some o → record_of o ≡ Some bytes
+unfolding object_of_record record_of
 object_takes bytes o are h =
-    let a = bound (number_at bytes) (λ n. many (row_at is_utf8) n.0 n.1 >>= (λ rows. cut (length rows.1) [] >>= (λ ends. of_rows is_utf8 rows.0))) o h in
-    let b = bound (many (row_at is_utf8) a.it.0 a.it.1) (λ rows. cut (length rows.1) [] >>= (λ ends. of_rows is_utf8 rows.0)) o a.goes in
+    let a = bound (number_in_front bytes) (λ n. many (row_in_front is_utf8) n.0 n.1 >>= (λ rows. cut (length rows.1) [] >>= (λ ends. of_rows is_utf8 rows.0))) o h in
+    let b = bound (many (row_in_front is_utf8) a.it.0 a.it.1) (λ rows. cut (length rows.1) [] >>= (λ ends. of_rows is_utf8 rows.0)) o a.goes in
     let d = bound (cut (length b.it.1) []) (λ ends. of_rows is_utf8 b.it.0) o b.goes in
     let n = number_takes bytes a.it are a.was in
-    let rows = many_takes (row_at is_utf8) row_bytes (IsGoodRow is_utf8) (row_takes is_utf8) a.it.0 a.it.1 b.it n.rest b.was in
+    let rows = many_takes (row_in_front is_utf8) row_bytes (IsGoodRow is_utf8) (row_takes is_utf8) a.it.0 a.it.1 b.it n.rest b.was in
     let ended : b.it.1 ≡ [] = nothing_left b.it.1 d.it d.was in
-    let are_rows : b.it.0 ≡ rows_of o = of_rows_is b.it.0 o d.goes in
-    let size : a.it.0 ≡ length (rows_of o) = sym rows.size ∙ ap length are_rows in
-    let good : AllByRecursion (IsGoodRow is_utf8) (rows_of o) = subst (AllByRecursion (IsGoodRow is_utf8)) are_rows rows.good in
-    let few : is_small (length (rows_of o)) ≡ true = let k = n.good in let s = size in grind (arith, nat_tests) in
-    let is : bytes ≡ object_bytes o = n.is ∙ (ap (λ m. number_bytes m ++ a.it.1) size ∙ ap (λ t. number_bytes (length (rows_of o)) ++ t) (rows.is ∙ (ap (λ t. flat_map row_bytes b.it.0 ++ t) ended ∙ (append-nil (flat_map row_bytes b.it.0) ∙ ap (flat_map row_bytes) are_rows)))) in
-    let small : is_small_object o ≡ true = rw (few, small_rows is_utf8 (rows_of o) good) refl in
+    let are_rows : b.it.0 ≡ object_rows o = of_rows_is b.it.0 o d.goes in
+    let size : a.it.0 ≡ length (object_rows o) = sym rows.size ∙ ap length are_rows in
+    let good : AllByRecursion (IsGoodRow is_utf8) (object_rows o) = subst (AllByRecursion (IsGoodRow is_utf8)) are_rows rows.good in
+    let few : is_small (length (object_rows o)) ≡ true = let k = n.good in let s = size in grind (arith, nat_tests) in
+    let is : bytes ≡ object_bytes o = n.is ∙ (ap (λ m. number_bytes m ++ a.it.1) size ∙ ap (λ t. number_bytes (length (object_rows o)) ++ t) (rows.is ∙ (ap (λ t. flat_map row_bytes b.it.0 ++ t) ended ∙ (append-nil (flat_map row_bytes b.it.0) ∙ ap (flat_map row_bytes) are_rows)))) in
+    let small : is_small_object o ≡ true = rw (few, small_rows is_utf8 (object_rows o) good) refl in
     rw small (ap Some (sym is))
 
-pub found_is : (r : Result (Option ObjectValue) NoMemory) (bytes : List ℕ) → AreBytes bytes → IfOk r (λ found. found ≡ object_of is_utf8 bytes) → IfOk r (λ found. IfSome found (λ o. record_of o ≡ Some bytes))
+pub found_is : (r : Result (Option ObjectValue) NoMemory) (bytes : List ℕ) → AreBytes bytes → IfOk r (λ found. found ≡ object_of_record is_utf8 bytes) → IfOk r (λ found. IfSome found (λ o. record_of o ≡ Some bytes))
 found_is (Ok None) bytes are h = tt
 found_is (Ok (Some o)) bytes are h = object_takes bytes o are (sym h)
 found_is (Err e) bytes are h = tt
 
-pub none_is : (r : Result (Option ObjectValue) NoMemory) (bytes : List ℕ) → IfOk r (λ found. found ≡ object_of is_utf8 bytes) → IfOk r (λ found. IfNone found ((o : ObjectValue) → IsOfTexts o → record_of o ≢ Some bytes))
+pub none_is : (r : Result (Option ObjectValue) NoMemory) (bytes : List ℕ) → IfOk r (λ found. found ≡ object_of_record is_utf8 bytes) → IfOk r (λ found. IfNone found ((o : ObjectValue) → IsOfTexts o → record_of o ≢ Some bytes))
 none_is (Ok None) bytes h = λ o texts is. let some : None ≡ Some o = h ∙ object_again o bytes texts is in absurd cc
 none_is (Ok (Some o)) bytes h = tt
 none_is (Err e) bytes h = tt

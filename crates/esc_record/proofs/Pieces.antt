@@ -13,7 +13,7 @@ use Rattle.esc_envelope.specs.Sequences.{◌>>=◌}
 use Rattle.esc_envelope.specs.SequenceLaws.{bound}
 use Rattle.esc_tables.specs.ObjectValue.{RowValue}
 use Rattle.esc_record.specs.Record.{number_bytes, text_bytes, cell_bytes, row_bytes}
-use Rattle.esc_record.specs.Reading.{cut, number_at, many, text_at, cell_at, row_at}
+use Rattle.esc_record.specs.Reading.{cut, number_in_front, many, text_in_front, cell_in_front, row_in_front}
 
 -- each element is a byte
 abbrev pub AreBytes : List ℕ → Type 0
@@ -59,7 +59,7 @@ cut_takes n bytes p h = elim (cases_Bool (nat_lt (length bytes) n)) [
 
 -- ---- numbers
 
-pub number_again : Again number_at number_bytes (λ n. n < 2 ^ 32)
+pub number_again : Again number_in_front number_bytes (λ n. n < 2 ^ 32)
 unfolding number_bytes
 number_again n rest small = rw (cut_again (to_be_bytes w32 n) rest 4 refl, from_be_bytes-to_be_bytes_4 n small) refl
 
@@ -72,7 +72,7 @@ short_bytes n bytes are i = elim (cases_lt i n) [
   | inr past ↦ let e : get_or (take n bytes) i 0 ≡ 0 = get_or_past (take n bytes) i 0 (let l = length-take n bytes in omega arith) in rw e (omega arith)
 ]
 
-pub number_takes : Takes number_at number_bytes (λ n. n < 2 ^ 32)
+pub number_takes : Takes number_in_front number_bytes (λ n. n < 2 ^ 32)
 unfolding number_bytes
 number_takes bytes p are h =
     let b = bound (cut 4 bytes) (λ q. Some (from_be_bytes w32 q.0, q.1)) p h in
@@ -125,14 +125,14 @@ many_takes {A} one text Good takes (suc n) bytes p are h =
 abbrev pub IsGoodText : (List ℕ → Bool) → List ℕ → Type 0
 IsGoodText is_text t = (length t < 2 ^ 32) × (is_text t ≡ true)
 
-pub text_again : (is_text : List ℕ → Bool) → Again (text_at is_text) text_bytes (IsGoodText is_text)
+pub text_again : (is_text : List ℕ → Bool) → Again (text_in_front is_text) text_bytes (IsGoodText is_text)
 text_again is_text t rest good =
     let e : text_bytes t ++ rest ≡ number_bytes (length t) ++ (t ++ rest) = append_assoc (number_bytes (length t)) t rest in
-    ap (text_at is_text) e ∙ rw (number_again (length t) (t ++ rest) good.0, cut_again t rest (length t) refl, good.1) refl
+    ap (text_in_front is_text) e ∙ rw (number_again (length t) (t ++ rest) good.0, cut_again t rest (length t) refl, good.1) refl
 
-pub text_takes : (is_text : List ℕ → Bool) → Takes (text_at is_text) text_bytes (IsGoodText is_text)
+pub text_takes : (is_text : List ℕ → Bool) → Takes (text_in_front is_text) text_bytes (IsGoodText is_text)
 text_takes is_text bytes p are h =
-    let a = bound (number_at bytes) (λ n. cut n.0 n.1 >>= (λ q. (if is_text q.0 then Some q.0 else None) >>= (λ t. Some (t, q.1)))) p h in
+    let a = bound (number_in_front bytes) (λ n. cut n.0 n.1 >>= (λ q. (if is_text q.0 then Some q.0 else None) >>= (λ t. Some (t, q.1)))) p h in
     let b = bound (cut a.it.0 a.it.1) (λ q. (if is_text q.0 then Some q.0 else None) >>= (λ t. Some (t, q.1))) p a.goes in
     let n = number_takes bytes a.it are a.was in
     let k = cut_takes a.it.0 a.it.1 b.it b.was in
@@ -150,17 +150,17 @@ text_takes is_text bytes p are h =
 abbrev pub IsGoodCell : (List ℕ → Bool) → List ℕ × List ℕ → Type 0
 IsGoodCell is_text cell = IsGoodText is_text cell.0 × IsGoodText is_text cell.1
 
-pub cell_again : (is_text : List ℕ → Bool) → Again (cell_at is_text) cell_bytes (IsGoodCell is_text)
-unfolding cell_at
+pub cell_again : (is_text : List ℕ → Bool) → Again (cell_in_front is_text) cell_bytes (IsGoodCell is_text)
+unfolding cell_in_front
 cell_again is_text c rest good =
     let e : cell_bytes c ++ rest ≡ text_bytes c.0 ++ (text_bytes c.1 ++ rest) = append_assoc (text_bytes c.0) (text_bytes c.1) rest in
-    ap (cell_at is_text) e ∙ rw (text_again is_text c.0 (text_bytes c.1 ++ rest) good.0, text_again is_text c.1 rest good.1) refl
+    ap (cell_in_front is_text) e ∙ rw (text_again is_text c.0 (text_bytes c.1 ++ rest) good.0, text_again is_text c.1 rest good.1) refl
 
-pub cell_takes : (is_text : List ℕ → Bool) → Takes (cell_at is_text) cell_bytes (IsGoodCell is_text)
-unfolding cell_at
+pub cell_takes : (is_text : List ℕ → Bool) → Takes (cell_in_front is_text) cell_bytes (IsGoodCell is_text)
+unfolding cell_in_front
 cell_takes is_text bytes p are h =
-    let a = bound (text_at is_text bytes) (λ f. text_at is_text f.1 >>= (λ v. Some ((f.0, v.0), v.1))) p h in
-    let b = bound (text_at is_text a.it.1) (λ v. Some ((a.it.0, v.0), v.1)) p a.goes in
+    let a = bound (text_in_front is_text bytes) (λ f. text_in_front is_text f.1 >>= (λ v. Some ((f.0, v.0), v.1))) p h in
+    let b = bound (text_in_front is_text a.it.1) (λ v. Some ((a.it.0, v.0), v.1)) p a.goes in
     let f = text_takes is_text bytes a.it are a.was in
     let v = text_takes is_text a.it.1 b.it f.rest b.was in
     let both : (List ℕ × List ℕ) × List ℕ = ((a.it.0, b.it.0), b.it.1) in
@@ -176,23 +176,23 @@ pub record IsGoodRow (is_text : List ℕ → Bool) (row : RowValue) : Type 0 whe
   pub few : length row.cells < 2 ^ 32
   pub cells : AllByRecursion (IsGoodCell is_text) row.cells
 
-pub row_again : (is_text : List ℕ → Bool) → Again (row_at is_text) row_bytes (IsGoodRow is_text)
-unfolding row_at
+pub row_again : (is_text : List ℕ → Bool) → Again (row_in_front is_text) row_bytes (IsGoodRow is_text)
+unfolding row_in_front
 row_again is_text r rest good =
     let cells = flat_map cell_bytes r.cells in
     let e : row_bytes r ++ rest ≡ text_bytes r.table ++ (number_bytes (length r.cells) ++ (cells ++ rest)) = append_assoc (text_bytes r.table) (number_bytes (length r.cells) ++ cells) rest ∙ ap (λ t. text_bytes r.table ++ t) (append_assoc (number_bytes (length r.cells)) cells rest) in
-    ap (row_at is_text) e
-    ∙ rw (text_again is_text r.table (number_bytes (length r.cells) ++ (cells ++ rest)) good.table, number_again (length r.cells) (cells ++ rest) good.few, many_again (cell_at is_text) cell_bytes (IsGoodCell is_text) (cell_again is_text) r.cells rest good.cells) refl
+    ap (row_in_front is_text) e
+    ∙ rw (text_again is_text r.table (number_bytes (length r.cells) ++ (cells ++ rest)) good.table, number_again (length r.cells) (cells ++ rest) good.few, many_again (cell_in_front is_text) cell_bytes (IsGoodCell is_text) (cell_again is_text) r.cells rest good.cells) refl
 
-pub row_takes : (is_text : List ℕ → Bool) → Takes (row_at is_text) row_bytes (IsGoodRow is_text)
-unfolding row_at
+pub row_takes : (is_text : List ℕ → Bool) → Takes (row_in_front is_text) row_bytes (IsGoodRow is_text)
+unfolding row_in_front
 row_takes is_text bytes p are h =
-    let a = bound (text_at is_text bytes) (λ t. number_at t.1 >>= (λ n. many (cell_at is_text) n.0 n.1 >>= (λ cs. Some (let row : RowValue = record { table = t.0; cells = cs.0 } in (row, cs.1))))) p h in
-    let b = bound (number_at a.it.1) (λ n. many (cell_at is_text) n.0 n.1 >>= (λ cs. Some (let row : RowValue = record { table = a.it.0; cells = cs.0 } in (row, cs.1)))) p a.goes in
-    let c = bound (many (cell_at is_text) b.it.0 b.it.1) (λ cs. Some (let row : RowValue = record { table = a.it.0; cells = cs.0 } in (row, cs.1))) p b.goes in
+    let a = bound (text_in_front is_text bytes) (λ t. number_in_front t.1 >>= (λ n. many (cell_in_front is_text) n.0 n.1 >>= (λ cs. Some (let row : RowValue = record { table = t.0; cells = cs.0 } in (row, cs.1))))) p h in
+    let b = bound (number_in_front a.it.1) (λ n. many (cell_in_front is_text) n.0 n.1 >>= (λ cs. Some (let row : RowValue = record { table = a.it.0; cells = cs.0 } in (row, cs.1)))) p a.goes in
+    let c = bound (many (cell_in_front is_text) b.it.0 b.it.1) (λ cs. Some (let row : RowValue = record { table = a.it.0; cells = cs.0 } in (row, cs.1))) p b.goes in
     let t = text_takes is_text bytes a.it are a.was in
     let n = number_takes a.it.1 b.it t.rest b.was in
-    let cs = many_takes (cell_at is_text) cell_bytes (IsGoodCell is_text) (cell_takes is_text) b.it.0 b.it.1 c.it n.rest c.was in
+    let cs = many_takes (cell_in_front is_text) cell_bytes (IsGoodCell is_text) (cell_takes is_text) b.it.0 b.it.1 c.it n.rest c.was in
     let row : RowValue = record { table = a.it.0; cells = c.it.0 } in
     let whole : RowValue × List ℕ = (row, c.it.1) in
     let e : whole ≡ p = same_Some _ _ c.goes in

@@ -8,7 +8,7 @@ use Rattle.esc_bundle.specs.Bundle.{limit}
 use Rattle.esc_tables.specs.KeyName.{KeyName}
 use Rattle.esc_tables.specs.ObjectValue.{RowValue, ObjectValue}
 use Rattle.esc_tables.specs.SmallObject.{IsSmallRow, IsSmallObject}
-use Rattle.esc_record.specs.Record.{is_small, is_small_cell, is_small_row, is_small_object, rows_of, record_of}
+use Rattle.esc_record.specs.Record.{is_small, is_small_cell, is_small_row, is_small_object, object_rows, record_of}
 
 fits : (n : ℕ) → n ≤ limit → is_small n ≡ true
 fits n h = let below : n < 2 ^ 32 = omega (arith, h) in grind (arith, nat_tests)
@@ -34,7 +34,7 @@ row_fits row small =
 
 object_fits : (o : ObjectValue) → IsSmallObject o → is_small_object o ≡ true
 object_fits o small =
-    let few : is_small (length (rows_of o)) ≡ true = fits (length (rows_of o)) (omega (arith, small.few)) in
+    let few : is_small (length (object_rows o)) ≡ true = fits (length (object_rows o)) (omega (arith, small.few)) in
     rw (few, row_fits o.parent small.parent, all_pass IsSmallRow is_small_row row_fits o.children small.children) refl
 
 has_record : (o : ObjectValue) → IsSmallObject o → IsSome (record_of o)

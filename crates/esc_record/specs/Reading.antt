@@ -25,8 +25,8 @@ abbrev pub cut : ℕ → List ℕ → Option (List ℕ × List ℕ)
 cut n bytes = if nat_lt (length bytes) n then None else Some (take n bytes, drop n bytes)
 
 -- the number that bytes begin with, and the rest
-abbrev pub number_at : List ℕ → Option (ℕ × List ℕ)
-number_at bytes = do
+abbrev pub number_in_front : List ℕ → Option (ℕ × List ℕ)
+number_in_front bytes = do
   p ← cut 4 bytes
   Some (from_be_bytes w32 p.0, p.1)
 
@@ -41,26 +41,26 @@ many one (suc n) bytes = do
 
 module _ (is_text : List ℕ → Bool) where
   -- the text that bytes begin with, and the rest
-  abbrev pub text_at : List ℕ → Option (List ℕ × List ℕ)
-  text_at bytes = do
-    n ← number_at bytes
+  abbrev pub text_in_front : List ℕ → Option (List ℕ × List ℕ)
+  text_in_front bytes = do
+    n ← number_in_front bytes
     p ← cut n.0 n.1
     text ← if is_text p.0 then Some p.0 else None
     Some (text, p.1)
 
   -- the cell that bytes begin with, and the rest
-  unfoldable pub cell_at : List ℕ → Option ((List ℕ × List ℕ) × List ℕ)
-  cell_at bytes = do
-    field ← text_at bytes
-    value ← text_at field.1
+  unfoldable pub cell_in_front : List ℕ → Option ((List ℕ × List ℕ) × List ℕ)
+  cell_in_front bytes = do
+    field ← text_in_front bytes
+    value ← text_in_front field.1
     Some ((field.0, value.0), value.1)
 
   -- the row that bytes begin with, and the rest
-  unfoldable pub row_at : List ℕ → Option (RowValue × List ℕ)
-  row_at bytes = do
-    table ← text_at bytes
-    count ← number_at table.1
-    cells ← many cell_at count.0 count.1
+  unfoldable pub row_in_front : List ℕ → Option (RowValue × List ℕ)
+  row_in_front bytes = do
+    table ← text_in_front bytes
+    count ← number_in_front table.1
+    cells ← many cell_in_front count.0 count.1
     Some (record { table = table.0; cells = cells.0 }, cells.1)
 
   -- the object of these rows, the parent first
@@ -69,9 +69,9 @@ module _ (is_text : List ℕ → Bool) where
   of_rows (parent ∷ children) = Some (record { parent = parent; children = children })
 
   -- the object whose record the bytes are, all of them
-  unfoldable pub object_of : List ℕ → Option ObjectValue
-  object_of bytes = do
-    count ← number_at bytes
-    rows ← many row_at count.0 count.1
+  unfoldable pub object_of_record : List ℕ → Option ObjectValue
+  object_of_record bytes = do
+    count ← number_in_front bytes
+    rows ← many row_in_front count.0 count.1
     ends ← cut (length rows.1) []
     of_rows rows.0

@@ -37,12 +37,12 @@ row_bytes row = text_bytes row.table
     ++ (number_bytes (length row.cells) ++ flat_map cell_bytes row.cells)
 
 -- the parent, then the children
-abbrev pub rows_of : ObjectValue → List RowValue
-rows_of o = o.parent ∷ o.children
+abbrev pub object_rows : ObjectValue → List RowValue
+object_rows o = o.parent ∷ o.children
 
 -- the number of rows, then the rows
 abbrev pub object_bytes : ObjectValue → List ℕ
-object_bytes o = number_bytes (length (rows_of o)) ++ flat_map row_bytes (rows_of o)
+object_bytes o = number_bytes (length (object_rows o)) ++ flat_map row_bytes (object_rows o)
 
 -- the number fits four bytes
 abbrev pub is_small : ℕ → Bool
@@ -57,7 +57,7 @@ is_small_row row = is_small (length row.table) && is_small (length row.cells)
 
 -- each length and count fits four bytes
 abbrev pub is_small_object : ObjectValue → Bool
-is_small_object o = is_small (length (rows_of o)) && list_all is_small_row (rows_of o)
+is_small_object o = is_small (length (object_rows o)) && list_all is_small_row (object_rows o)
 
 -- the record of an object, if each length and count fits four bytes
 unfoldable pub record_of : ObjectValue → Option (List ℕ)
@@ -73,4 +73,4 @@ pub record IsRowOfTexts (row : RowValue) : Type 0 where
 
 -- each text of an object is UTF-8, as texts of the program are
 abbrev pub IsOfTexts : ObjectValue → Type 0
-IsOfTexts o = AllByRecursion IsRowOfTexts (rows_of o)
+IsOfTexts o = AllByRecursion IsRowOfTexts (object_rows o)

@@ -17,12 +17,12 @@ ghost use Rattle.esc_tables.specs.ObjectValue.{ObjectValue};
 ghost use Rattle.esc_record.specs.Record.{record_of, IsOfTexts};
 ghost use Rattle.esc_record.specs.Reading.{
   cut,
-  number_at,
-  text_at,
-  cell_at,
-  row_at,
+  number_in_front,
+  text_in_front,
+  cell_in_front,
+  row_in_front,
   many,
-  object_of,
+  object_of_record,
   of_rows,
 };
 
@@ -33,7 +33,7 @@ use std::str;
 
 // The number that bytes begin with, and the rest.
 fn number_at(bytes: &[u8]) -> Option<(u32, &[u8])>
-    ensures { option_map (λ p. (p.0, p.1.now)) result ≡ number_at bytes.now }
+    ensures { option_map (λ p. (p.0, p.1.now)) result ≡ number_in_front bytes.now }
 {
     let (number, rest) = bytes.split_first_chunk::<4>()?;
     Some((u32::from_be_bytes(*number), rest))
@@ -62,7 +62,7 @@ fn as_text(bytes: &[u8]) -> Option<&str>
 
 // The text that bytes begin with, and the rest.
 fn text_at(bytes: &[u8]) -> Option<(&str, &[u8])>
-    ensures { option_map (λ p. (p.0.now, p.1.now)) result ≡ text_at is_utf8 bytes.now }
+    ensures { option_map (λ p. (p.0.now, p.1.now)) result ≡ text_in_front is_utf8 bytes.now }
 {
     let (count, rest) = number_at(bytes)?;
     let (text, rest) = cut(count as usize, rest)?;
@@ -71,10 +71,10 @@ fn text_at(bytes: &[u8]) -> Option<(&str, &[u8])>
 }
 
 // The cell that bytes begin with, field and value, and the rest.
-#[tactic(auto, unfolding(crate::specs::Reading::cell_at))]
+#[tactic(auto, unfolding(crate::specs::Reading::cell_in_front))]
 fn cell_at(bytes: &[u8]) -> Option<((&str, &str), &[u8])>
     ensures { option_map (λ p. ((p.0.0.now, p.0.1.now), p.1.now)) result
-        ≡ cell_at is_utf8 bytes.now }
+        ≡ cell_in_front is_utf8 bytes.now }
 {
     let (field, rest) = text_at(bytes)?;
     let (text, rest) = text_at(rest)?;
@@ -89,7 +89,7 @@ fn cells_at(
 ) -> Result<Option<(Vec<(&str, &str)>, &[u8])>, NoMemory>
     ensures { IfOk result (λ found.
         option_map (λ p. (map (λ c. (c.0.now, c.1.now)) p.0.items, p.1.now)) found
-        ≡ many (cell_at is_utf8) count bytes.now) }
+        ≡ many (cell_in_front is_utf8) count bytes.now) }
 {
     let mut rest = bytes;
     let mut cells = Vec::new(alloc);
@@ -104,10 +104,10 @@ fn cells_at(
 }
 
 // The row that bytes begin with, and the rest.
-#[tactic(auto, unfolding(crate::specs::Reading::row_at))]
+#[tactic(auto, unfolding(crate::specs::Reading::row_in_front))]
 fn row_at(alloc: Global, bytes: &[u8]) -> Result<Option<(Row, &[u8])>, NoMemory>
     ensures { IfOk result (λ found. option_map (λ p. (p.0, p.1.now)) found
-        ≡ row_at is_utf8 bytes.now) }
+        ≡ row_in_front is_utf8 bytes.now) }
 {
     let Some((table, rest)) = text_at(bytes) else {
         return Ok(None);
@@ -125,7 +125,7 @@ fn row_at(alloc: Global, bytes: &[u8]) -> Result<Option<(Row, &[u8])>, NoMemory>
 // The first n rows, and the rest.
 fn rows_at(alloc: Global, count: u32, bytes: &[u8]) -> Result<Option<(Vec<Row>, &[u8])>, NoMemory>
     ensures { IfOk result (λ found. option_map (λ p. (p.0.items, p.1.now)) found
-        ≡ many (row_at is_utf8) count bytes.now) }
+        ≡ many (row_in_front is_utf8) count bytes.now) }
 {
     let mut rest = bytes;
     let mut rows = Vec::new(alloc);
@@ -165,9 +165,9 @@ pub fn read_record(alloc: Global, bytes: &[u8]) -> Result<Option<Object>, NoMemo
 }
 
 // The object whose record the bytes are, as the definition reads it.
-#[tactic(auto, unfolding(crate::specs::Reading::object_of))]
+#[tactic(auto, unfolding(crate::specs::Reading::object_of_record))]
 fn object_of(alloc: Global, bytes: &[u8]) -> Result<Option<Object>, NoMemory>
-    ensures { IfOk result (λ found. found ≡ object_of is_utf8 bytes.now) }
+    ensures { IfOk result (λ found. found ≡ object_of_record is_utf8 bytes.now) }
 {
     let Some((count, rest)) = number_at(bytes) else {
         return Ok(None);

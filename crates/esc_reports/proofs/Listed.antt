@@ -8,7 +8,7 @@ use Rattle.esc_tables.specs.Reading.{reading}
 use Rattle.esc_apply.specs.ObjectStreams.{Entry, InOrder}
 use Rattle.esc_apply.specs.Registry.{IsEntriesOf}
 use Rattle.esc_apply.specs.Tables.{tables}
-use Rattle.esc_check.specs.Export.{heading, object_lines, is_of, export_text}
+use Rattle.esc_check.specs.Export.{export_heading, object_lines, is_of, export_text}
 use Rattle.esc_csv.specs.Lines.{text_of}
 use Rattle.esc_store.specs.StoreState.{StoreState}
 use Rattle.esc_events.specs.Events.{EventValue}
@@ -38,4 +38,4 @@ filter_again {X} p (x ∷ xs) = by_test (p x) refl (filter_again p xs)
 
 -- the export of a kind is made of the objects of that kind
 pub export_of_kind : (kind : Kind) (es : List Entry) → export_text kind (filter (is_of kind) es) ≡ export_text kind es
-export_of_kind kind es = ap (λ (kept : List Entry). text_of (heading ∷ flat_map (λ (e : Entry). object_lines e.0 e.1) kept)) (filter_again (is_of kind) es)
+export_of_kind kind es = ap (λ (kept : List Entry). text_of (export_heading ∷ flat_map (λ (e : Entry). object_lines e.0 e.1) kept)) (filter_again (is_of kind) es)

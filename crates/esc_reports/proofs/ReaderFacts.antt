@@ -1,26 +1,22 @@
 -- What follows of a reader that was read, one call after another, and of a walk by it.
 use Rattle.std.proofs.Common.{◌≡◌, false, Result, Ok, Err, OnOk, ◌∙◌}
-use Rattle.std.proofs.lemmas.Result.{on_ok_weaker}
 use Rattle.sqlite_trees.specs.declared.store.Store.{Ghosts}
-use Rattle.esc_store.specs.Reading.{IsReadOnly, ReaderRepresents}
+use Rattle.sqlite_catalog.proofs.QuietLemmas.{quiet_then}
+use Rattle.esc_store.specs.Reading.{ReaderRepresents}
 use Rattle.esc_store.specs.StoreState.{StoreState}
-use Rattle.esc_desk.specs.ReaderLaws.{reader_was_honest, read_only_made, read_only_failed, read_only_then}
-use Rattle.esc_desk.specs.UnwrittenLaws.{unwritten_then}
+use Rattle.esc_desk.specs.ReaderLaws.{
+  reader_stays,
+  read_only_made,
+  read_only_failed,
+  read_only_then,
+}
 use Rattle.esc_desk.specs.declared.reader.DeskReader.{DeskReader}
 use Rattle.esc_desk.specs.declared.reader.walk.KeysLeft.{KeysLeft}
 use Rattle.esc_desk.specs.declared.reader.walk.ReaderWalk.{ReaderWalk}
 use Rattle.esc_desk.specs.Readers.{IsUnchangedReader, store_read_by}
-use Rattle.esc_desk.specs.ReaderWalks.{Follows, IsUnwrittenReader, has_failed, reader_of}
+use Rattle.esc_desk.specs.ReaderWalks.{ReaderWalkFollows, IsUnwrittenReader, has_failed, reader_of}
 
--- a reader whose store was read
-pub reader_stays : {S X E : Type 0} (g : Ghosts S) (old new : DeskReader S) (result : Result X E) → IsReadOnly g old.store new.store result → IsUnchangedReader g old new result
-reader_stays g old new result same = record {
-  same = same;
-  honest = reader_was_honest same;
-  reflects = on_ok_weaker result (λ stands e was. record { kept = was.kept; stands = stands was.kept was.stands; stands_for = was.stands_for }) same.stands;
-}
-
--- the same after several reads, and of what is made of them
+-- a reader that was read, once or several times, and what is made of what was read
 pub ruleset reads_stay = (reader_stays, read_only_made, read_only_failed, read_only_then)
 
 module _ {S : Type 0} (g : Ghosts S) (old : DeskReader S) where
@@ -36,9 +32,9 @@ module _ {S : Type 0} (g : Ghosts S) (old : DeskReader S) where
   pub unwalked : {X E : Type 0} (new : DeskReader S) (f : E) → IsUnwrittenReader g old new → IsUnchangedReader g old new {X = X} (Err f)
   unwalked new f p = stays_by new (Err f) p tt
 
-  module _ (walk after : ReaderWalk S KeysLeft) (p : IsUnwrittenReader g old (reader_of walk)) (q : Follows g walk after) where
+  module _ (walk after : ReaderWalk S KeysLeft) (p : IsUnwrittenReader g old (reader_of walk)) (q : ReaderWalkFollows g walk after) where
     unwritten : IsUnwrittenReader g old (reader_of after)
-    unwritten = record { manifest = q.same.manifest ∙ p.manifest; unwritten = unwritten_then g p.unwritten q.same.unwritten }
+    unwritten = record { manifest = q.same.manifest ∙ p.manifest; unwritten = quiet_then p.unwritten q.same.unwritten }
 
     -- a walk ended with a fault
     pub walked_ill : {X E : Type 0} (f : E) → IsUnchangedReader g old (reader_of after) {X = X} (Err f)

@@ -10,7 +10,7 @@ use Rattle.esc_desk.specs.declared.walk.Walk.{Walk}
 use Rattle.esc_desk.specs.Calls.{IsUnchangedDesk}
 use Rattle.esc_events.specs.Events.{EventValue}
 use Rattle.esc_desk.specs.Reflection.{StoreReflects}
-use Rattle.esc_desk.specs.Walking.{desk_of, Follows}
+use Rattle.esc_desk.specs.Walking.{desk_of, WalkFollows}
 
 -- a store that is as before stands for what it stood for
 pub stays : {S : Type 0} (g : Ghosts S) (old new : Store S) (e : List EventValue) → IsAsBefore g old new → StoreReflects g old e → StoreReflects g new e
@@ -21,5 +21,5 @@ pub stays_then : {S : Type 0} (g : Ghosts S) (first second third : Desk S) → I
 stays_then g first second third p q = record { same = as_before_then p.same q.same; serves = λ e served. q.serves e (p.serves e served) }
 
 -- a walk leaves the desk as it found it
-pub walked : {S : Type 0} (g : Ghosts S) (old : Desk S) (walk after : Walk S Pages) → IsUnchangedDesk g old (desk_of walk) → Follows g walk after → IsUnchangedDesk g old (desk_of after)
+pub walked : {S : Type 0} (g : Ghosts S) (old : Desk S) (walk after : Walk S Pages) → IsUnchangedDesk g old (desk_of walk) → WalkFollows g walk after → IsUnchangedDesk g old (desk_of after)
 walked g old walk after p q = record { same = as_before_then p.same q.same; serves = λ e served. q.serves e (p.serves e served) }

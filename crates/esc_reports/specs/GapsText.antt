@@ -12,8 +12,8 @@ use Rattle.esc_csv.specs.Lines.{Line, line_text, text_of}
 use Rattle.esc_reports.specs.ReceiptsText.{or_empty}
 
 -- the first line
-abbrev pub heading : Line
-heading = codes "watermark" ∷ codes "type" ∷ codes "used" ∷ codes "state" ∷ codes "blocker"
+abbrev pub gaps_heading : Line
+gaps_heading = codes "watermark" ∷ codes "type" ∷ codes "used" ∷ codes "state" ∷ codes "blocker"
     ∷ codes "awaited" ∷ []
 
 -- the line of a place; a value that isn't there is empty
@@ -30,7 +30,7 @@ gap_lines_text lines = text_of (map gap_line lines)
 
 -- the report: the heading, and a line for each place
 abbrev pub gaps_text : List GapLine → List ℕ
-gaps_text lines = line_text heading ++ gap_lines_text lines
+gaps_text lines = line_text gaps_heading ++ gap_lines_text lines
 
 -- this is the report of a manifest's places, by the rows that are held and the moment that is set
 pub record IsGapsReport (m : List MRow) (rows : List ℕ) (t : Option ℤ)

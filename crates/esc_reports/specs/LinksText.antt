@@ -6,9 +6,9 @@ use Rattle.esc_check.specs.FindingValue.{FindingValue}
 use Rattle.esc_csv.specs.Lines.{Line, line_text, text_of}
 
 -- the first line
-abbrev pub heading : Line
-heading = codes "code" ∷ codes "kind" ∷ codes "key" ∷ codes "field" ∷ codes "value" ∷ codes "other"
-    ∷ []
+abbrev pub links_heading : Line
+links_heading = codes "code" ∷ codes "kind" ∷ codes "key" ∷ codes "field" ∷ codes "value"
+    ∷ codes "other" ∷ []
 
 -- V and the rule's number
 abbrev pub code_text : ℕ → List ℕ
@@ -24,4 +24,4 @@ findings_text findings = text_of (map finding_line findings)
 
 -- the report: the heading, and a line for each finding
 abbrev pub links_text : List FindingValue → List ℕ
-links_text findings = line_text heading ++ findings_text findings
+links_text findings = line_text links_heading ++ findings_text findings

@@ -11,7 +11,7 @@ use Rattle.esc_apply.specs.ObjectStreams.{InOrder}
 use Rattle.esc_check.specs.Export.{export_text}
 use Rattle.esc_check.specs.FindingValue.{FindingValue, listing_cmp}
 use Rattle.esc_check.specs.Findings.{IsFinding}
-use Rattle.esc_check.specs.TableMap.{tables_of}
+use Rattle.esc_check.specs.TableMap.{content_of_entries}
 use Rattle.esc_store.specs.StoreState.{AreHeld}
 use Rattle.esc_desk.specs.declared.status.End.{End}
 use Rattle.esc_desk.specs.declared.status.Status.{Status as Numbers}
@@ -46,7 +46,7 @@ AreFindings entries None findings = findings ≡ []
 AreFindings entries (Some end) findings =
     IsStrictlySortedBy listing_cmp findings
     × ((f : FindingValue) → Contains findings f ↔ IsFinding
-    (tables_of entries) end.watermark end.counts.entries f)
+    (content_of_entries entries) end.watermark end.counts.entries f)
 
 module _ (e : List EventValue) where
   -- the text of the status

@@ -17,9 +17,9 @@ copy_word false = codes "new"
 copy_word true = codes "again"
 
 -- why no deposit reads from a body: U and the refusal's number; none for a verdict other than A3
-abbrev pub fault_of : Verdict → Option (List ℕ)
-fault_of A1 = None
-fault_of A2 = None
-fault_of (A3 n) = Some (codes "U" ++ decimal n)
-fault_of A4 = None
-fault_of A5 = None
+abbrev pub verdict_fault : Verdict → Option (List ℕ)
+verdict_fault A1 = None
+verdict_fault A2 = None
+verdict_fault (A3 n) = Some (codes "U" ++ decimal n)
+verdict_fault A4 = None
+verdict_fault A5 = None

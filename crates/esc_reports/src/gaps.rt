@@ -15,7 +15,7 @@ ghost use Rattle.esc_chain.specs.GapTexts.{state_text, blocker_text};
 ghost use Rattle.esc_csv.specs.Lines.{line_text};
 ghost use Rattle.esc_store.specs.Faults.{IsS1OrS2};
 ghost use Rattle.esc_reports.specs.GapsText.{
-  heading,
+  gaps_heading,
   gap_line,
   gap_lines_text,
   gaps_text,
@@ -61,7 +61,7 @@ fn gaps_text(alloc: Global, gaps: &[GapLine]) -> Result<Vec<u8>, SFault>
 }
 
 fn write_heading(lines: &mut Lines) -> Result<(), SFault>
-    ensures written { OnOk result (lines.new ≡ lines.old ++ line_text heading) }
+    ensures written { OnOk result (lines.new ≡ lines.old ++ line_text gaps_heading) }
     ensures cause { IfErr result IsS1OrS2 }
 {
     write_fields(

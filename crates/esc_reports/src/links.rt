@@ -4,7 +4,7 @@ ghost use Rattle.std.specs.Prelude.{◌≡◌, ◌∷◌, [], ◌++◌, IfOk, On
 ghost use Rattle.esc_csv.specs.Lines.{line_text};
 ghost use Rattle.esc_reports.specs.LinksText.{
   code_text,
-  heading,
+  links_heading,
   finding_line,
   findings_text,
   links_text,
@@ -26,7 +26,7 @@ pub(crate) fn links_text(alloc: Global, findings: &[Finding]) -> Result<Vec<u8>,
 }
 
 fn write_heading(lines: &mut Lines) -> Result<(), NoMemory>
-    ensures { OnOk result (lines.new ≡ lines.old ++ line_text heading) }
+    ensures { OnOk result (lines.new ≡ lines.old ++ line_text links_heading) }
 {
     write_fields(
         lines, b"code", b"kind", b"key", b"field", b"value", b"other",

@@ -5,7 +5,7 @@ ghost use Rattle.std.specs.Fmt.{decimal};
 ghost use Rattle.esc_csv.specs.Lines.{line_text};
 ghost use Rattle.esc_reports.specs.ReceiptsText.{
   or_empty,
-  heading,
+  receipts_heading,
   receipt_line,
   replies_text,
   receipts_text,
@@ -21,7 +21,7 @@ use std::alloc::Global;
 /// The heading of the receipts report, with its line feed:
 /// `receipt,number,verdict,fault,id,resend,copy,orphans`.
 pub fn receipts_heading(alloc: Global) -> Result<Vec<u8>, NoMemory>
-    ensures text { IfOk result (λ text. text.items ≡ line_text heading) }
+    ensures text { IfOk result (λ text. text.items ≡ line_text receipts_heading) }
 {
     let mut lines = Lines::new(alloc);
     write_heading(&mut lines)?;
@@ -49,7 +49,7 @@ pub(crate) fn receipts_text(alloc: Global, replies: &[Reply]) -> Result<Vec<u8>,
 }
 
 fn write_heading(lines: &mut Lines) -> Result<(), NoMemory>
-    ensures { OnOk result (lines.new ≡ lines.old ++ line_text heading) }
+    ensures { OnOk result (lines.new ≡ lines.old ++ line_text receipts_heading) }
 {
     write_fields(
         lines, b"receipt", b"number", b"verdict", b"fault", b"id", b"resend", b"copy", b"orphans",

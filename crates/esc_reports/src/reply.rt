@@ -3,16 +3,16 @@
 ghost use Rattle.std.specs.Prelude.{◌≡◌, IfOk, OnOk, string_bytes, option_map};
 ghost use Rattle.serde_json.specs.View.{view, members_view};
 ghost use Rattle.esc_reports.specs.ReplyText.{
-  text_or_null,
-  number_or_null,
-  copy_or_null,
-  with_receipt,
+  text_data,
+  number_data,
+  copy_data,
+  with_reply,
   with_row,
   with_holding,
   reply_data,
   reply_text,
 };
-ghost use Rattle.esc_reports.specs.Words.{fault_of};
+ghost use Rattle.esc_reports.specs.Words.{verdict_fault};
 
 use crate::words::{copy_word, fault_of, verdict_word};
 use esc_bundle::NoMemory;
@@ -47,7 +47,7 @@ fn put_receipt(
     reply: &Reply,
 ) -> Result<(), AllocError>
     ensures { OnOk result (members_view members.new.entries
-        ≡ with_receipt reply.now (members_view members.old.entries)) }
+        ≡ with_reply reply.now (members_view members.old.entries)) }
 {
     put(members, alloc, "receipt", Value::from(reply.receipt))?;
     let number = json!(in alloc; reply.number.as_str())?;
@@ -83,7 +83,7 @@ fn put_holding(
 }
 
 fn copy_value(alloc: Global, again: Option<bool>) -> Result<Value, AllocError>
-    ensures { IfOk result (λ value. view value ≡ copy_or_null again) }
+    ensures { IfOk result (λ value. view value ≡ copy_data again) }
 {
     match again {
         Some(again) => json!(in alloc; copy_word(again)),
@@ -92,7 +92,7 @@ fn copy_value(alloc: Global, again: Option<bool>) -> Result<Value, AllocError>
 }
 
 fn fault_value(alloc: Global, verdict: Verdict) -> Result<Value, AllocError>
-    ensures { IfOk result (λ value. view value ≡ text_or_null (fault_of verdict)) }
+    ensures { IfOk result (λ value. view value ≡ text_data (verdict_fault verdict)) }
 {
     let fault = fault_of(alloc, verdict)?;
     text_value(alloc, &fault)
@@ -100,7 +100,7 @@ fn fault_value(alloc: Global, verdict: Verdict) -> Result<Value, AllocError>
 
 fn text_value(alloc: Global, text: &Option<String>) -> Result<Value, AllocError>
     ensures { IfOk result (λ value. view value
-        ≡ text_or_null (option_map string_bytes text.now)) }
+        ≡ text_data (option_map string_bytes text.now)) }
 {
     match text {
         Some(text) => json!(in alloc; text.as_str()),
@@ -109,7 +109,7 @@ fn text_value(alloc: Global, text: &Option<String>) -> Result<Value, AllocError>
 }
 
 fn number_value(number: Option<u64>) -> Value
-    ensures { view result ≡ number_or_null number }
+    ensures { view result ≡ number_data number }
 {
     match number {
         Some(number) => Value::from(number),
@@ -118,7 +118,7 @@ fn number_value(number: Option<u64>) -> Value
 }
 
 fn resend_value(resend: Option<u32>) -> Value
-    ensures { view result ≡ number_or_null resend }
+    ensures { view result ≡ number_data resend }
 {
     match resend {
         Some(resend) => Value::from(u64::from(resend)),

@@ -1,7 +1,7 @@
 //! The words of replies, in JSON and in CSV.
 
 ghost use Rattle.std.specs.Prelude.{◌≡◌, IfOk, string_bytes, option_map};
-ghost use Rattle.esc_reports.specs.Words.{verdict_word, copy_word, fault_of};
+ghost use Rattle.esc_reports.specs.Words.{verdict_word, copy_word, verdict_fault};
 
 use esc_store::Verdict;
 use std::alloc::{AllocError, Global};
@@ -28,7 +28,7 @@ pub(crate) fn copy_word(again: bool) -> &'static str
 
 /// Why no deposit reads from a body, as `U9`; `None` for a verdict other than `A3`.
 pub(crate) fn fault_of(alloc: Global, verdict: Verdict) -> Result<Option<String>, AllocError>
-    ensures { IfOk result (λ fault. option_map string_bytes fault ≡ fault_of verdict) }
+    ensures { IfOk result (λ fault. option_map string_bytes fault ≡ verdict_fault verdict) }
 {
     match verdict {
         Verdict::A3(fault) => Ok(Some(format!(in alloc; "U{fault}")?)),

@@ -27,12 +27,12 @@ use Rattle.esc_request.specs.declared.length.BodyLength.TheVariants.{
 }
 
 -- a header line: its name, and its value without the white space around it
-abbrev pub Line : Type 0
-Line = List ℕ × List ℕ
+abbrev pub HeaderLine : Type 0
+HeaderLine = List ℕ × List ℕ
 
 -- the line has this name, without regard to case
-abbrev pub is_named : List ℕ → Line → Bool
-is_named name line = str_eq_ignore_ascii_case line.0 name
+abbrev pub is_header_named : List ℕ → HeaderLine → Bool
+is_header_named name line = str_eq_ignore_ascii_case line.0 name
 
 -- one digit or more, and nothing else; leading zeros are allowed
 abbrev pub is_numeral : List ℕ → Bool
@@ -50,7 +50,7 @@ pub data Values : Type 0 where
   one : List ℕ → Values
   more : Values
 
-abbrev pub values_of : List Line → Values
+abbrev pub values_of : List HeaderLine → Values
 values_of [] = nothing
 values_of (line ∷ []) = one line.1
 values_of (line ∷ other ∷ lines) = more
@@ -62,7 +62,7 @@ one_more (one other) value = more
 one_more more value = more
 
 -- the values with that of one more line, if it passes
-abbrev pub value_after : (Line → Bool) → Values → Line → Values
+abbrev pub value_after : (HeaderLine → Bool) → Values → HeaderLine → Values
 value_after passes values line = if passes line then one_more values line.1 else values
 
 abbrev pub length_of_values : Values → BodyLength
@@ -72,7 +72,7 @@ length_of_values more = Malformed
 
 -- the length of the body by the header lines: none if there is a Transfer-Encoding, else what the
 -- one Content-Length states
-abbrev pub body_length : List Line → BodyLength
+abbrev pub body_length : List HeaderLine → BodyLength
 body_length lines =
-    if list_any (is_named (codes "transfer-encoding")) lines then Missing
-    else length_of_values (values_of (filter (is_named (codes "content-length")) lines))
+    if list_any (is_header_named (codes "transfer-encoding")) lines then Missing
+    else length_of_values (values_of (filter (is_header_named (codes "content-length")) lines))

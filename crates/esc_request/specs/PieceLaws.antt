@@ -1,28 +1,28 @@
 -- Laws of what was read piece by piece.
 use Rattle.std.proofs.Common.{◌≡◌, ℕ, ◌<◌, List, [], ◌∷◌, ◌++◌, length, take, refl, sym, ◌∙◌, ap, subst, append_assoc, append-nil, Option, Some, None, Ok, Err}
-use Rattle.esc_request.specs.Pieces.{Pieces, AddsPiece, Adds, joined, AreAwaited, ReadsWhile}
+use Rattle.esc_request.specs.Pieces.{Pieces, AddsPiece, AddsPieces, with_pieces, AreAwaited, ReadsWhile}
 
-adds_none : (p : Pieces) → Adds p p []
+adds_none : (p : Pieces) → AddsPieces p p []
 adds_none None = tt
 adds_none (Some ps) = sym (append-nil ps)
 
 -- nothing was read
-pub nothing_read : (Waits : List ℕ → Type 0) (p : Pieces) (bytes : List ℕ) → ReadsWhile Waits p p bytes bytes
-nothing_read Waits p bytes = record { pieces = []; added = adds_none p; awaited = tt; came = refl }
+pub read_no_piece : (Waits : List ℕ → Type 0) (p : Pieces) (bytes : List ℕ) → ReadsWhile Waits p p bytes bytes
+read_no_piece Waits p bytes = record { pieces = []; added = adds_none p; awaited = tt; came = refl }
 
-adds_then : (a b c : Pieces) (ps qs : List (List ℕ)) → Adds a b ps → Adds b c qs → Adds a c (ps ++ qs)
+adds_then : (a b c : Pieces) (ps qs : List (List ℕ)) → AddsPieces a b ps → AddsPieces b c qs → AddsPieces a c (ps ++ qs)
 adds_then None b c ps qs p q = tt
 adds_then (Some x) None c ps qs p q = absurd p
 adds_then (Some x) (Some y) None ps qs p q = absurd q
 adds_then (Some x) (Some y) (Some z) ps qs p q = q ∙ ap (λ (l : List (List ℕ)). l ++ qs) p ∙ append_assoc x ps qs
 
-awaited_then : (Waits : List ℕ → Type 0) (bytes : List ℕ) (ps qs : List (List ℕ)) → AreAwaited Waits bytes ps → AreAwaited Waits (joined bytes ps) qs → AreAwaited Waits bytes (ps ++ qs)
+awaited_then : (Waits : List ℕ → Type 0) (bytes : List ℕ) (ps qs : List (List ℕ)) → AreAwaited Waits bytes ps → AreAwaited Waits (with_pieces bytes ps) qs → AreAwaited Waits bytes (ps ++ qs)
 awaited_then Waits bytes [] qs p q = q
 awaited_then Waits bytes (x ∷ ps) qs p q = (p.0, awaited_then Waits (bytes ++ x) ps qs p.1 q)
 
-joined_then : (bytes : List ℕ) (ps qs : List (List ℕ)) → joined bytes (ps ++ qs) ≡ joined (joined bytes ps) qs
-joined_then bytes [] qs = refl
-joined_then bytes (x ∷ ps) qs = joined_then (bytes ++ x) ps qs
+with_pieces_then : (bytes : List ℕ) (ps qs : List (List ℕ)) → with_pieces bytes (ps ++ qs) ≡ with_pieces (with_pieces bytes ps) qs
+with_pieces_then bytes [] qs = refl
+with_pieces_then bytes (x ∷ ps) qs = with_pieces_then (bytes ++ x) ps qs
 
 -- what was read, and then read on
 pub read_then : (Waits : List ℕ → Type 0) (a b c : Pieces) (first second third : List ℕ) → ReadsWhile Waits a b first second → ReadsWhile Waits b c second third → ReadsWhile Waits a c first third
@@ -30,15 +30,15 @@ read_then Waits a b c first second third p q = record {
   pieces = p.pieces ++ q.pieces;
   added = adds_then a b c p.pieces q.pieces p.added q.added;
   awaited = awaited_then Waits first p.pieces q.pieces p.awaited (subst (λ (bytes : List ℕ). AreAwaited Waits bytes q.pieces) (sym p.came) q.awaited);
-  came = joined_then first p.pieces q.pieces ∙ ap (λ (bytes : List ℕ). joined bytes q.pieces) p.came ∙ q.came;
+  came = with_pieces_then first p.pieces q.pieces ∙ ap (λ (bytes : List ℕ). with_pieces bytes q.pieces) p.came ∙ q.came;
 }
 
-adds_one : (E : Type 0) (a b : Pieces) (buffer : List ℕ) (n : ℕ) → AddsPiece {E = E} a b (Ok n) buffer → Adds a b (take n buffer ∷ [])
+adds_one : (E : Type 0) (a b : Pieces) (buffer : List ℕ) (n : ℕ) → AddsPiece {E = E} a b (Ok n) buffer → AddsPieces a b (take n buffer ∷ [])
 adds_one E None b buffer n is = tt
 adds_one E (Some x) None buffer n is = absurd is
 adds_one E (Some x) (Some y) buffer n is = is
 
-adds_no : {E : Type 0} (a b : Pieces) (buffer : List ℕ) (e : E) → AddsPiece a b (Err e) buffer → Adds a b []
+adds_no : {E : Type 0} (a b : Pieces) (buffer : List ℕ) (e : E) → AddsPiece a b (Err e) buffer → AddsPieces a b []
 adds_no None b buffer e is = tt
 adds_no (Some x) None buffer e is = absurd is
 adds_no (Some x) (Some y) buffer e is = is ∙ sym (append-nil x)

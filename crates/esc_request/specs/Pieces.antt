@@ -27,15 +27,15 @@ AddsPiece (Some old) (Some new) result buffer =
     MatchResult result (λ n. new ≡ old ++ take n buffer ∷ []) (λ _. new ≡ old)
 
 -- these pieces were added
-abbrev pub Adds : Pieces → Pieces → List (List ℕ) → Type 0
-Adds None new more = ⊤
-Adds (Some old) None more = ⊥
-Adds (Some old) (Some new) more = new ≡ old ++ more
+abbrev pub AddsPieces : Pieces → Pieces → List (List ℕ) → Type 0
+AddsPieces None new more = ⊤
+AddsPieces (Some old) None more = ⊥
+AddsPieces (Some old) (Some new) more = new ≡ old ++ more
 
 -- these bytes, and then those of pieces
-abbrev pub joined : List ℕ → List (List ℕ) → List ℕ
-joined bytes [] = bytes
-joined bytes (piece ∷ pieces) = joined (bytes ++ piece) pieces
+abbrev pub with_pieces : List ℕ → List (List ℕ) → List ℕ
+with_pieces bytes [] = bytes
+with_pieces bytes (piece ∷ pieces) = with_pieces (bytes ++ piece) pieces
 
 -- each piece was read while this held of the bytes before it
 abbrev pub AreAwaited : (List ℕ → Type 0) → List ℕ → List (List ℕ) → Type 0
@@ -46,6 +46,6 @@ AreAwaited Waits bytes (piece ∷ pieces) = Waits bytes × AreAwaited Waits (byt
 pub record ReadsWhile (Waits : List ℕ → Type 0) (old new : Pieces) (first last : List ℕ) : Type 0
   where
     pub pieces : List (List ℕ)
-    pub added : Adds old new pieces
+    pub added : AddsPieces old new pieces
     pub awaited : AreAwaited Waits first pieces
-    pub came : joined first pieces ≡ last
+    pub came : with_pieces first pieces ≡ last

@@ -4,7 +4,7 @@ ghost use Rattle.std.specs.Prelude.{◌≡◌, ◌≤◌, ◌<◌, ◌+◌, ◌-
 ghost use Rattle.std.specs.List.{list_any, filter};
 ghost use Rattle.httparse.specs.Spans.{IsHeaderWithin, header_bytes};
 ghost use Rattle.esc_request.specs.BodyLength.{
-  is_named,
+  is_header_named,
   Values,
   values_of,
   value_after,
@@ -57,14 +57,15 @@ enum Values<'b> {
 
 fn is_named(bytes: &[u8], line: HeaderSpan, name: &[u8]) -> bool
     requires { IsHeaderWithin (length bytes.now) line }
-    ensures { result ≡ is_named name.now (header_bytes bytes.now line) }
+    ensures { result ≡ is_header_named name.now (header_bytes bytes.now line) }
 {
     line.name.of(bytes).eq_ignore_ascii_case(name)
 }
 
 fn has_line(bytes: &[u8], lines: &[HeaderSpan], name: &[u8]) -> bool
     requires { All (IsHeaderWithin (length bytes.now)) lines.now }
-    ensures { result ≡ list_any (is_named name.now) (map (header_bytes bytes.now) lines.now) }
+    ensures { result
+        ≡ list_any (is_header_named name.now) (map (header_bytes bytes.now) lines.now) }
 {
     let mut found = false;
     for line in lines {
@@ -76,7 +77,7 @@ fn has_line(bytes: &[u8], lines: &[HeaderSpan], name: &[u8]) -> bool
 fn values_named<'b>(bytes: &'b [u8], lines: &[HeaderSpan], name: &[u8]) -> Values<'b>
     requires { All (IsHeaderWithin (length bytes.now)) lines.now }
     ensures { values_seen result
-        ≡ values_of (filter (is_named name.now) (map (header_bytes bytes.now) lines.now)) }
+        ≡ values_of (filter (is_header_named name.now) (map (header_bytes bytes.now) lines.now)) }
 {
     let mut values = Values::Nothing;
     for line in lines {
@@ -89,7 +90,8 @@ fn values_named<'b>(bytes: &'b [u8], lines: &[HeaderSpan], name: &[u8]) -> Value
 fn values_with<'b>(values: Values<'b>, bytes: &'b [u8], line: HeaderSpan, name: &[u8]) -> Values<'b>
     requires { IsHeaderWithin (length bytes.now) line }
     ensures { values_seen result
-        ≡ value_after (is_named name.now) (values_seen values.entry) (header_bytes bytes.now line) }
+        ≡ value_after (is_header_named name.now) (values_seen values.entry)
+        (header_bytes bytes.now line) }
 {
     if !is_named(bytes, line, name) {
         return values;

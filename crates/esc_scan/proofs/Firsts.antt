@@ -11,8 +11,8 @@ use Rattle.esc_sql.specs.Schema.{info_tree}
 use Rattle.esc_sql.specs.Rows.{HeldRow, ObjectRow, MomentRow, held_number, info_row}
 use Rattle.esc_sql.specs.StoreTable.{StoreTable, Held, Objects, Moment, RowOf, row_number, stored_row}
 use Rattle.esc_sql.specs.declared.object.StoredObject.{StoredObject}
-use Rattle.esc_sql.specs.Entries.{object_of}
-use Rattle.esc_sql.specs.Content.{Content, HoldsRows, moment_of}
+use Rattle.esc_sql.specs.Entries.{stored_entry}
+use Rattle.esc_sql.specs.Content.{Content, HoldsRows, moment_set}
 use Rattle.esc_sql.specs.Changes.{body_of, object_entry}
 use Rattle.esc_scan.specs.declared.held.HeldBody.{HeldBody}
 use Rattle.esc_scan.specs.declared.moment.StoredMoment.{StoredMoment}
@@ -21,7 +21,7 @@ use Rattle.esc_scan.specs.Scanning.{ReadsRow, ReadsFirst}
 use Rattle.esc_scan.specs.Bodies.{body_read, body_of_row, held_bytes}
 use Rattle.esc_scan.specs.Moments.{moment_read, watermark_of_moment}
 use Rattle.esc_scan.specs.ObjectKeys.{object_with}
-use Rattle.esc_scan.specs.Versions.{TellsVersion, version_in, version_read}
+use Rattle.esc_scan.specs.Versions.{RowTellsVersion, version_in, version_read}
 
 module _ (t : StoreTable) {V E : Type 0} (shown : V → E) (told : RowOf t → E) where
   pub first_is : (rs : List (RowOf t)) (found : Option V) (rows : List Row) → rows ≡ map (stored_row t) rs → ReadsFirst (ReadsRow t shown told) rows found
@@ -36,12 +36,12 @@ module _ (t : StoreTable) {V E : Type 0} (shown : V → E) (told : RowOf t → E
 
 -- ---- the moment
 
-first_moment : (ms : List MomentRow) → option_map watermark_of_moment (slice_get ms 0) ≡ moment_of ms
+first_moment : (ms : List MomentRow) → option_map watermark_of_moment (slice_get ms 0) ≡ moment_set ms
 first_moment [] = refl
 first_moment (m ∷ ms) = refl
 
 pub moment_is : (ms : List MomentRow) (found : Option StoredMoment) (rows : List Row) → rows ≡ map (stored_row Moment) ms → ReadsFirst (ReadsRow Moment moment_read watermark_of_moment) rows found
-    → option_map moment_read found ≡ moment_of ms
+    → option_map moment_read found ≡ moment_set ms
 moment_is ms found rows is h = first_is Moment moment_read watermark_of_moment ms found rows is h ∙ first_moment ms
 
 -- ---- the row with a rowid
@@ -57,9 +57,9 @@ found_at t shown told id rs found rows is h =
     first_is t shown told (filter here rs) found _ picked h ∙ ap (option_map told) (slice_get-filter here rs)
 
 pub object_is : (id : ℤ) (os : List ObjectRow) (found : Option StoredObject) (rows : List Row) → rows ≡ map (stored_row Objects) os
-    → ReadsFirst (ReadsRow Objects object_of object_entry) (filter (has_rowid id) rows) found
-    → option_map object_of found ≡ object_with id os
-object_is = found_at Objects object_of object_entry
+    → ReadsFirst (ReadsRow Objects stored_entry object_entry) (filter (has_rowid id) rows) found
+    → option_map stored_entry found ≡ object_with id os
+object_is = found_at Objects stored_entry object_entry
 
 -- ---- the body of a row
 
@@ -80,12 +80,12 @@ body_is row hs found rows is h =
 
 -- ---- the version
 
-pub version_is : (found : Option StoredVersion) (trees : Trees) → ReadsFirst TellsVersion (trees info_tree) found → option_map Int (option_map version_read found) ≡ version_in trees
+pub version_is : (found : Option StoredVersion) (trees : Trees) → ReadsFirst RowTellsVersion (trees info_tree) found → option_map Int (option_map version_read found) ≡ version_in trees
 version_is None trees h = rw h refl
 version_is (Some found) trees h = rw h.2 (ap Some (sym h.3))
 
 -- the version that a store's content is kept with
-pub version_two : (found : Option StoredVersion) (trees : Trees) (c : Content) → HoldsRows trees c → ReadsFirst TellsVersion (trees info_tree) found → option_map version_read found ≡ Some (pos 2)
+pub version_two : (found : Option StoredVersion) (trees : Trees) (c : Content) → HoldsRows trees c → ReadsFirst RowTellsVersion (trees info_tree) found → option_map version_read found ≡ Some (pos 2)
 version_two None trees c holds h = let both : [] ≡ info_row ∷ [] = sym h ∙ holds.info in absurd (cc)
 version_two (Some found) trees c holds h =
     let both : h.0 ∷ h.1 ≡ info_row ∷ [] = sym h.2 ∙ holds.info in

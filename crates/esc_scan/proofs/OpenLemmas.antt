@@ -1,5 +1,5 @@
 -- From files with pages of a length to the two files, whatever the length is.
-use Rattle.std.proofs.Common.{◌≡◌, ℕ, ◌≤◌, List, length, slice_index, Option, Some, Result, Ok, Err, IsTrue, IfOk, sym, ap, ap₂, subst, subst₂, ◌∙◌, arith}
+use Rattle.std.proofs.Common.{◌≡◌, ℕ, ◌≤◌, List, length, slice_index, Option, Some, Result, Ok, Err, IsTrue, IfOk, sym, ap, subst, subst₂, ◌∙◌, arith}
 use Rattle.std.proofs.Math.Logic.{∥∥₁_elim}
 use Rattle.sqlite_disk.specs.declared.Disk.{Ghosts}
 use Rattle.sqlite_disk.specs.declared.Files.{Files}
@@ -25,7 +25,7 @@ use Rattle.sqlite_store.specs.declared.store.open.Unopened.{Unopened}
 use Rattle.sqlite_store.specs.Unopened.{state_of, files_of, image}
 use Rattle.esc_scan.specs.declared.opening.Opened.{Opened}
 use Rattle.esc_scan.specs.declared.opening.Opened.TheVariants as opened
-use Rattle.esc_scan.specs.Opening.{IsHeldBy, IsHonestOpening, IsPlain, IsOpeningAt, IsOpeningOf}
+use Rattle.esc_scan.specs.Opening.{IsHonestOpening, IsPlain, IsOpeningAt, IsOpeningOf}
 use Rattle.esc_scan.proofs.ReadLaws.{plain_holds}
 
 -- a header that reserves no byte is that of pages without sums
@@ -73,16 +73,6 @@ opened_from size image only (opened.Trees store) at = λ db c held is. record {
   tables = λ t. ∥∥₁_elim held (rows_set _ _) (λ h. (at db c (only db h).1 is).tables t);
 }
 opened_from size image only (opened.Refused files) at = λ db held. let (valid, now) = only db held in holds_database size _ db valid (at db now)
-
--- what is only read holds what it held
-pub held_by_read : {D : Type 0} {g : Ghosts D} (start now : Files D) → OnlyReads g start.log now.log → OnlyReads g start.db now.db → IsHeldBy (image_of g start) (image_of g now)
-held_by_read start now log db found held = subst (λ i. HoldsDatabase i found) (sym (same_image log db)) held
-
--- and so it does when it is given back
-pub held_by_back : {D : Type 0} {g : Ghosts D} (start now left : Files D) → OnlyReads g start.log now.log → OnlyReads g start.db now.db → (left.log ≡ now.log) × (left.db ≡ now.db)
-    → IsHeldBy (image_of g start) (image_of g left)
-held_by_back {g = g} start now left log db back found held =
-    subst (λ i. HoldsDatabase i found) (sym (same_image log db) ∙ sym (ap₂ (seen_image g) back.0 back.1)) held
 
 -- files whose length of a page was probed are opened as the two files
 module _ {D : Type 0} {g : Ghosts D} (start probed now : Files D) (log : OnlyReads g start.log probed.log) (db : OnlyReads g start.db probed.db)

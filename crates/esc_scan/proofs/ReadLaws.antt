@@ -29,13 +29,11 @@ use Rattle.sqlite_catalog.proofs.LayoutLemmas as LL
 use Rattle.sqlite_schema.specs.Rules.{table_reals, index_reals}
 use Rattle.sqlite.specs.Files.{HoldsDatabase}
 use Rattle.sqlite_pool.proofs.ResealLemmas.{plain_adopts}
-use Rattle.sqlite_trees.specs.Props.{rows_set}
-use Rattle.std.proofs.Math.Logic.{∥∥₁_elim}
 use Rattle.sqlite.specs.Opening.{HoldsAt}
 use Rattle.sqlite_wal.specs.Recovery.{Image}
 use Rattle.sqlite_pool.specs.Stored.{Recovers}
 use Rattle.sqlite_pool.specs.StoredLaws.{recovers_once}
-use Rattle.esc_scan.specs.Reads.{HasTable, HasReals, ReadsTables, ReadsIndexes}
+use Rattle.esc_scan.specs.Reads.{HasReals, ReadsTables, ReadsIndexes}
 use Rattle.sqlite_store.proofs.ExactLemmas.{roots_fit}
 use Rattle.sqlite_store.proofs.ListingLemmas.{listing_shaped, named_shape, named_reals, named_tree, past_version}
 
@@ -188,10 +186,3 @@ plain_holds image db held plain = record {
   reads = held.2.reads;
   sound = held.2.sound;
 }
-
--- and what is read is then the trees of that database, whichever of its truncated evidence is had
-pub reads_database : (size : ℕ) (image : Image) (ours : List Wanted) (trees db : Trees) (schema : Schema) → ReadsTables size image ours trees
-    → ∥ ((held : HoldsDatabase image db) × (held.0 ≡ size) × (held.0 % 16 ≢ 8)) ∥₁ → IsSound schema db
-    → (table : TableOf) → Has schema.tables table → HasTable ours table → trees table.tree ≡ db table.tree
-reads_database size image ours trees db schema reads files sound table has at = ∥∥₁_elim files (rows_set _ _) (λ it.
-    reads db schema (subst (λ n. HoldsAt n image db) it.1 (plain_holds image db it.0 it.2)) sound table has at)

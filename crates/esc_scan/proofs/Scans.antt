@@ -1,5 +1,5 @@
 -- How a cursor moves, and what has been read on its way.
-use Rattle.std.proofs.Common.{◌≡◌, ℕ, List, [], ◌∷◌, ◌++◌, Option, Some, None, refl, sym, ap, subst, ◌∙◌, append-nil}
+use Rattle.std.proofs.Common.{◌≡◌, ℕ, List, [], ◌∷◌, ◌++◌, Option, Some, None, refl, sym, ap, ◌∙◌}
 use Rattle.std.proofs.lemmas.List.{append_assoc}
 use Rattle.sqlite_value.specs.Order.{Row}
 use Rattle.sqlite_value.specs.declared.keys.Order.{Order}
@@ -37,19 +37,12 @@ pub record HasRead {V : Type 0} (IsRead : Row → V → Type 0) (rows : List Row
   pub whole : given ++ left_of now ≡ rows
   pub read : AreRead IsRead given vs
 
-pub read_none : {V : Type 0} (IsRead : Row → V → Type 0) (rows : List Row) (now : View) → left_of now ≡ rows → HasRead IsRead rows now []
-read_none IsRead rows now is = record { given = []; whole = is; read = tt }
-
 pub read_more : {V : Type 0} (IsRead : Row → V → Type 0) (rows : List Row) (old new : View) (vs : List V) (v : V) → HasRead IsRead rows old vs → ReadsNext IsRead old new (Some v) → HasRead IsRead rows new (vs ++ v ∷ [])
 read_more IsRead rows old new vs v h next = record {
   given = h.given ++ next.0 ∷ [];
   whole = append_assoc h.given (next.0 ∷ []) (left_of new) ∙ ap (λ l. h.given ++ l) (sym next.1) ∙ h.whole;
   read = one_more IsRead h.given vs next.0 v h.read next.2;
 }
-
-pub read_whole : {V : Type 0} (IsRead : Row → V → Type 0) (rows : List Row) (old new : View) (vs : List V) → HasRead IsRead rows old vs → ReadsNext IsRead old new None → AreRead IsRead rows vs
-read_whole IsRead rows old new vs h next =
-    subst (λ l. AreRead IsRead l vs) (sym (append-nil h.given) ∙ ap (λ l. h.given ++ l) (sym next.0) ∙ h.whole) h.read
 
 -- the first of the rows left
 pub first_read : {V : Type 0} (IsRead : Row → V → Type 0) (rows : List Row) (old new : View) (found : Option V) → left_of old ≡ rows → ReadsNext IsRead old new found → ReadsFirst IsRead rows found

@@ -17,7 +17,7 @@ use Rattle.sqlite.specs.Opening.{HoldsAt}
 use Rattle.sqlite.specs.Files.{HoldsDatabase, image_of}
 use Rattle.esc_sql.specs.Schema.{info_table}
 use Rattle.esc_sql.specs.StoreTable.{StoreTable, schema_table}
-use Rattle.esc_sql.specs.Content.{Content, HoldsRows, IsStore}
+use Rattle.esc_sql.specs.Content.{Content, HoldsRows, AreStoreTrees}
 use Rattle.esc_scan.specs.Reads.{HasTable}
 use Rattle.esc_scan.specs.declared.opening.Opened.{Opened}
 use Rattle.esc_scan.specs.declared.opening.Opened.TheVariants as opened
@@ -30,7 +30,7 @@ pub record HasTables (ours : List Wanted) : Type 0 where
 -- where the files hold a store with this content, the trees are those of version 2 with its rows
 abbrev pub ReadsStoreAt : ℕ → Image → Trees → Type 0
 ReadsStoreAt size image trees =
-    (db : Trees) (c : Content) → HoldsAt size image db → IsStore db c → HoldsRows trees c
+    (db : Trees) (c : Content) → HoldsAt size image db → AreStoreTrees db c → HoldsRows trees c
 
 -- sixteen rows with the rowids from 1 to 16
 abbrev pub AreNumbered : List Row → Type 0
@@ -54,7 +54,8 @@ IsPlain n image =
 -- where the files hold a store with this content, the trees are those of version 2 with its rows
 abbrev pub ReadsStore : Image → Trees → Type 0
 ReadsStore image trees =
-    (db : Trees) (c : Content) → ∥ HoldsDatabase image db ∥₁ → IsStore db c → HoldsRows trees c
+    (db : Trees) (c : Content) → ∥ HoldsDatabase image db ∥₁ → AreStoreTrees db c
+    → HoldsRows trees c
 
 -- what database the old files held, the new ones hold
 abbrev pub IsHeldBy : Image → Image → Type 0

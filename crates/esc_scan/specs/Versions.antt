@@ -11,8 +11,8 @@ abbrev pub version_read : StoredVersion → ℤ
 version_read it = it.version
 
 -- the version that a row of the table tells
-abbrev pub TellsVersion : Row → StoredVersion → Type 0
-TellsVersion row it = column row 2 ≡ Int it.version
+abbrev pub RowTellsVersion : Row → StoredVersion → Type 0
+RowTellsVersion row it = column row 2 ≡ Int it.version
 
 -- the version in the first row of its table, if there is one
 abbrev pub version_in : Trees → Option Value

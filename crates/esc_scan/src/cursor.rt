@@ -40,7 +40,8 @@ impl<'a, S: Store> Scan<'a, S> {
             → left_of (S.Store.view (scanned_store self.new))
             ≡ (S.Store.view (scanned_store self.old)).trees tree) }
         ensures only { OnOk result (IsClean (S.Store.view (scanned_store self.new))
-            → OnlyCursors (S.Store.view (scanned_store self.old)) (S.Store.view (scanned_store self.new))) }
+            → OnlyCursors (S.Store.view (scanned_store self.old))
+            (S.Store.view (scanned_store self.new))) }
         ensures quiet { IsQuiet S.Store.view S.Store.faults S.Store.recovers
             S.Store.is_shielded (scanned_store self.old) (scanned_store self.new) }
     {
@@ -54,10 +55,11 @@ impl<'a, S: Store> Scan<'a, S> {
         ensures same_reference { scan_name self.new ≡ scan_name self.old }
         ensures live { OnOk result (IsSome ((S.Store.view (scanned_store self.new)).cursors 0)) }
         ensures gives { IfOk result (λ found. IsClean (S.Store.view (scanned_store self.new))
-            → GivesNext (S.Store.view (scanned_store self.old)) (S.Store.view (scanned_store self.new))
-            row.new found) }
+            → GivesNext (S.Store.view (scanned_store self.old))
+            (S.Store.view (scanned_store self.new)) row.new found) }
         ensures only { OnOk result (IsClean (S.Store.view (scanned_store self.new))
-            → OnlyCursors (S.Store.view (scanned_store self.old)) (S.Store.view (scanned_store self.new))) }
+            → OnlyCursors (S.Store.view (scanned_store self.old))
+            (S.Store.view (scanned_store self.new))) }
         ensures quiet { IsQuiet S.Store.view S.Store.faults S.Store.recovers
             S.Store.is_shielded (scanned_store self.old) (scanned_store self.new) }
     {
@@ -77,7 +79,8 @@ impl<'a, S: Store> Scan<'a, S> {
             → ReadsNext T.FromEntry.is_read (S.Store.view (scanned_store self.old))
             (S.Store.view (scanned_store self.new)) found) }
         ensures only { OnOk result (IsClean (S.Store.view (scanned_store self.new))
-            → OnlyCursors (S.Store.view (scanned_store self.old)) (S.Store.view (scanned_store self.new))) }
+            → OnlyCursors (S.Store.view (scanned_store self.old))
+            (S.Store.view (scanned_store self.new))) }
         ensures quiet { IsQuiet S.Store.view S.Store.faults S.Store.recovers
             S.Store.is_shielded (scanned_store self.old) (scanned_store self.new) }
     {

@@ -17,7 +17,8 @@
 //! |---|---|
 //! | `cursor` | a scan of a table, one row or one value at a time |
 //! | `rows` | how a row is read as a value |
-//! | `version`, `listed`, `receipt`, `held`, `step`, `object`, `parked`, `moment` | reads of each table |
+//! | `version`, `listed`, `receipt`, `held` | reads of each of these tables |
+//! | `step`, `object`, `parked`, `moment` | reads of each of the others |
 //! | `opening` | the trees of a store's two files, without an audit of their rows |
 //!
 //! # An example
@@ -36,9 +37,9 @@
 //! - `HoldsRows trees c` of `esc_sql` says that the trees are those of version 2 with the rows of a
 //!   content `c`. It is the premise of each read; `find_version` also says what version other trees
 //!   have.
-//! - A read has one clause, `read`: `IsScan S.Store old new Says result`. Where the call succeeds and
-//!   the disk has answered truly, `Says` holds of the content and the result, and nothing but cursors
-//!   has moved. In every case nothing is committed, and a crash leaves nothing new.
+//! - A read has one clause, `read`: `IsScan S.Store old new Says result`. Where the call succeeds
+//!   and the disk has answered truly, `Says` holds of the content and the result, and nothing but
+//!   cursors has moved. In every case nothing is committed, and a crash leaves nothing new.
 //! - A scan's clauses speak of the rows that its cursor has left (`left_of`): all of the tree's at
 //!   the start, and at each step all but the first of those before.
 #![tactic(auto)]

@@ -2,7 +2,7 @@
 
 ghost use Rattle.std.specs.Prelude.{◌≡◌, option_map};
 ghost use Rattle.esc_sql.specs.StoreTable.{Moment};
-ghost use Rattle.esc_sql.specs.Content.{moment_of};
+ghost use Rattle.esc_sql.specs.Content.{moment_set};
 ghost use Rattle.esc_scan.specs.Scanning.{ReadsRow, IsScan};
 ghost use Rattle.esc_scan.specs.Moments.{moment_read, watermark_of_moment};
 
@@ -44,7 +44,7 @@ fn moment_in(found: Option<StoredMoment>) -> Option<i64>
 /// The moment that is set, in nanoseconds since 1970-01-01T00:00:00Z, if one is.
 pub fn find_moment<S: Store>(alloc: Global, store: &mut S) -> Result<Option<i64>, ScanError>
     ensures read { IsScan S.Store store.old store.new
-        (λ c found. found ≡ moment_of c.moment) result }
+        (λ c found. found ≡ moment_set c.moment) result }
 {
     let found = read_first(alloc, store, MOMENT_TREE)?;
     Ok(moment_in(found))

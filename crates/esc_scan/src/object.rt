@@ -4,7 +4,7 @@ ghost use Rattle.std.specs.Prelude.{◌≡◌, map, option_map};
 ghost use Rattle.sqlite_trees.specs.View.{IsClean};
 ghost use Rattle.esc_sql.specs.StoreTable.{Objects};
 ghost use Rattle.esc_sql.specs.Changes.{object_entry};
-ghost use Rattle.esc_sql.specs.Entries.{object_of};
+ghost use Rattle.esc_sql.specs.Entries.{stored_entry};
 ghost use Rattle.esc_scan.specs.Scanning.{ReadsRow, IsScan};
 ghost use Rattle.esc_scan.specs.Kinds.{kind_read, kind_of_object};
 ghost use Rattle.esc_scan.specs.ObjectKeys.{key_read, key_of_object, object_with};
@@ -20,7 +20,7 @@ use std::alloc::Global;
 pub const OBJECT_TREE: u32 = 9;
 
 impl FromEntry for StoredObject {
-    ghost is_read = { ReadsRow Objects object_of object_entry };
+    ghost is_read = { ReadsRow Objects stored_entry object_entry };
 
     fn from_entry(alloc: Global, row: &Row) -> Result<StoredObject, ScanError> {
         Ok(StoredObject {
@@ -76,8 +76,8 @@ pub fn object_kinds<S: Store>(alloc: Global, store: &mut S) -> Result<Vec<Object
     read_all(alloc, store, OBJECT_TREE)
 }
 
-/// The key of each object, in the order of rowids. Each object is read, one at a time, and no record
-/// is kept.
+/// The key of each object, in the order of rowids. Each object is read, one at a time, and no
+/// record is kept.
 pub fn object_keys<S: Store>(alloc: Global, store: &mut S) -> Result<Vec<ObjectKey>, ScanError>
     ensures read { IsScan S.Store store.old store.new
         (λ c found. map key_read found.items ≡ map key_of_object c.objects) result }
@@ -94,7 +94,7 @@ pub fn find_object<S: Store>(
     requires { IsClean (S.Store.view store.old)
         → (S.Store.view store.old).shape OBJECT_TREE ≡ Shape.Table }
     ensures read { IsScan S.Store store.old store.new
-        (λ c found. option_map object_of found ≡ object_with id c.objects) result }
+        (λ c found. option_map stored_entry found ≡ object_with id c.objects) result }
 {
     let found = read_at(alloc, store, OBJECT_TREE, id)?;
     Ok(found)

@@ -40,7 +40,8 @@ pub fn open_trees<D: Disk + Drop>(
     requires log { IsTrue (D.Disk.is_usable files.log) }
     requires db { IsTrue (D.Disk.is_usable files.db) }
     ensures of_use { IfOk result IsOfUse }
-    ensures opened { IfOk result (λ it. IsHonestOpening it → IsOpeningOf (image_of D.Disk files) it) }
+    ensures opened { IfOk result (λ it.
+        IsHonestOpening it → IsOpeningOf (image_of D.Disk files) it) }
 {
     let Ok(Some(size)) = probe_page_size(&mut files) else {
         return Ok(Opened::Refused(files));

@@ -4,7 +4,7 @@ ghost use Rattle.std.specs.Prelude.{◌≡◌, pos, Some, IfOk, option_map};
 ghost use Rattle.sqlite_value.specs.declared.value.Value.TheVariants.{Int};
 ghost use Rattle.sqlite_trees.specs.View.{IsClean};
 ghost use Rattle.esc_scan.specs.Scanning.{IsScan};
-ghost use Rattle.esc_scan.specs.Versions.{TellsVersion, version_in, version_read};
+ghost use Rattle.esc_scan.specs.Versions.{RowTellsVersion, version_in, version_read};
 
 use crate::cursor::read_first;
 use crate::rows::{FromEntry, ScanError, value_at};
@@ -22,7 +22,7 @@ pub(crate) struct StoredVersion {
 }
 
 impl FromEntry for StoredVersion {
-    ghost is_read = { TellsVersion };
+    ghost is_read = { RowTellsVersion };
 
     fn from_entry(alloc: Global, row: &Row) -> Result<StoredVersion, ScanError> {
         Ok(StoredVersion {

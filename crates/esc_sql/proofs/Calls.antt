@@ -1,7 +1,7 @@
 -- The names that the answers cite, passed on from one place. Declares nothing.
 pub use Rattle.esc_sql.proofs.Common.{arith, subst, PutsListed, listed_row, ◌+◌, sym, table_at, schema_of, ◌≡◌, Ok, state, Error, IsPart, Builds, no_schema, rules, ShowsVersion, refl, ◌∙◌, shown_listed, if_goes, map, map-map, sort_by}
-pub use Rattle.esc_sql.proofs.Common.{object_entry, by_key, object_of, shown_entry, ap, length-map, get_or-map, bound, new_entry, first_of, number_value, shown_kind, zero, ◌≢◌, ObjectEntry, CountsObject, filter, take, take-map, is_kind_from}
-pub use Rattle.esc_sql.proofs.Common.{shown_object, by_digest, digest_of, shown_digest, ◌<◌, ◌++◌, ◌∷◌, [], length, shown_receipt, Some, None, slice_get, common_steps, shown_step, survives_weaker, Err, each_err, new_image, image_entry}
+pub use Rattle.esc_sql.proofs.Common.{object_entry, by_key, stored_entry, shown_entry, ap, length-map, get_or-map, bound, new_entry, first_of, number_value, shown_kind, zero, ◌≢◌, ObjectEntry, CountsObject, filter, take, take-map, is_kind_from}
+pub use Rattle.esc_sql.proofs.Common.{shown_object, by_digest, parked_digest, shown_digest, ◌<◌, ◌++◌, ◌∷◌, [], length, shown_receipt, Some, None, slice_get, common_steps, shown_step, survives_weaker, Err, each_err, new_image, image_entry}
 pub use Rattle.esc_sql.proofs.Common.{by_image, shown_image_entry, IsTrue, RunsInside, inl}
 pub use Rattle.esc_sql.proofs.Compiled.{select_version_is}
 pub use Rattle.esc_sql.proofs.CreateLemmas.{adds_next, adds_table, builds, AddsBoth, adds_both, shows_version, makes_empty, raises}

@@ -66,9 +66,9 @@ pub use Rattle.sqlite_value.specs.declared.value.Value.TheVariants.{Null, Int, B
 pub use Rattle.esc_sql.specs.Changes.{PutsListed, Becomes, PutsObjects, ObjectEntry, is_entry_at, object_entry, by_key, entry_at, is_kind_from, by_image, image_entry}
 pub use Rattle.esc_sql.specs.Content.{HoldsContent, rows_of, number_in, Content, with_rows, object_at, is_object_at, is_same_key}
 pub use Rattle.esc_sql.specs.Creation.{Builds}
-pub use Rattle.esc_sql.specs.Entries.{listed_row, first_of, number_value, shown_entry, shown_image_entry, object_of, new_entry, new_image}
-pub use Rattle.esc_sql.specs.FirstVersion.{table_at, IsTableAdded, AddsTable, HoldsFirst}
-pub use Rattle.esc_sql.specs.Parked.{by_digest, shown_digest, digest_of}
+pub use Rattle.esc_sql.specs.Entries.{listed_row, first_of, number_value, shown_entry, shown_image_entry, stored_entry, new_entry, new_image}
+pub use Rattle.esc_sql.specs.FirstVersion.{table_at, IsTableAdded, AddsTable, HoldsFirstContent}
+pub use Rattle.esc_sql.specs.Parked.{by_digest, shown_digest, parked_digest}
 pub use Rattle.esc_sql.specs.Part.{IsPart, RunsInside}
 pub use Rattle.esc_sql.specs.Reading.{AreRead}
 pub use Rattle.esc_sql.specs.ResultLaws.{if_goes, each_err}
@@ -76,7 +76,7 @@ pub use Rattle.esc_sql.specs.RowText.{is_write_text, is_read_text}
 pub use Rattle.esc_sql.specs.Rows.{ListedRow, info_row, listed_number, ObjectRow, ReceiptRow, shown_receipt, receipt_number, shown_step, shown_listed, blob_or_null, number_or_null}
 pub use Rattle.esc_sql.specs.Schema.{schema_of, store_schema, first_schema, info_tree, receipt_tree, object_tree, undo_tree, parked_tree, moment_tree, info_table, rising, no_schema}
 pub use Rattle.esc_sql.specs.StatementSteps.{ShowsVersion, CountsObject, shown_object, shown_kind}
-pub use Rattle.esc_sql.specs.StoreTable.{StoreTable, tree_of, stored_row, Listed, Receipts, Held, Steps, Objects, Undo, Parked, Moment, RowOf, schema_table, place_of, row_number, row_columns}
+pub use Rattle.esc_sql.specs.StoreTable.{StoreTable, tree_of, stored_row, Listed, Receipts, Held, Steps, Objects, Undo, Parked, Moment, RowOf, schema_table, table_index, row_number, row_columns}
 pub use Rattle.esc_sql.specs.Texts.{insert_info_text, raise_version_text, select_version_text, insert_listed_text, select_listed_text, insert_receipt_text, find_receipt_text, select_receipts_text, last_receipt_text, verdict_rows_text}
 pub use Rattle.esc_sql.specs.Texts.{verdict_digests_text, insert_held_text, find_body_text, clear_steps_from_text, insert_step_text, select_steps_text, insert_object_text, insert_objects_text, update_object_text, delete_object_text}
 pub use Rattle.esc_sql.specs.Texts.{clear_objects_text, find_object_text, select_objects_text, objects_from_text, select_kinds_text, insert_undo_text, insert_images_text, select_undo_text, delete_undo_text, clear_undo_text}

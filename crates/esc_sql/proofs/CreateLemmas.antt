@@ -1,12 +1,12 @@
 -- What a CREATE TABLE does, what the first rows make of empty tables, and what an upgrade does.
 use Rattle.esc_sql.proofs.Common.{◌≡◌, lit, ℕ, zero, suc, ◌<◌, ◌+◌, pos, false, List, [], ◌∷◌, Ok, refl, arith, ◌<ℤ◌, map, take, length, get_or, Option, None, sym, ap, subst, ◌∙◌, take_more, AllByRecursion, statement_of, runs_as, created}
 use Rattle.esc_sql.proofs.Common.{next_tree, Update, CreateTable, lacks_sequence, Tally, Does, edit_of, edited, Database, understood, overlay, Output, Chosen, Given, State, mode_of, Shown, col, Mode, IsKeyedBy, ids_of, value_cmp-Int, Row}
-use Rattle.esc_sql.proofs.Common.{column, Null, Int, PutsListed, HoldsContent, rows_of, Content, Builds, table_at, IsTableAdded, AddsTable, HoldsFirst, ListedRow, info_row, listed_number, schema_of, store_schema, info_tree, info_table}
-use Rattle.esc_sql.proofs.Common.{ShowsVersion, StoreTable, tree_of, stored_row, row_number, Parked, Moment, place_of, insert_info_text, raise_version_text, select_version_text}
+use Rattle.esc_sql.proofs.Common.{column, Null, Int, PutsListed, HoldsContent, rows_of, Content, Builds, table_at, IsTableAdded, AddsTable, HoldsFirstContent, ListedRow, info_row, listed_number, schema_of, store_schema, info_tree, info_table}
+use Rattle.esc_sql.proofs.Common.{ShowsVersion, StoreTable, tree_of, stored_row, row_number, Parked, Moment, table_index, insert_info_text, raise_version_text, select_version_text}
 use Rattle.std.proofs.Common.{map-id}
 use Rattle.sqlite.specs.Change.{KeepsRows}
 use Rattle.sqlite.specs.State.{Writes}
-use Rattle.esc_sql.specs.Creation.{fresh, MakesEmpty}
+use Rattle.esc_sql.specs.Creation.{fresh_content, MakesEmpty}
 use Rattle.esc_sql.specs.Content.{IsInOrder}
 use Rattle.esc_sql.specs.StoreTable.{Listed as listed}
 use Rattle.esc_sql.proofs.Compiled.{IsWrite, create_is, parted, write_is, select_version_is, program_of}
@@ -69,7 +69,7 @@ info_written old new c w info tables ordered = record {
   store = record { rows = record { info = info; tables = λ t. other_rows info_tree old new w t (λ e. not_info t (sym e)) ∙ tables t }; ordered = ordered; sound = w.sound };
 }
 
-nothing : (t : StoreTable) → ([] ≡ map (stored_row t) (rows_of (fresh []) t)) × IsKeyedBy (row_number t) (rows_of (fresh []) t)
+nothing : (t : StoreTable) → ([] ≡ map (stored_row t) (rows_of (fresh_content []) t)) × IsKeyedBy (row_number t) (rows_of (fresh_content []) t)
 nothing listed = (refl, tt)
 nothing _ = (refl, tt)
 
@@ -79,7 +79,7 @@ makes_empty = record {
   does = λ old new count ran built.
       let done = inserts_at 0 info_table refl [] insert_info_text _ 3 (info_row ∷ []) (write_is refl) refl old new count built.schema_is ran in
       let left : edited old.now.trees (edit_of old.now.trees (uncounted info_table) [] Chosen 0 (info_row ∷ [])) ≡ info_row ∷ [] = rw (built.empty.0, cast_null, cast_int (pos 1), cast_int (pos 2)) refl in
-      info_written old.now new.now (fresh []) done.written (done.edited.applies.rows ∙ left) (λ t. of_table (λ s. old.now.trees s.tree ≡ []) t built.empty ∙ (nothing t).0) (λ t. (nothing t).1);
+      info_written old.now new.now (fresh_content []) done.written (done.edited.applies.rows ∙ left) (λ t. of_table (λ s. old.now.trees s.tree ≡ []) t built.empty ∙ (nothing t).0) (λ t. (nothing t).1);
 }
 
 pub shows_version : (old new : State) (rows : List Row) → Shown select_version_text [] old new rows → ShowsVersion old.now rows
@@ -97,11 +97,11 @@ before [] at d up low = absurd (omega arith)
 before (r ∷ rows) zero d up low = tt
 before (r ∷ rows) (suc at) d up low = (all-get_or (λ x. listed_number r <ℤ listed_number x) rows at d up.0 (omega arith), before rows at d up.1 (omega arith))
 
-pub adds_next : (rows : List ListedRow) (at : ℕ) (d : ListedRow) (old new : Database) → at < length rows → IsKeyedBy listed_number rows → HoldsContent old (fresh (take at rows))
-    → PutsListed (get_or rows at d) old new → HoldsContent new (fresh (take (at + 1) rows))
+pub adds_next : (rows : List ListedRow) (at : ℕ) (d : ListedRow) (old new : Database) → at < length rows → IsKeyedBy listed_number rows → HoldsContent old (fresh_content (take at rows))
+    → PutsListed (get_or rows at d) old new → HoldsContent new (fresh_content (take (at + 1) rows))
 adds_next rows at d old new low up holds adds =
     let last = insert_last listed_number (take at rows) (get_or rows at d) (before rows at d up low) in
-    subst (λ l. HoldsContent new (fresh l)) (last ∙ sym (take_more rows at d low)) (adds (fresh (take at rows)) holds)
+    subst (λ l. HoldsContent new (fresh_content l)) (last ∙ sym (take_more rows at d low)) (adds (fresh_content (take at rows)) holds)
 
 -- ---- the version of a store is raised
 
@@ -126,10 +126,10 @@ raises = record {
 
 -- with both, the store is to be raised
 abbrev pub AddsBoth : Database → Database → Type 0
-AddsBoth old new = (c : Content) → HoldsFirst old c → IsToBeRaised new c
+AddsBoth old new = (c : Content) → HoldsFirstContent old c → IsToBeRaised new c
 
 -- each older table keeps its rows
-stay : (at : ℕ) (old new : Database) → IsTableAdded at old new → (t : StoreTable) → place_of t < at
+stay : (at : ℕ) (old new : Database) → IsTableAdded at old new → (t : StoreTable) → table_index t < at
     → new.trees (tree_of t) ≡ old.trees (tree_of t)
 stay at old new added t = of_first (λ s. new.trees s.tree ≡ old.trees s.tree) at t added.others
 

@@ -1,8 +1,8 @@
 -- What a write does to a table of the store, whichever it is, and that it leaves the others.
 use Rattle.esc_sql.proofs.Common.{◌≡◌, arith, ℕ, ◌<◌, true, false, List, [], Ok, refl, inl, inr, map, take, length, Option, None, ap, subst, ◌∙◌, ◌⊎◌, Result, Err, slice_get, Some, ◌/◌, ◌==◌, ◌≢◌, AllByRecursion, Insert, Update, Delete}
 use Rattle.esc_sql.proofs.Common.{Tally, Does, edit_of, Edit, Database, value_rows, IsDatabase, overlay, Chosen, Given, stamped, Schema, Values, Table, Term, Trees, Mode, IsKeyedBy, ids_of, Command, Program, Row, HoldsContent, rows_of}
-use Rattle.esc_sql.proofs.Common.{Content, with_rows, HoldsFirst, schema_of, store_schema, first_schema, info_tree, StoreTable, tree_of, stored_row, Listed, Receipts, Held, Steps, Objects, Undo, Parked, Moment, RowOf, schema_table}
-use Rattle.esc_sql.proofs.Common.{place_of, row_number}
+use Rattle.esc_sql.proofs.Common.{Content, with_rows, HoldsFirstContent, schema_of, store_schema, first_schema, info_tree, StoreTable, tree_of, stored_row, Listed, Receipts, Held, Steps, Objects, Undo, Parked, Moment, RowOf, schema_table}
+use Rattle.esc_sql.proofs.Common.{table_index, row_number}
 use Rattle.sqlite_schema.specs.declared.schema.Action.TheVariants.{NoAction}
 use Rattle.sqlite_schema.specs.declared.schema.Keys.TheVariants.{Enforced}
 use Rattle.sqlite_rules.specs.Action.{works}
@@ -20,8 +20,8 @@ use Rattle.sqlite_schema.specs.declared.schema.Constraint.TheVariants.{Unique}
 use Rattle.sqlite_catalog.specs.Listing.{IsSound}
 use Rattle.sqlite_trees.specs.Objects.{catalog_tree}
 use Rattle.sqlite_catalog.proofs.ReadLemmas.{lists_once}
-use Rattle.esc_sql.specs.Content.{IsStore}
-use Rattle.esc_sql.specs.FirstVersion.{IsFirstStore}
+use Rattle.esc_sql.specs.Content.{AreStoreTrees}
+use Rattle.esc_sql.specs.FirstVersion.{AreFirstTrees}
 
 pub same_value : {B E : Type 0} {a b : B} → ◌≡◌ {A = Result B E} (Ok a) (Ok b) → a ≡ b
 same_value e = cc
@@ -98,7 +98,7 @@ module _ (limit : Option ℕ) (mode : Mode) (enforced : mode.keys ≡ Enforced) 
 -- ---- a write to one table leaves the others, so that the store holds the same but for that table
 
 -- each table is at its place in the schema
-pub place_is : (t : StoreTable) → slice_get store_schema.tables (place_of t) ≡ Some (uncounted (schema_table t))
+pub place_is : (t : StoreTable) → slice_get store_schema.tables (table_index t) ≡ Some (uncounted (schema_table t))
 place_is Listed = refl
 place_is _ = refl
 
@@ -113,11 +113,11 @@ not_info _ e = cc
 
 -- what holds of each table of the schema
 pub of_table : (P : Table → Type 0) (t : StoreTable) → AllByRecursion P store_schema.tables → P (uncounted (schema_table t))
-of_table P t = all-slice_get P store_schema.tables (place_of t) (uncounted (schema_table t)) (place_is t)
+of_table P t = all-slice_get P store_schema.tables (table_index t) (uncounted (schema_table t)) (place_is t)
 
 -- what holds of each of the first tables
-pub of_first : (P : Table → Type 0) (count : ℕ) (t : StoreTable) → AllByRecursion P (schema_of count).tables → place_of t < count → P (uncounted (schema_table t))
-of_first P count t all low = all-slice_get P (take count store_schema.tables) (place_of t) _ (slice_get-take count store_schema.tables (place_of t) low ∙ place_is t) all
+pub of_first : (P : Table → Type 0) (count : ℕ) (t : StoreTable) → AllByRecursion P (schema_of count).tables → table_index t < count → P (uncounted (schema_table t))
+of_first P count t all low = all-slice_get P (take count store_schema.tables) (table_index t) _ (slice_get-take count store_schema.tables (table_index t) low ∙ place_is t) all
 
 -- each row of a table passes the rules of its UNIQUE keys
 pub passes_unique : (t : StoreTable) (trees : Trees) → IsSound store_schema trees
@@ -168,8 +168,8 @@ content_then old new c h t w xs rows up = record {
 -- ---- the schema of a database is told by its rows
 
 -- what an open finds in the trees of a store has its schema
-pub opens_store : (db : Database) (c : Content) → IsDatabase db → IsStore db.trees c → HoldsContent db c
+pub opens_store : (db : Database) (c : Content) → IsDatabase db → AreStoreTrees db.trees c → HoldsContent db c
 opens_store db c live it = record { schema_is = lists_once (db.trees catalog_tree) db.schema store_schema live.lists it.sound.lists; store = it }
 
-pub opens_first : (db : Database) (c : Content) → IsDatabase db → IsFirstStore db.trees c → HoldsFirst db c
+pub opens_first : (db : Database) (c : Content) → IsDatabase db → AreFirstTrees db.trees c → HoldsFirstContent db c
 opens_first db c live it = record { schema_is = lists_once (db.trees catalog_tree) db.schema first_schema live.lists it.sound.lists; store = it }

@@ -1,7 +1,7 @@
 -- Rows that one statement adds: what its parameters give, how SQLite numbers them, and what is found after.
 use Rattle.esc_sql.proofs.Common.{◌≡◌, ℕ, suc, ◌+◌, pos, true, List, [], ◌∷◌, ◌++◌, refl, arith, inl, inr, filter, ◌≤◌, map, take, length, Option, None, sym, ap, subst, ◌∙◌, ap₂, ℤ, Bool, slice_get, option_map, find, ◌/◌, ◌+ℤ◌}
 use Rattle.esc_sql.proofs.Common.{fold, is_some, cases_Bool, flat_map, option_or, Insert, Database, value_rows, Chosen, stamped, Values, Term, eval_all, put_row, IsKeyedBy-insert_by, slice_get-filter, map-map, map_same, IsKeyedBy}
-use Rattle.esc_sql.proofs.Common.{cast_row, Row, column, Null, Int, HoldsContent, rows_of, Content, with_rows, StoreTable, Listed, RowOf, schema_table, place_of, row_number, row_columns}
+use Rattle.esc_sql.proofs.Common.{cast_row, Row, column, Null, Int, HoldsContent, rows_of, Content, with_rows, StoreTable, Listed, RowOf, schema_table, table_index, row_number, row_columns}
 use Rattle.std.proofs.Common.{drop}
 use Rattle.std.proofs.lemmas.List.{append-nil, append_assoc, length-append}
 use Rattle.std.proofs.lemmas.List.Folds.{find-append}
@@ -107,7 +107,7 @@ module _ (t : StoreTable) {E V K : Type 0} (make : ℕ → E → RowOf t) (id : 
     (cols : E → Row) (rest_is : (n : ℕ) (e : E) → row_columns t (make n e) ≡ cols e) (cast_is : (e : E) → cast_row (uncounted (schema_table t)) (Null ∷ cols e) ≡ Null ∷ cols e)
     (out : RowOf t → V) (shown : E → V) (out_is : (n : ℕ) (e : E) → out (make n e) ≡ shown e) (at : K → RowOf t → Bool) (test : K → E → Bool) (same : (k : K) (n : ℕ) (e : E) → at k (make n e) ≡ test k e)
     (few : (k : K) (db : Database) (c : Content) → HoldsContent db c → length (filter (at k) (rows_of c t)) ≤ 1) where
-  pub gains : {params : Row} {text : List ℕ} {terms : List Term} {width : ℕ} (es : List E) → IsWrite text (Insert (place_of t) (Values terms width))
+  pub gains : {params : Row} {text : List ℕ} {terms : List Term} {width : ℕ} (es : List E) → IsWrite text (Insert (table_index t) (Values terms width))
       → value_rows (stamped (schema_table t) params) width (length terms / width) terms ≡ map (λ e. Null ∷ cols e) es
       → IsWriting text params (λ old new. (c : Content) → HoldsContent old c → (xs : List (RowOf t)) × HoldsContent new (with_rows c t xs)
       × ((k : K) → (is_some (option_map shown (find (test k) es)) ≡ true → option_map out (find (at k) (rows_of c t)) ≡ None)

@@ -1,11 +1,11 @@
 -- What the statements on parked bodies and on the moment do.
 use Rattle.esc_sql.proofs.Common.{◌≡◌, ℕ, pos, true, false, List, [], ◌∷◌, refl, map, Option, sym, ap, subst, ◌∙◌, ℤ, slice_get, option_map, Less, is_eq, is_some, bytes_eq, and_parts, nat_list_cmp_total, nat_list_eq_equiv, on_total}
 use Rattle.esc_sql.proofs.Common.{list_any-IsPermutation, is_eq-slice_cmp, bytes_eq-Decides, IsTotalOrder, slice_cmp, list_any, nat_cmp, Database, IsAscending, map-map, ascending_weaker, ascending-map, IsPermutation-sort_by, insert_by}
-use Rattle.esc_sql.proofs.Common.{has_key, sort_by, delete_where, value_cmp-Blob, Row, Int, Blob, Becomes, HoldsContent, Content, first_of, by_digest, shown_digest, digest_of, stored_row, Parked, Moment, insert_parked_text}
+use Rattle.esc_sql.proofs.Common.{has_key, sort_by, delete_where, value_cmp-Blob, Row, Int, Blob, Becomes, HoldsContent, Content, first_of, by_digest, shown_digest, parked_digest, stored_row, Parked, Moment, insert_parked_text}
 use Rattle.esc_sql.proofs.Common.{find_parked_text, parked_digests_text, delete_parked_text, clear_moment_text, insert_moment_text, find_moment_text, first_key, IsPermutation-refl, arith, IsPermutation-map}
 use Rattle.std.proofs.lemmas.Map.Views.{Contains-from_any, list_any-from_Contains}
 use Rattle.esc_sql.specs.Rows.{ParkedRow, MomentRow, moment_number}
-use Rattle.esc_sql.specs.Content.{parked_at, is_parked_at, moment_of}
+use Rattle.esc_sql.specs.Content.{parked_at, is_parked_at, moment_set}
 use Rattle.esc_sql.specs.Parked.{PutsParked, RemovesParked, ListsParked, shown_parked, ShowsParked, ShowsDigests, without_moment, moment_row, SetsMoment, shown_moment, ShowsMoment}
 use Rattle.esc_sql.proofs.Compiled.{parked_tests, write_is, query_is}
 use Rattle.esc_sql.proofs.Scan.{is_match, same_blob, and_true, short_rises}
@@ -56,7 +56,7 @@ finds_parked digest = finds Parked (is_parked_at digest) shown_parked (query_is 
 -- ---- the digests
 
 total : IsTotalOrder by_digest
-total = on_total digest_of nat_list_cmp_total
+total = on_total parked_digest nat_list_cmp_total
 
 unlike : (db : Database) (c : Content) → HoldsContent db c → IsAscending (λ a b. is_eq (by_digest a b) ≡ false) c.parked
 unlike db c h = ascending_weaker _ (λ a b. is_eq (by_digest a b) ≡ false) (λ a b e. is_eq-slice_cmp a.digest b.digest ∙ e) c.parked (parked_keys.apart db c h)
@@ -64,21 +64,21 @@ unlike db c h = ascending_weaker _ (λ a b. is_eq (by_digest a b) ≡ false) (λ
 pub shows_digests : IsAsking parked_digests_text [] ShowsDigests
 shows_digests =
     asking_as (asks_sorted Parked (λ p. (Blob p.digest ∷ [], Blob p.digest ∷ [])) (query_is refl) every (λ p. refl) by_digest total (λ a b. then_equal _ ∙ value_cmp-Blob a.digest b.digest) unlike)
-    (λ c rows is. is ∙ sym (map-map shown_digest digest_of (sort_by by_digest c.parked)))
+    (λ c rows is. is ∙ sym (map-map shown_digest parked_digest (sort_by by_digest c.parked)))
 
 -- a digest is that of a row exactly where a body is found under it
-found_any : (d : List ℕ) (ps : List ParkedRow) → list_any (bytes_eq d) (map digest_of ps) ≡ is_some (parked_at d ps)
+found_any : (d : List ℕ) (ps : List ParkedRow) → list_any (bytes_eq d) (map parked_digest ps) ≡ is_some (parked_at d ps)
 found_any d [] = refl
 found_any d (p ∷ ps) = grind (arith, nat_list_eq_equiv.symm d p.digest, found_any d ps)
 
-pub lists_parked : (db : Database) (c : Content) (found : List (List ℕ)) → HoldsContent db c → found ≡ map digest_of (sort_by by_digest c.parked) → ListsParked c found
+pub lists_parked : (db : Database) (c : Content) (found : List (List ℕ)) → HoldsContent db c → found ≡ map parked_digest (sort_by by_digest c.parked) → ListsParked c found
 lists_parked db c found h is = subst (ListsParked c) (sym is) (record {
-  rising = ascending-map (λ a b. slice_cmp nat_cmp a b ≡ Less) digest_of (sort_by by_digest c.parked) (rises-sorted by_digest total c.parked (unlike db c h));
+  rising = ascending-map (λ a b. slice_cmp nat_cmp a b ≡ Less) parked_digest (sort_by by_digest c.parked) (rises-sorted by_digest total c.parked (unlike db c h));
   each = λ d. (λ has. sym (there d) ∙ list_any-from_Contains nat_list_eq_equiv d _ has, λ some. Contains-from_any (λ a b. (bytes_eq-Decides a b).0) d _ (there d ∙ some));
 }) where
-  there : (d : List ℕ) → list_any (bytes_eq d) (map digest_of (sort_by by_digest c.parked)) ≡ is_some (parked_at d c.parked)
+  there : (d : List ℕ) → list_any (bytes_eq d) (map parked_digest (sort_by by_digest c.parked)) ≡ is_some (parked_at d c.parked)
   there d =
-      list_any-IsPermutation (bytes_eq d) _ (map digest_of c.parked) (IsPermutation-map digest_of _ c.parked (IsPermutation-sort_by by_digest total c.parked)) ∙ found_any d c.parked
+      list_any-IsPermutation (bytes_eq d) _ (map parked_digest c.parked) (IsPermutation-map parked_digest _ c.parked (IsPermutation-sort_by by_digest total c.parked)) ∙ found_any d c.parked
 
 -- ---- the moment
 
@@ -102,9 +102,9 @@ finds_moment =
     asks_in_order Moment (λ m. ([], shown_moment m)) (query_is refl) every (λ m. refl) (λ c. c.moment)
     (λ db c h. (IsPermutation-refl c.moment, short_rises _ c.moment (rw (every c.moment) at (at_most_one moment_number (pos 1) (λ _. true) (λ m is. refl) c.moment (h.store.ordered Moment)))))
 
-pub moment_is : (c : Content) (rows : List Row) (found : Option ℤ) → ShowsMoment c rows → option_map Int found ≡ option_map first_of (slice_get rows 0) → found ≡ moment_of c.moment
+pub moment_is : (c : Content) (rows : List Row) (found : Option ℤ) → ShowsMoment c rows → option_map Int found ≡ option_map first_of (slice_get rows 0) → found ≡ moment_set c.moment
 moment_is c rows found shows is = go c.moment found (is ∙ ap (λ l. option_map first_of (slice_get l 0)) shows)
   where
-    go : (ms : List MomentRow) (o : Option ℤ) → option_map Int o ≡ option_map first_of (slice_get (map shown_moment ms) 0) → o ≡ moment_of ms
+    go : (ms : List MomentRow) (o : Option ℤ) → option_map Int o ≡ option_map first_of (slice_get (map shown_moment ms) 0) → o ≡ moment_set ms
     go [] o h = grind (arith, h)
     go (m ∷ ms) o h = grind (arith, h)

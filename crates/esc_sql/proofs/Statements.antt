@@ -3,7 +3,7 @@ use Rattle.esc_sql.proofs.Common.{◌≡◌, ℕ, ◌<◌, pos, true, false, Lis
 use Rattle.esc_sql.proofs.Common.{IsTotalOrder, AllByRecursion, option_to_list, statement_of, runs_as, Binary, Select, Insert, Delete, edit_of, edited, id_in, without_all, Database, value_rows, understood, overlay, Output, output_cmp}
 use Rattle.esc_sql.proofs.Common.{page, output, Chosen, Given, stamped, Schema, Values, State, mode_of, Executes, Shown, Table, Term, col, IsAscending, rowid, IsKeyedBy-insert_by, filter_same, map-map, ascending_weaker}
 use Rattle.esc_sql.proofs.Common.{IsPermutation-sort_by, IsKeyedBy, insert_by, has_key, sort_by, delete_where, ids_of, cast_row, Row, Key, Null, Int, Becomes, HoldsContent, rows_of, Content, with_rows, store_schema, StoreTable, tree_of}
-use Rattle.esc_sql.proofs.Common.{stored_row, RowOf, schema_table, place_of, row_number, row_columns, all_of}
+use Rattle.esc_sql.proofs.Common.{stored_row, RowOf, schema_table, table_index, row_number, row_columns, all_of}
 use Rattle.sqlite.proofs.Callers.{reads_as}
 use Rattle.std.proofs.lemmas.List.Sorted.{IsPermutation-refl}
 use Rattle.sqlite_keyed.proofs.KeyedLemmas.{IsKeyedBy-delete_where}
@@ -84,7 +84,7 @@ ids_found : (t : StoreTable) (tests : List Term) (params : Row) (xs : List (RowO
 ids_found t tests params xs rows s = rw s.shown (simp map-map (simp map-map at (IsPermutation-map (λ (o : Output). id_in (rowid o.1)) _ s.ordered s.same)))
 
 module _ (t : StoreTable) (p : RowOf t → Bool) {tests : List Term} {params : Row} {text : List ℕ}
-    (it : IsWrite text (Delete (place_of t) (program_of (scan (tree_of t) tests (col 1 0 ∷ []) [] no_limit)))) (matching : (x : RowOf t) → is_match tests params (stored_row t x) ≡ p x) where
+    (it : IsWrite text (Delete (table_index t) (program_of (scan (tree_of t) tests (col 1 0 ∷ []) [] no_limit)))) (matching : (x : RowOf t) → is_match tests params (stored_row t x) ≡ p x) where
   -- the rows that the test selects are gone
   pub cuts : IsWriting text params (Becomes (λ c. with_rows c t (delete_where p (rows_of c t))))
   cuts = record {
@@ -94,8 +94,8 @@ module _ (t : StoreTable) (p : RowOf t → Bool) {tests : List Term} {params : R
         let base = schema_table t in
         let q = program_of (scan (tree_of t) tests (col 1 0 ∷ []) [] no_limit) in
         let holds = h.store.rows.tables t in
-        let w = runs_as text params old new store_schema h.schema_is (Delete (place_of t) q) it.is it.plain count ran in
-        let done = deleted old.step_limit (mode_of old) refl params old.now new.now h.schema_is (place_of t) base (place_is t) q (statement_of text (understood store_schema text)) w.tally w.changed in
+        let w = runs_as text params old new store_schema h.schema_is (Delete (table_index t) q) it.is it.plain count ran in
+        let done = deleted old.step_limit (mode_of old) refl params old.now new.now h.schema_is (table_index t) base (place_is t) q (statement_of text (understood store_schema text)) w.tally w.changed in
         let found = scanned (shown_id t) (tree_of t) tests (col 1 0 ∷ []) [] no_limit params (stored_row t) (λ x. refl) (overlay old.now.trees []) xs (filter p xs) done.rows (read_from t old.now.trees ∙ holds) (filter_same _ p matching xs) (done.found.answer Null) in
         content_then old.now new.now c h t (written old.now new.now (edit_of old.now.trees (uncounted base) (ids_of done.rows) Given 0 []) h.schema_is w.sound done.edited) (delete_where p xs)
         (done.edited.applies.rows ∙ ap (λ rows. without_all rows (ids_of done.rows)) holds ∙ cut_typed (row_number t) (row_columns t) p (ids_of done.rows) xs (h.store.ordered t) (ids_found t tests params (filter p xs) done.rows found))
@@ -103,7 +103,7 @@ module _ (t : StoreTable) (p : RowOf t → Bool) {tests : List Term} {params : R
   }
 
 -- every row is gone
-pub clears : (t : StoreTable) {text : List ℕ} → IsWrite text (Delete (place_of t) (program_of (scan (tree_of t) [] (col 1 0 ∷ []) [] no_limit))) → IsWriting text [] (Becomes (λ c. with_rows c t []))
+pub clears : (t : StoreTable) {text : List ℕ} → IsWrite text (Delete (table_index t) (program_of (scan (tree_of t) [] (col 1 0 ∷ []) [] no_limit))) → IsWriting text [] (Becomes (λ c. with_rows c t []))
 clears t it = writing_as (cuts t (λ _. true) it (λ x. refl)) (λ old new cut c h. subst (λ xs. HoldsContent new (with_rows c t xs)) (filter_none (λ _. false) (rows_of c t) (all_of _ (λ _. refl) (rows_of c t))) (cut c h))
 
 -- ---- INSERT
@@ -120,11 +120,11 @@ module _ (at : ℕ) (base : Table) (place : slice_get store_schema.tables at ≡
       let done = inserted old.step_limit (mode_of old) refl params old.now new.now has at base place terms width rows (statement_of text (understood store_schema text)) w.tally given w.changed in
       record { edited = done; written = written old.now new.now (edit_of old.now.trees (uncounted base) [] Chosen 0 rows) has w.sound done }
 
-module _ (t : StoreTable) (params : Row) (text : List ℕ) (terms : List Term) (width : ℕ) (rows : List Row) (it : IsWrite text (Insert (place_of t) (Values terms width)))
+module _ (t : StoreTable) (params : Row) (text : List ℕ) (terms : List Term) (width : ℕ) (rows : List Row) (it : IsWrite text (Insert (table_index t) (Values terms width)))
     (given : value_rows (stamped (schema_table t) params) width (length terms / width) terms ≡ rows) (old new : State) (count : ℕ) (c : Content) (h : HoldsContent old.now c)
     (ran : Executes text params old new (Ok count)) where
-  pub inserts : IsInserted (place_of t) (schema_table t) (place_is t) params text old new rows
-  inserts = inserts_at (place_of t) (schema_table t) (place_is t) params text terms width rows it given old new count h.schema_is ran
+  pub inserts : IsInserted (table_index t) (schema_table t) (place_is t) params text old new rows
+  inserts = inserts_at (table_index t) (schema_table t) (place_is t) params text terms width rows it given old new count h.schema_is ran
 
   -- the table has these rows then
   pub leaves : (xs : List (RowOf t)) → edited old.now.trees (edit_of old.now.trees (uncounted (schema_table t)) [] Chosen 0 rows) ≡ map (stored_row t) xs → IsKeyedBy (row_number t) xs
@@ -132,7 +132,7 @@ module _ (t : StoreTable) (params : Row) (text : List ℕ) (terms : List Term) (
   leaves xs left up = content_then old.now new.now c h t inserts.written xs (inserts.edited.applies.rows ∙ left) up
 
 -- one row, as its columns leave it
-module _ (t : StoreTable) {params : Row} {text : List ℕ} {terms : List Term} {width : ℕ} (it : IsWrite text (Insert (place_of t) (Values terms width)))
+module _ (t : StoreTable) {params : Row} {text : List ℕ} {terms : List Term} {width : ℕ} (it : IsWrite text (Insert (table_index t) (Values terms width)))
     (x : RowOf t) {rows : List Row} (given : value_rows (stamped (schema_table t) params) width (length terms / width) terms ≡ rows)
     (cast : map (cast_row (uncounted (schema_table t))) rows ≡ stored_row t x ∷ []) where
   -- the row is put in its place by number, where there was none

@@ -108,7 +108,7 @@ abbrev pub IsInOrder : Content → Type 0
 IsInOrder c = (t : StoreTable) → IsKeyedBy (row_number t) (rows_of c t)
 
 -- the trees are those of a store with this content: they list its schema and obey it
-pub record IsStore (trees : Trees) (c : Content) : Type 0 where
+pub record AreStoreTrees (trees : Trees) (c : Content) : Type 0 where
   pub rows : HoldsRows trees c
   pub ordered : IsInOrder c
   pub sound : IsSound store_schema trees
@@ -116,7 +116,7 @@ pub record IsStore (trees : Trees) (c : Content) : Type 0 where
 -- the database is a store with this content
 pub record HoldsContent (db : Database) (c : Content) : Type 0 where
   pub schema_is : db.schema ≡ store_schema
-  pub store : IsStore db.trees c
+  pub store : AreStoreTrees db.trees c
 
 -- ---- objects and before-images as maps
 
@@ -152,9 +152,9 @@ abbrev pub parked_at : List ℕ → List ParkedRow → Option (List ℕ)
 parked_at digest ps = option_map (λ (p : ParkedRow). p.body) (find (is_parked_at digest) ps)
 
 -- the moment that is set, in nanoseconds since 1970-01-01T00:00:00Z, if one is
-abbrev pub moment_of : List MomentRow → Option ℤ
-moment_of [] = None
-moment_of (m ∷ ms) = Some m.watermark
+abbrev pub moment_set : List MomentRow → Option ℤ
+moment_set [] = None
+moment_set (m ∷ ms) = Some m.watermark
 
 -- ---- what trees hold, whatever they are
 

@@ -20,8 +20,8 @@ abbrev pub Builds : Schema → Schema → Database → Database → Type 0
 Builds before after old new = IsBuilt before old → IsBuilt after new
 
 -- the content of a new store: the rows of its manifest, and nothing else
-abbrev pub fresh : List ListedRow → Content
-fresh rows = record {
+abbrev pub fresh_content : List ListedRow → Content
+fresh_content rows = record {
   listed = rows;
   receipts = [];
   held = [];
@@ -34,12 +34,12 @@ fresh rows = record {
 
 -- the empty tables become a store of version 2 without rows
 abbrev pub MakesEmpty : Database → Database → Type 0
-MakesEmpty old new = IsBuilt store_schema old → HoldsContent new (fresh [])
+MakesEmpty old new = IsBuilt store_schema old → HoldsContent new (fresh_content [])
 
 -- a database without table, index or view becomes the store of these rows, if they are in order
 abbrev pub MakesStore : List ListedRow → Database → Database → Type 0
 MakesStore rows old new = old.schema ≡ no_schema → IsKeyedBy listed_number rows
-    → HoldsContent new (fresh rows)
+    → HoldsContent new (fresh_content rows)
 
 -- the version in `info`, if it has a row, in a store of either version
 abbrev pub TellsVersion : Database → Option ℤ → Type 0
@@ -50,4 +50,4 @@ TellsVersion db version = IsOfSomeVersion db.schema → length (db.trees info_tr
 -- the same, as far as it is made: with the first of the rows
 abbrev pub MakesFirst : List ListedRow → List ListedRow → Database → Database → Type 0
 MakesFirst rows first old new = old.schema ≡ no_schema → IsKeyedBy listed_number rows
-    → HoldsContent new (fresh first)
+    → HoldsContent new (fresh_content first)

@@ -13,8 +13,8 @@ use Rattle.esc_sql.specs.declared.object.NewObject.{NewObject}
 use Rattle.esc_sql.specs.declared.undo.StoredImage.{StoredImage}
 use Rattle.esc_sql.specs.declared.undo.NewImage.{NewImage}
 
-abbrev pub object_of : StoredObject → ObjectEntry
-object_of it = record { kind = it.kind; key = it.key.items; bytes = it.record.items }
+abbrev pub stored_entry : StoredObject → ObjectEntry
+stored_entry it = record { kind = it.kind; key = it.key.items; bytes = it.record.items }
 
 abbrev pub new_entry : NewObject → ObjectEntry
 new_entry it = record { kind = it.kind; key = it.key.now; bytes = it.record.items }
@@ -30,8 +30,8 @@ first_of row = column row 0
 abbrev pub number_value : ℕ → Value
 number_value n = Int (pos n)
 
-abbrev pub image_of : StoredImage → ImageEntry
-image_of it = record {
+abbrev pub stored_image : StoredImage → ImageEntry
+stored_image it = record {
   kind = it.kind;
   key = it.key.items;
   bytes = option_map (λ b. b.items) it.record;
@@ -70,8 +70,8 @@ receipt_row r = record {
   orphans = r.orphans;
 }
 
-abbrev pub held_row : ℕ → List ℕ → HeldRow
-held_row row body = record { row = row; body = body }
+abbrev pub held_table_row : ℕ → List ℕ → HeldRow
+held_table_row row body = record { row = row; body = body }
 
 abbrev pub step_row : ChainStep → StepRow
 step_row s = record { pos = s.pos; row = s.row }

@@ -13,28 +13,28 @@ use Rattle.esc_sql.specs.Schema.{
   info_table,
 }
 use Rattle.esc_sql.specs.Rows.{first_info_row}
-use Rattle.esc_sql.specs.StoreTable.{StoreTable, place_of, tree_of, stored_row}
+use Rattle.esc_sql.specs.StoreTable.{StoreTable, table_index, tree_of, stored_row}
 use Rattle.esc_sql.specs.Content.{Content, IsInOrder, HoldsContent, rows_of, content_in}
 
 -- the trees are those of version 1, with exactly these rows; so no body is parked, and no moment is
 -- set
 pub record HoldsFirstRows (trees : Trees) (c : Content) : Type 0 where
   pub info : trees info_tree ≡ first_info_row ∷ []
-  pub tables : (t : StoreTable) → place_of t < 7
+  pub tables : (t : StoreTable) → table_index t < 7
       → trees (tree_of t) ≡ map (stored_row t) (rows_of c t)
   pub parked : c.parked ≡ []
   pub moment : c.moment ≡ []
 
 -- the trees are those of a store of version 1 with this content: they list its schema and obey it
-pub record IsFirstStore (trees : Trees) (c : Content) : Type 0 where
+pub record AreFirstTrees (trees : Trees) (c : Content) : Type 0 where
   pub rows : HoldsFirstRows trees c
   pub ordered : IsInOrder c
   pub sound : IsSound first_schema trees
 
 -- the database is a store of version 1 with this content
-pub record HoldsFirst (db : Database) (c : Content) : Type 0 where
+pub record HoldsFirstContent (db : Database) (c : Content) : Type 0 where
   pub schema_is : db.schema ≡ first_schema
-  pub store : IsFirstStore db.trees c
+  pub store : AreFirstTrees db.trees c
 
 -- the content of a store of version 1 by its trees; of other trees it is of no meaning
 abbrev pub first_content_in : Trees → Content
@@ -44,7 +44,7 @@ first_content_in trees = record (content_in trees) { parked = []; moment = [] }
 
 -- a store of version 1 becomes one of version 2, with the same content
 abbrev pub Upgrades : Database → Database → Type 0
-Upgrades old new = (c : Content) → HoldsFirst old c → HoldsContent new c
+Upgrades old new = (c : Content) → HoldsFirstContent old c → HoldsContent new c
 
 -- the table with this index in the schema, from 0
 abbrev pub table_at : ℕ → Table

@@ -80,11 +80,11 @@ ShowsParked digest c rows = rows
 abbrev pub shown_digest : List ℕ → Row
 shown_digest digest = Blob digest ∷ []
 
-abbrev pub digest_of : ParkedRow → List ℕ
-digest_of p = p.digest
+abbrev pub parked_digest : ParkedRow → List ℕ
+parked_digest p = p.digest
 
 abbrev pub ShowsDigests : Content → List Row → Type 0
-ShowsDigests c rows = rows ≡ map shown_digest (map digest_of (sort_by by_digest c.parked))
+ShowsDigests c rows = rows ≡ map shown_digest (map parked_digest (sort_by by_digest c.parked))
 
 abbrev pub shown_moment : MomentRow → Row
 shown_moment m = Int m.watermark ∷ []

@@ -52,15 +52,15 @@ pub data StoreTable : Type 0 where
   Moment : StoreTable
 
 -- the index of a table in the schema, from 0
-abbrev pub place_of : StoreTable → ℕ
-place_of Listed = 1
-place_of Receipts = 2
-place_of Held = 3
-place_of Steps = 4
-place_of Objects = 5
-place_of Undo = 6
-place_of Parked = 7
-place_of Moment = 8
+abbrev pub table_index : StoreTable → ℕ
+table_index Listed = 1
+table_index Receipts = 2
+table_index Held = 3
+table_index Steps = 4
+table_index Objects = 5
+table_index Undo = 6
+table_index Parked = 7
+table_index Moment = 8
 
 abbrev pub schema_table : StoreTable → Table
 schema_table Listed = listed_table

@@ -4,7 +4,7 @@ ghost use Rattle.std.specs.Prelude.{◌≡◌, option_map};
 ghost use Rattle.sqlite.specs.Held.{state};
 ghost use Rattle.esc_sql.specs.Part.{IsPart, IsRead};
 ghost use Rattle.esc_sql.specs.Changes.{Tells, HoldsBody, body_of};
-ghost use Rattle.esc_sql.specs.Entries.{held_row};
+ghost use Rattle.esc_sql.specs.Entries.{held_table_row};
 ghost use Rattle.esc_sql.specs.StatementSteps.{ShowsBody};
 
 use crate::within::write_within;
@@ -14,7 +14,7 @@ use sqlite::{Alter, Connection, Error, Row, params};
 /// error.
 pub fn insert_held<S: Alter>(conn: &mut Connection<S>, row: u32, body: &[u8]) -> Result<(), Error>
     ensures part { IsPart (state S.Store conn.old) (state S.Store conn.new)
-        (HoldsBody (held_row row body.now)) result }
+        (HoldsBody (held_table_row row body.now)) result }
 {
     write_within(
         conn,

@@ -4,7 +4,7 @@ ghost use Rattle.std.specs.Prelude.{◌≡◌, IfOk, option_map, slice_get};
 ghost use Rattle.sqlite_value.specs.declared.value.Value.TheVariants as Value;
 ghost use Rattle.sqlite.specs.Held.{state};
 ghost use Rattle.esc_sql.specs.Part.{IsPart, IsRead};
-ghost use Rattle.esc_sql.specs.Content.{moment_of};
+ghost use Rattle.esc_sql.specs.Content.{moment_set};
 ghost use Rattle.esc_sql.specs.Changes.{Becomes, Tells};
 ghost use Rattle.esc_sql.specs.Entries.{first_of};
 ghost use Rattle.esc_sql.specs.Parked.{SetsMoment, without_moment, ShowsMoment};
@@ -54,7 +54,7 @@ fn moment_in(rows: &[Row]) -> Result<Option<i64>, Error>
 /// The moment that is set, in nanoseconds since 1970-01-01T00:00:00Z, if one is.
 pub fn find_moment<S: Alter>(conn: &mut Connection<S>) -> Result<Option<i64>, Error>
     ensures read { IsRead (state S.Store conn.old) (state S.Store conn.new)
-        (Tells (λ c found. found ≡ moment_of c.moment)) result }
+        (Tells (λ c found. found ≡ moment_set c.moment)) result }
 {
     let rows = ask_moment(conn)?;
     moment_in(&rows)

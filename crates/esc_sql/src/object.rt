@@ -17,7 +17,7 @@ ghost use Rattle.esc_sql.specs.Changes.{
   ListsObjects,
   ListsKinds,
 };
-ghost use Rattle.esc_sql.specs.Entries.{object_of, new_entry, shown_entry};
+ghost use Rattle.esc_sql.specs.Entries.{stored_entry, new_entry, shown_entry};
 ghost use Rattle.esc_sql.specs.StatementSteps.{ShowsObject, ShowsObjects, ShowsKinds};
 
 use crate::reader::{FromRow, read_rows};
@@ -178,7 +178,7 @@ fn ask_kinds<S: Alter>(conn: &mut Connection<S>) -> Result<Vec<Row>, Error>
 }
 
 impl FromRow for StoredObject {
-    ghost is_read = { λ row it. (r : ObjectEntry) → row ≡ shown_entry r → object_of it ≡ r };
+    ghost is_read = { λ row it. (r : ObjectEntry) → row ≡ shown_entry r → stored_entry it ≡ r };
 
     fn from_row(row: &Row) -> Result<StoredObject, Error> {
         Ok(StoredObject {
@@ -195,7 +195,7 @@ pub fn all_objects<S: Alter>(
     conn: &mut Connection<S>,
 ) -> Result<Vec<StoredObject>, Error>
     ensures read { IsRead (state S.Store conn.old) (state S.Store conn.new)
-        (Tells (λ c found. ListsObjects c (map object_of found.items))) result }
+        (Tells (λ c found. ListsObjects c (map stored_entry found.items))) result }
 {
     let rows = ask_objects(conn)?;
     read_rows(alloc, &rows)

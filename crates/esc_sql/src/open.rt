@@ -2,8 +2,8 @@
 
 ghost use Rattle.std.specs.Prelude.{◌≡◌, ◌↔◌, IsTrue};
 ghost use Rattle.sqlite.specs.Held.{state};
-ghost use Rattle.esc_sql.specs.Content.{Content, IsStore, HoldsContent};
-ghost use Rattle.esc_sql.specs.FirstVersion.{IsFirstStore, HoldsFirst};
+ghost use Rattle.esc_sql.specs.Content.{Content, AreStoreTrees, HoldsContent};
+ghost use Rattle.esc_sql.specs.FirstVersion.{AreFirstTrees, HoldsFirstContent};
 ghost use Rattle.esc_sql.specs.Schema.{no_schema, store_schema, first_schema};
 
 use crate::create::is_empty;
@@ -22,7 +22,7 @@ pub fn is_unused<S: Alter>(conn: &Connection<S>) -> bool
 pub fn has_tables<S: Alter>(conn: &Connection<S>) -> bool
     ensures tables { IsTrue result ↔ ((state S.Store conn.now).now.schema ≡ store_schema) }
     ensures found { IsTrue (state S.Store conn.now).is_open → (c : Content)
-        → IsStore (state S.Store conn.now).now.trees c → IsTrue result
+        → AreStoreTrees (state S.Store conn.now).now.trees c → IsTrue result
         × HoldsContent (state S.Store conn.now).now c }
 {
     is_store_schema(conn.schema())
@@ -33,8 +33,8 @@ pub fn has_tables<S: Alter>(conn: &Connection<S>) -> bool
 pub fn has_first_tables<S: Alter>(conn: &Connection<S>) -> bool
     ensures tables { IsTrue result ↔ ((state S.Store conn.now).now.schema ≡ first_schema) }
     ensures found { IsTrue (state S.Store conn.now).is_open → (c : Content)
-        → IsFirstStore (state S.Store conn.now).now.trees c → IsTrue result
-        × HoldsFirst (state S.Store conn.now).now c }
+        → AreFirstTrees (state S.Store conn.now).now.trees c → IsTrue result
+        × HoldsFirstContent (state S.Store conn.now).now c }
 {
     is_first_schema(conn.schema())
 }

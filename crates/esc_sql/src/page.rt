@@ -4,7 +4,7 @@ ghost use Rattle.std.specs.Prelude.{map};
 ghost use Rattle.sqlite.specs.Held.{state};
 ghost use Rattle.esc_sql.specs.Part.{IsRead};
 ghost use Rattle.esc_sql.specs.Changes.{Tells, ListsFrom};
-ghost use Rattle.esc_sql.specs.Entries.{object_of};
+ghost use Rattle.esc_sql.specs.Entries.{stored_entry};
 ghost use Rattle.esc_sql.specs.StatementSteps.{ShowsFrom};
 
 use crate::object::StoredObject;
@@ -33,7 +33,7 @@ pub fn objects_from<S: Alter>(
     from: &[u8],
 ) -> Result<Vec<StoredObject>, Error>
     ensures read { IsRead (state S.Store conn.old) (state S.Store conn.new)
-        (Tells (λ c found. ListsFrom kind from.now c (map object_of found.items))) result }
+        (Tells (λ c found. ListsFrom kind from.now c (map stored_entry found.items))) result }
 {
     let rows = ask_from(conn, kind, from)?;
     read_rows(alloc, &rows)

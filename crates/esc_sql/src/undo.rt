@@ -16,7 +16,7 @@ ghost use Rattle.esc_sql.specs.Changes.{
   ImageEntry,
   ListsImages,
 };
-ghost use Rattle.esc_sql.specs.Entries.{image_of, new_image, shown_image_entry};
+ghost use Rattle.esc_sql.specs.Entries.{stored_image, new_image, shown_image_entry};
 ghost use Rattle.esc_sql.specs.StatementSteps.{ShowsImages};
 
 use crate::object::ROWS_AT_ONCE;
@@ -35,8 +35,8 @@ pub struct StoredImage {
     pub record: Option<Vec<u8>>,
 }
 
-/// A before-image to be added: the kind (0 to 5), the bytes of the key's text, and the record before
-/// the step, or none.
+/// A before-image to be added: the kind (0 to 5), the bytes of the key's text, and the record
+/// before the step, or none.
 #[derive(Debug, Drop)]
 pub struct NewImage<'a> {
     pub kind: u32,
@@ -144,7 +144,8 @@ fn ask_undo<S: Alter>(conn: &mut Connection<S>, at: u32) -> Result<Vec<Row>, Err
 }
 
 impl FromRow for StoredImage {
-    ghost is_read = { λ row it. (r : ImageEntry) → row ≡ shown_image_entry r → image_of it ≡ r };
+    ghost is_read = { λ row it. (r : ImageEntry) → row ≡ shown_image_entry r
+        → stored_image it ≡ r };
 
     fn from_row(row: &Row) -> Result<StoredImage, Error> {
         Ok(StoredImage {
@@ -162,7 +163,7 @@ pub fn select_undo<S: Alter>(
     at: u32,
 ) -> Result<Vec<StoredImage>, Error>
     ensures read { IsRead (state S.Store conn.old) (state S.Store conn.new)
-        (Tells (λ c found. ListsImages at c (map image_of found.items))) result }
+        (Tells (λ c found. ListsImages at c (map stored_image found.items))) result }
 {
     let rows = ask_undo(conn, at)?;
     read_rows(alloc, &rows)

@@ -41,7 +41,7 @@ pub use Rattle.esc_sql.specs.Changes.{receipt_of, ObjectEntry, ImageEntry, is_en
 pub use Rattle.esc_sql.specs.Content.{Content, object_at, content_in, image_at, HoldsContent, parked_at}
 pub use Rattle.esc_sql.specs.ContentIs.{content_is}
 pub use Rattle.esc_sql.specs.Creation.{TellsVersion}
-pub use Rattle.esc_sql.specs.Entries.{step_row, new_entry, new_image, image_of, object_of, receipt_row, listed_row as stored_listed}
+pub use Rattle.esc_sql.specs.Entries.{step_row, new_entry, new_image, stored_image, stored_entry, receipt_row, listed_row}
 pub use Rattle.esc_sql.specs.Part.{IsPart, IsRead}
 pub use Rattle.esc_sql.specs.ResultLaws.{if_goes}
 pub use Rattle.esc_sql.specs.Rows.{ObjectRow, ReceiptRow, StepRow, ListedRow, listed_number}
@@ -56,14 +56,14 @@ pub use Rattle.esc_store.specs.FirstVersion.{IsFirstDatabase}
 pub use Rattle.esc_store.specs.StoreState.{AreCounts, step_at, StoreState, fresh, with_listed, with_parked, AreParked, with_body}
 pub use Rattle.esc_store.specs.ListLaws.{any_weaker}
 pub use Rattle.esc_store.specs.Opening.{IsSettled}
-pub use Rattle.esc_store.specs.Pages.{entry_row, stored_row, AreRowsOf}
+pub use Rattle.esc_store.specs.Pages.{entry_row, record_row, AreRowsOf}
 pub use Rattle.esc_store.specs.Remembered.{IsRemembered, nothing_read}
 pub use Rattle.esc_store.specs.ReplyValue.{ReceiptValue, ReplyValue, replies_from, reply_alike}
 pub use Rattle.esc_store.specs.ResultLaws.{if_ok}
-pub use Rattle.esc_store.specs.Representation.{IsAtRest, IsAtRestIfClean, IsStanding, IsBegun, IsMade, IsUnderWay, ChangeOf, Follows, IsStep, IsUncommitted, IsChangePart, listed_by, IsLook, IsStoreRead, IsTold, IsHonest, HasMadeTables, store_in, Settles}
+pub use Rattle.esc_store.specs.Representation.{IsAtRest, IsAtRestIfClean, IsStanding, IsBegun, IsMade, IsUnderWay, ChangeOf, ChangeFollows, IsStep, IsUncommitted, IsChangePart, listed_by, IsLook, IsStoreRead, IsTold, IsHonest, HasMadeTables, store_in, Settles}
 pub use Rattle.esc_store.specs.StandingLaws.{was_clean, goes_then, survives_same}
 pub use Rattle.esc_store.specs.StoreTables.{IsStoreDatabase, HoldsTables}
-pub use Rattle.esc_store.specs.TypedRows.{record_at, IsRegistry, receipts_from, steps_from, IsBooks, kind_at, image_kept, listed_from, listed_row, verdict_number}
+pub use Rattle.esc_store.specs.TypedRows.{record_at_key, IsRegistry, receipts_from, steps_from, IsBooks, kind_numbered, image_kept, listed_from, indexed_row, verdict_number}
 pub use Rattle.esc_store.specs.declared.remembered.Remembered.{Remembered}
 pub use Rattle.esc_store.specs.declared.fault.SFault.{SFault}
 pub use Rattle.esc_store.specs.declared.reply.Verdict.{Verdict}
@@ -76,6 +76,5 @@ pub use Rattle.std.proofs.Common.{IfOk}
 pub use Rattle.std.proofs.lemmas.Option.{same_Some}
 pub use Rattle.sqlite.specs.State.{State as ConnState}
 pub use Rattle.esc_sql.specs.StoreTable.{Objects, Undo}
-pub use Rattle.esc_sql.specs.Entries.{listed_row as stored_listed}
 unfoldable pub use Rattle.esc_store.specs.Representation.{Represents, BeganIn, HasMadeBooksIn, HasMadeTablesIn, HoldsKept, LeavesOr, LeavesOnly}
 unfoldable pub use Rattle.esc_store.specs.StoreTables.{IsStore}

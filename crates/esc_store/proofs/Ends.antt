@@ -3,7 +3,7 @@ use Rattle.esc_store.proofs.Common.{◌≡◌, inl, inr, true, false, true≢fal
 use Rattle.esc_store.proofs.Common.{Content, HoldsContent, content_is, content_in, Remembered, IsRemembered, nothing_read, StoreState, IsBooks, IsRegistry, IsStoreDatabase, HoldsTables, IsAtRest, IsAtRestIfClean, IsStanding, IsBegun, IsMade, IsUnderWay, was_clean, IsSettled, IsStore}
 use Rattle.esc_store.proofs.Common.{ConnState as State, State as Tables}
 use Rattle.std.proofs.Common.{rules}
-use Rattle.esc_sql.specs.Content.{IsStore as HasTables}
+use Rattle.esc_sql.specs.Content.{AreStoreTrees}
 use Rattle.esc_store.specs.StoreState.{with_registry}
 
 -- ---- one call after another
@@ -33,7 +33,7 @@ holds_store db c k holds books registry =
     let e : c ≡ content_in db.trees = sym (content_is db.trees c holds.store.rows) in
     record {
       schema = holds.schema_is;
-      kept = record { tables = subst (HasTables db.trees) e holds.store; books = subst (λ x. IsBooks x k) e books; registry = subst (λ x. IsRegistry x k.registry) e registry };
+      kept = record { tables = subst (AreStoreTrees db.trees) e holds.store; books = subst (λ x. IsBooks x k) e books; registry = subst (λ x. IsRegistry x k.registry) e registry };
     }
 
 -- what a change holds is a store

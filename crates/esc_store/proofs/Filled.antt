@@ -2,7 +2,7 @@
 use Rattle.esc_store.proofs.Common.{◌≡◌, ℕ, Bool, true, false, cond, ◌&&◌, List, [], ◌∷◌, ◌++◌, map, Option, None, Some, is_some, refl, sym, ap, subst, ◌∙◌, arith, ◌<◌, ◌+◌, length, drop, get_or, ◌==◌, same_key}
 use Rattle.esc_store.proofs.Common.{IsSome, IfSome, cases_Bool, inl, inr, option_or, unwrap_or, AllByRecursion, All-from_recursion, get_or-map, length-map, lookup, keys_of, append-nil, map-append, kind_rank, option_and_then}
 use Rattle.esc_store.proofs.Common.{KeyName, key_eq, keys_alike, ObjectValue, record_of, Entry, State, Keys, with_object, CanBePut, Content, NewObject, new_entry, ObjectEntry, drop_more}
-use Rattle.esc_store.proofs.Common.{ImageEntry, is_entry_at, entry_at, entry_row, stored_row, AreRowsOf, kind_at, record_at, IsRegistry, after_filling, after_noting, image_now, map_push, GainsObjects, GainsImages, AreFree, Objects, Undo}
+use Rattle.esc_store.proofs.Common.{ImageEntry, is_entry_at, entry_at, entry_row, record_row, AreRowsOf, kind_numbered, record_at_key, IsRegistry, after_filling, after_noting, image_now, map_push, GainsObjects, GainsImages, AreFree, Objects, Undo}
 use Rattle.std.proofs.Common.{append_assoc, All}
 use Rattle.esc_apply.specs.Changes.{Change, AreNew}
 pub use Rattle.esc_apply.specs.ChangeLaws.{Fills, fills_more, fills_last, Returns, returns_last, written_by-noted}
@@ -19,13 +19,13 @@ abbrev pub RowOf : Type 0
 RowOf = ℕ × List ℕ × Option (List ℕ)
 
 -- a row's kind, key and record are its entry's
-pub parts : (e : Entry) (r : ObjectEntry) → entry_row e ≡ stored_row r → (r.kind ≡ kind_rank e.0.kind) × (r.key ≡ e.0.text) × (record_of e.1 ≡ Some r.bytes)
+pub parts : (e : Entry) (r : ObjectEntry) → entry_row e ≡ record_row r → (r.kind ≡ kind_rank e.0.kind) × (r.key ≡ e.0.text) × (record_of e.1 ≡ Some r.bytes)
 parts e r same = (sym (ap (λ (t : RowOf). t.0) same), sym (ap (λ (t : RowOf). t.1) same), ap (λ (t : RowOf). t.2) same)
 
-other_rows : (e : Entry) (es : List Entry) (r : ObjectEntry) (rows : List ObjectEntry) → AreRowsOf (e ∷ es) (r ∷ rows) → (entry_row e ≡ stored_row r) × (r.kind ≡ kind_rank e.0.kind) × (r.key ≡ e.0.text) × (record_of e.1 ≡ Some r.bytes) × AreRowsOf es rows
+other_rows : (e : Entry) (es : List Entry) (r : ObjectEntry) (rows : List ObjectEntry) → AreRowsOf (e ∷ es) (r ∷ rows) → (entry_row e ≡ record_row r) × (r.kind ≡ kind_rank e.0.kind) × (r.key ≡ e.0.text) × (record_of e.1 ≡ Some r.bytes) × AreRowsOf es rows
 other_rows e es r rows are =
-    let all : entry_row e ∷ map entry_row es ≡ stored_row r ∷ map stored_row rows = are.same in
-    let same : entry_row e ≡ stored_row r = cc in
+    let all : entry_row e ∷ map entry_row es ≡ record_row r ∷ map record_row rows = are.same in
+    let same : entry_row e ≡ record_row r = cc in
     let (kinds, texts, bytes) = parts e r same in (same, kinds, texts, bytes, record { same = cc })
 
 -- a key of the table is a row's exactly if it is its entry's
@@ -50,7 +50,7 @@ module _ (s : State) where
   rows_found _ _ are q = let no = are.same in absurd cc
 
   -- no row is of a kind that there isn't
-  no_row : (es : List Entry) (rows : List ObjectEntry) → AreRowsOf es rows → (n : ℕ) (text : List ℕ) → kind_at n ≡ None → (entry_at n text rows ≡ None) × (image_entry_at n text (map (image_now s) rows) ≡ None)
+  no_row : (es : List Entry) (rows : List ObjectEntry) → AreRowsOf es rows → (n : ℕ) (text : List ℕ) → kind_numbered n ≡ None → (entry_at n text rows ≡ None) × (image_entry_at n text (map (image_now s) rows) ≡ None)
   no_row [] [] are n text none = (refl, refl)
   no_row (e ∷ es) (r ∷ rows) are n text none =
       let (same, kinds, texts, bytes, others) = other_rows e es r rows are in
@@ -62,7 +62,7 @@ module _ (s : State) where
 
 -- a row's key has no object
 abbrev HasNone : State → ObjectEntry → Type 0
-HasNone s r = record_at s.content r.kind r.key ≡ None
+HasNone s r = record_at_key s.content r.kind r.key ≡ None
 
 free_each : (s : State) (es : List Entry) (rows : List ObjectEntry) → AreRowsOf es rows → AllByRecursion (λ k. s.content k ≡ None) (keys_of (map with_object es)) → AllByRecursion (HasNone s) rows
 free_each s es [] are free = tt
@@ -75,7 +75,7 @@ pub free_rows : (targets : Keys) (s : State) (step : ℕ) {es : List Entry} {row
 free_rows Vacant s step {es} {rows} are can is = All-from_recursion (HasNone s) rows (free_each s es rows are can.free)
 free_rows Unknown s step are can is = absurd cc
 
-pub one_free : (targets : Keys) (s : State) (step : ℕ) (e : Entry) (r : ObjectEntry) → entry_row e ≡ stored_row r → CanBePut targets s step (with_object e ∷ []) → targets ≡ Vacant → HasNone s r
+pub one_free : (targets : Keys) (s : State) (step : ℕ) (e : Entry) (r : ObjectEntry) → entry_row e ≡ record_row r → CanBePut targets s step (with_object e ∷ []) → targets ≡ Vacant → HasNone s r
 one_free targets s step e r same can is = All-head (HasNone s) r [] (free_rows targets s step {es = e ∷ []} {rows = r ∷ []} (record { same = ap (λ (t : RowOf). t ∷ []) same }) can is)
 
 pub row_free : (s : State) (rows : List NewObject) (at : ℕ) (r : NewObject) → at < length rows → r ≡ get_or rows at r → All (HasNone s) (map new_entry rows) → HasNone s (new_entry r)
@@ -128,16 +128,16 @@ module _ {L : List Change → Type 0} where
   pending_rows {es} are left = record { entries = es; are = are; left = subst (λ (l : List Entry). L (map with_object l)) (sym (append-nil es)) left }
 
   -- the next entry becomes a row
-  pub pending_more : (rows : List NewObject) {now : List NewObject} (r : NewObject) {e : Entry} {left after : List Entry} → now ≡ rows ++ r ∷ [] → left ≡ e ∷ after → entry_row e ≡ stored_row (new_entry r) → Pending L (map new_entry rows) left → Pending L (map new_entry now) after
+  pub pending_more : (rows : List NewObject) {now : List NewObject} (r : NewObject) {e : Entry} {left after : List Entry} → now ≡ rows ++ r ∷ [] → left ≡ e ∷ after → entry_row e ≡ record_row (new_entry r) → Pending L (map new_entry rows) left → Pending L (map new_entry now) after
   pending_more rows r {e} {after = after} more is same going = record {
     entries = going.entries ++ e ∷ [];
-    are = record { same = rw (more, map_push entry_row going.entries e, map_push new_entry rows r, map_push stored_row (map new_entry rows) (new_entry r), going.are.same, same) refl };
+    are = record { same = rw (more, map_push entry_row going.entries e, map_push new_entry rows r, map_push record_row (map new_entry rows) (new_entry r), going.are.same, same) refl };
     left = subst (λ (l : List Entry). L (map with_object l)) (ap (λ (l : List Entry). going.entries ++ l) is ∙ sym (append_assoc going.entries (e ∷ []) after)) going.left;
   }
 
   -- the first row is put
   pub pending_next : {M : List Change → Type 0} (rows : List NewObject) {at : ℕ} {r : NewObject} {after : List Entry} → at < length rows → r ≡ get_or rows at r → Pending L (map new_entry (drop at rows)) after
-      → ((e : Entry) (es : List Change) → entry_row e ≡ stored_row (new_entry r) → L (with_object e ∷ es) → M es) → Pending M (map new_entry (drop (at + 1) rows)) after
+      → ((e : Entry) (es : List Change) → entry_row e ≡ record_row (new_entry r) → L (with_object e ∷ es) → M es) → Pending M (map new_entry (drop (at + 1) rows)) after
   pending_next {M} rows {at} {r} {after} lt is going put = first going.entries (subst (λ (l : List NewObject). AreRowsOf going.entries (map new_entry l)) (drop_more rows at r lt ∙ ap (λ (x : NewObject). x ∷ drop (at + 1) rows) (sym is)) going.are) going.left where
     first : (es : List Entry) → AreRowsOf es (new_entry r ∷ map new_entry (drop (at + 1) rows)) → L (map with_object (es ++ after)) → Pending M (map new_entry (drop (at + 1) rows)) after
     first [] are left = let no = are.same in absurd cc

@@ -1,6 +1,6 @@
 -- What a call within a change keeps of the change, what it makes of it, and what a read says.
 use Rattle.esc_store.proofs.Common.{◌≡◌, true, false, List, Option, Some, refl, sym, ap, subst, ◌∙◌, IsTrue, Result, Ok, Err, OnOk, both_ways, unwrap_or, Ghosts, Database, Held, state, HasCleanDisk, Survives, KeepsCommit, MRow, Content, IsPart, SFault, Store, StoreState, BeganIn, HasMadeBooksIn, HasMadeTablesIn}
-use Rattle.esc_store.proofs.Common.{IsBooks, IsRegistry, ChangeOf, IsStoreDatabase, IsStep, IsUncommitted, IsChangePart, listed_by, on_ok_weaker, Follows, IfOk-at_ok, was_clean, if_ok, State as Tables, content_in, Tells, IsLook, IsStoreRead}
+use Rattle.esc_store.proofs.Common.{IsBooks, IsRegistry, ChangeOf, IsStoreDatabase, IsStep, IsUncommitted, IsChangePart, listed_by, on_ok_weaker, ChangeFollows, IfOk-at_ok, was_clean, if_ok, State as Tables, content_in, Tells, IsLook, IsStoreRead}
 use Rattle.sqlite.specs.State.{State}
 use Rattle.esc_store.proofs.Ends.{begun_committed}
 pub use Rattle.esc_store.proofs.Parts.{step_is, registry_same, become_turns}
@@ -120,7 +120,7 @@ module _ {S : Type 0} {g : Ghosts S} {X E : Type 0} {old : ChangeOf S} {new : St
     holds = holds_all move {F = λ s. s} tables;
   }
 
-  pub follows_step : ((k : StoreState) (c c' : Content) → R c c' → IsBooks c k → IsBooks c' k) → Follows g old (record old { store = record old.store { now = new } })
+  pub follows_step : ((k : StoreState) (c c' : Content) → R c c' → IsBooks c k → IsBooks c' k) → ChangeFollows g old (record old { store = record old.store { now = new } })
   follows_step turn = record { goes_on = goes_step; listed = lists_same old move; rest = λ before k. made_then move old.listing refl (turn k) before }
 
 -- ---- reads
@@ -152,5 +152,5 @@ module _ {S : Type 0} {g : Ghosts S} {X E : Type 0} {old new : Store S} {P : Con
       (c, was.registry, (IfOk-at_ok _ is (read.look.said clean)).0 c was.tables_are, holds_look is s goes)
 
 pub follows_look : {S : Type 0} {g : Ghosts S} {X E : Type 0} {old : ChangeOf S} {new : Store S} {P : Content → X → Type 0} {r : Result X E}
-    → IsStoreRead g old.store.now new P r → Follows g old (record old { store = record old.store { now = new } })
+    → IsStoreRead g old.store.now new P r → ChangeFollows g old (record old { store = record old.store { now = new } })
 follows_look read = follows_step (moves_look read) (λ _ _ _ turn books. books_as turn.is books.listed books.receipts books.held books.parked books.moment books.steps)

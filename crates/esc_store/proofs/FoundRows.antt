@@ -5,7 +5,7 @@ use Rattle.std.proofs.lemmas.List.Elements.{Contains-append_left, Contains-appen
 use Rattle.std.proofs.lemmas.Option.{same_Some}
 use Rattle.esc_store.specs.StoreState.{StoreState, AreHeld, AreHeldBy, SaysHeld, AreUnlisted}
 use Rattle.esc_store.specs.ListLaws.{first_or_later}
-use Rattle.esc_manifest.specs.Listed.{row_of}
+use Rattle.esc_manifest.specs.Listed.{row_with_digest}
 use Rattle.esc_store.specs.Holding.{HasReceipts, TellsOf, IsInserted, IsOfDigests, AreFound}
 
 -- ---- one digest more
@@ -20,14 +20,14 @@ module _ (k : StoreState) (told : List ℕ) where
     still r of = record { digest = of.digest; among = Contains-append_left digests (digest ∷ []) of.digest of.among; lists = of.lists }
 
     -- it is of one of the digests, or of the last
-    either : (r : ℕ) → IsOfDigests k (digests ++ digest ∷ []) r → IsOfDigests k digests r ⊎ (row_of k.listed digest ≡ Some r)
+    either : (r : ℕ) → IsOfDigests k (digests ++ digest ∷ []) r → IsOfDigests k digests r ⊎ (row_with_digest k.listed digest ≡ Some r)
     either r of = by_place (Contains-append_cases digests (digest ∷ []) of.digest of.among)
       where
-        by_last : (digest ≡ of.digest) ⊎ Contains [] of.digest → row_of k.listed digest ≡ Some r
-        by_last (inl same) = ap (row_of k.listed) same ∙ of.lists
+        by_last : (digest ≡ of.digest) ⊎ Contains [] of.digest → row_with_digest k.listed digest ≡ Some r
+        by_last (inl same) = ap (row_with_digest k.listed) same ∙ of.lists
         by_last (inr there) = absurd (omega (arith, there.1))
 
-        by_place : Contains digests of.digest ⊎ Contains (digest ∷ []) of.digest → IsOfDigests k digests r ⊎ (row_of k.listed digest ≡ Some r)
+        by_place : Contains digests of.digest ⊎ Contains (digest ∷ []) of.digest → IsOfDigests k digests r ⊎ (row_with_digest k.listed digest ≡ Some r)
         by_place (inl there) = inl (record { digest = of.digest; among = there; lists = of.lists })
         by_place (inr last) = inr (by_last (first_or_later digest of.digest [] last))
 
@@ -37,7 +37,7 @@ module _ (k : StoreState) (told : List ℕ) where
     more r (inr of) = inr (still r of.0, of.1)
 
     -- no row lists the digest, or none of which a body is held
-    pub found_no_more : ((r : ℕ) → row_of k.listed digest ≡ Some r → IsSome (k.bodies r) → ⊥) → AreFound k told (digests ++ digest ∷ []) rows
+    pub found_no_more : ((r : ℕ) → row_with_digest k.listed digest ≡ Some r → IsSome (k.bodies r) → ⊥) → AreFound k told (digests ++ digest ∷ []) rows
     found_no_more none = record {
       rising = found.rising;
       each = λ r. (λ there. more r ((found.each r).0 there), λ is. (found.each r).1 (back r is));
@@ -47,12 +47,12 @@ module _ (k : StoreState) (told : List ℕ) where
         back r (inl there) = inl there
         back r (inr of) = by_either (either r of.0)
           where
-            by_either : IsOfDigests k digests r ⊎ (row_of k.listed digest ≡ Some r) → IsOneOf k told digests r
+            by_either : IsOfDigests k digests r ⊎ (row_with_digest k.listed digest ≡ Some r) → IsOneOf k told digests r
             by_either (inl old) = inr (old, of.1)
             by_either (inr last) = absurd (none r last of.1)
 
     -- a row that was found lists the digest
-    pub found_already : (row : ℕ) → row_of k.listed digest ≡ Some row → Contains rows row → AreFound k told (digests ++ digest ∷ []) rows
+    pub found_already : (row : ℕ) → row_with_digest k.listed digest ≡ Some row → Contains rows row → AreFound k told (digests ++ digest ∷ []) rows
     found_already row lists there = record {
       rising = found.rising;
       each = λ r. (λ in_rows. more r ((found.each r).0 in_rows), λ is. back r is);
@@ -62,12 +62,12 @@ module _ (k : StoreState) (told : List ℕ) where
         back r (inl said) = (found.each r).1 (inl said)
         back r (inr of) = by_either (either r of.0)
           where
-            by_either : IsOfDigests k digests r ⊎ (row_of k.listed digest ≡ Some r) → Contains rows r
+            by_either : IsOfDigests k digests r ⊎ (row_with_digest k.listed digest ≡ Some r) → Contains rows r
             by_either (inl old) = (found.each r).1 (inr (old, of.1))
             by_either (inr last) = subst (Contains rows) (same_Some _ _ (sym lists ∙ last)) there
 
     -- a row lists the digest, and a body is held of it
-    pub found_one_more : (row : ℕ) (after : List ℕ) → row_of k.listed digest ≡ Some row → IsSome (k.bodies row) → IsInserted rows row after
+    pub found_one_more : (row : ℕ) (after : List ℕ) → row_with_digest k.listed digest ≡ Some row → IsSome (k.bodies row) → IsInserted rows row after
         → AreFound k told (digests ++ digest ∷ []) after
     found_one_more row after lists some put = record {
       rising = put.rising;
@@ -85,7 +85,7 @@ module _ (k : StoreState) (told : List ℕ) where
         back r (inl there) = inr ((found.each r).1 (inl there))
         back r (inr of) = by_either (either r of.0)
           where
-            by_either : IsOfDigests k digests r ⊎ (row_of k.listed digest ≡ Some r) → (r ≡ row) ⊎ Contains rows r
+            by_either : IsOfDigests k digests r ⊎ (row_with_digest k.listed digest ≡ Some r) → (r ≡ row) ⊎ Contains rows r
             by_either (inl old) = inr ((found.each r).1 (inr (old, of.1)))
             by_either (inr last) = inl (same_Some _ _ (sym last ∙ lists))
 

@@ -1,6 +1,6 @@
 -- A manifest in its table.
-use Rattle.esc_store.proofs.Common.{◌≡◌, ℕ, suc, ◌+◌, ◌<◌, List, [], ◌∷◌, ◌++◌, length, take, get_or, map, Option, None, Some, refl, sym, ap, ◌∙◌, arith, Result, Ok, Err, pos, ◌<ℤ◌, AllByRecursion, ints, length-take-le, stored_listed as stored_row}
-use Rattle.esc_store.proofs.Common.{◌≤◌, ap₂, take_more, map-append, IsKeyedBy, MRow, no_row, ListedRow, listed_number, listed_row, listed_from}
+use Rattle.esc_store.proofs.Common.{◌≡◌, ℕ, suc, ◌+◌, ◌<◌, List, [], ◌∷◌, ◌++◌, length, take, get_or, map, Option, None, Some, refl, sym, ap, ◌∙◌, arith, Result, Ok, Err, pos, ◌<ℤ◌, AllByRecursion, ints, length-take-le, listed_row}
+use Rattle.esc_store.proofs.Common.{◌≤◌, ap₂, take_more, map-append, IsKeyedBy, MRow, no_row, ListedRow, listed_number, indexed_row, listed_from}
 use Rattle.esc_manifest.specs.declared.fault.MFault.{MFault}
 use Rattle.esc_manifest.specs.declared.fault.MFault.TheVariants.{Refused}
 use Rattle.esc_sql.specs.declared.listed.Listed.{Listed}
@@ -11,26 +11,26 @@ pub accepted_is : (fault : Option (ℕ × ℕ)) (r : Result (List MRow) MFault) 
 accepted_is None r m rows good bad is = let e : Ok m ≡ Ok rows = sym is ∙ good refl in cc
 accepted_is (Some (code, row)) r m rows good bad is = let e : Ok m ≡ Err (Refused code row) = sym is ∙ bad code row refl in let no : ⊥ = cc in absurd no
 
-pub listed_size : (ss : List Listed) (rs : List MRow) → map stored_row ss ≡ listed_from 0 rs → length ss ≡ length rs
-listed_size = from_size listed_row listed_from (λ _. refl) (λ _ _ _. refl) stored_row 0
+pub listed_size : (ss : List Listed) (rs : List MRow) → map listed_row ss ≡ listed_from 0 rs → length ss ≡ length rs
+listed_size = from_size indexed_row listed_from (λ _. refl) (λ _ _ _. refl) listed_row 0
 
 -- so many rows are before it
 place : (rs : List MRow) (i : ℕ) → i ≤ length rs → length (take i rs) + 0 ≡ i
 place rs i within = let size = length-take-le i rs within in omega arith
 
-pub one_stored : (rs : List MRow) (ss : List Listed) (i : ℕ) (d : MRow) (s : Listed) → map stored_row ss ≡ listed_from 0 (take i rs) → i < length rs → stored_row s ≡ listed_row i (get_or rs i d) → map stored_row (ss ++ (s ∷ [])) ≡ listed_from 0 (take (i + 1) rs)
+pub one_stored : (rs : List MRow) (ss : List Listed) (i : ℕ) (d : MRow) (s : Listed) → map listed_row ss ≡ listed_from 0 (take i rs) → i < length rs → listed_row s ≡ indexed_row i (get_or rs i d) → map listed_row (ss ++ (s ∷ [])) ≡ listed_from 0 (take (i + 1) rs)
 one_stored rs ss i d s so_far below is =
-    map-append stored_row ss (s ∷ []) ∙ from_next listed_row listed_from (λ _. refl) (λ _ _ _. refl) 0 (map stored_row ss) rs i (stored_row s) d so_far below
-    (is ∙ ap (λ n. listed_row n (get_or rs i d)) (sym (place rs i (omega arith))))
+    map-append listed_row ss (s ∷ []) ∙ from_next indexed_row listed_from (λ _. refl) (λ _ _ _. refl) 0 (map listed_row ss) rs i (listed_row s) d so_far below
+    (is ∙ ap (λ n. indexed_row n (get_or rs i d)) (sym (place rs i (omega arith))))
 
 -- the stored form of a row at its place
-pub stored_get : (ss : List Listed) (rs : List MRow) (i : ℕ) (d : Listed) → map stored_row ss ≡ listed_from 0 rs → i < length ss → stored_row (get_or ss i d) ≡ listed_row i (get_or rs i no_row)
+pub stored_get : (ss : List Listed) (rs : List MRow) (i : ℕ) (d : Listed) → map listed_row ss ≡ listed_from 0 rs → i < length ss → listed_row (get_or ss i d) ≡ indexed_row i (get_or rs i no_row)
 stored_get ss rs i d e lt =
     let size = listed_size ss rs e in
-    from_nth listed_row listed_from (λ _. refl) (λ _ _ _. refl) stored_row 0 ss rs i d no_row e lt ∙ ap (λ n. listed_row n (get_or rs i no_row)) (place rs i (omega arith))
+    from_nth indexed_row listed_from (λ _. refl) (λ _ _ _. refl) listed_row 0 ss rs i d no_row e lt ∙ ap (λ n. indexed_row n (get_or rs i no_row)) (place rs i (omega arith))
 
-pub one_row : (ss : List Listed) (rs : List MRow) (i : ℕ) (d : Listed) (rows : List MRow) (row : MRow) → map stored_row ss ≡ listed_from 0 rs → i < length ss → rows ≡ take i rs
-    → ((n : ℕ) (r : MRow) → stored_row (get_or ss i d) ≡ listed_row n r → row ≡ r) → rows ++ (row ∷ []) ≡ take (i + 1) rs
+pub one_row : (ss : List Listed) (rs : List MRow) (i : ℕ) (d : Listed) (rows : List MRow) (row : MRow) → map listed_row ss ≡ listed_from 0 rs → i < length ss → rows ≡ take i rs
+    → ((n : ℕ) (r : MRow) → listed_row (get_or ss i d) ≡ indexed_row n r → row ≡ r) → rows ++ (row ∷ []) ≡ take (i + 1) rs
 one_row ss rs i d rows row e lt so_far is =
     let size = listed_size ss rs e in
     ap₂ (λ l x. l ++ (x ∷ [])) so_far (is i (get_or rs i no_row) (stored_get ss rs i d e lt)) ∙ sym (take_more rs i no_row (omega arith))

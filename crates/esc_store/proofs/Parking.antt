@@ -2,7 +2,7 @@
 use Rattle.esc_store.proofs.Common.{◌≡◌, ℕ, ℤ, true, List, [], ◌∷◌, Option, None, Some, refl, sym, ap, subst, ◌∙◌, Result, Ok, IsSome, ◌↔◌, if◌then◌else◌, bytes_eq, Contains, nat_cmp, Less, slice_cmp, All-from_recursion, IfOk-at_ok, Ghosts}
 use Rattle.esc_store.proofs.Common.{IsAscending, Database, state, HasCleanDisk, MRow, Content, content_in, Store, StoreState, with_parked, AreParked, IsBooks, IsStep, IsStoreRead}
 use Rattle.esc_store.proofs.Common.{was_clean, parked_at, HasMadeBooksIn}
-use Rattle.esc_sql.specs.Content.{moment_of}
+use Rattle.esc_sql.specs.Content.{moment_set}
 use Rattle.esc_sql.specs.Rows.{MomentRow}
 use Rattle.esc_sql.specs.Parked.{PutsParked, RemovesParked, ListsParked, SetsMoment, moment_row}
 use Rattle.esc_store.specs.StoreState.{with_moment, AreRisingTexts}
@@ -47,7 +47,7 @@ are_parked k c found books lists = record {
 
 -- ---- the moment
 
-pub books_moment : {rows : List MomentRow} {moment : Option ℤ} → moment_of rows ≡ moment → (k : StoreState) (c c' : Content) → Becoming (λ c. record c { moment = rows }) c c' → IsBooks c k → IsBooks c' (with_moment k moment)
+pub books_moment : {rows : List MomentRow} {moment : Option ℤ} → moment_set rows ≡ moment → (k : StoreState) (c c' : Content) → Becoming (λ c. record c { moment = rows }) c c' → IsBooks c k → IsBooks c' (with_moment k moment)
 books_moment is k c c' turn books = books_as turn.is books.listed books.receipts books.held books.parked is books.steps
 
 pub moment_turns : (v : ℤ) (old new : Database) → SetsMoment v old new → Turns (Becoming (λ c. record c { moment = moment_row v ∷ [] })) old new

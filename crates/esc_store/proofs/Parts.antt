@@ -2,7 +2,7 @@
 use Rattle.esc_store.proofs.Common.{◌≡◌, ◌∙◌, ℕ, List, refl, sym, ap, subst, Result, Ok, Err, IfErr, OnErr, IsErr, IfOk-at_ok, Ghosts, Database, state, HasCleanDisk, Survives, KeepsCommit, survives_then, parked_at, body_of, Settles}
 use Rattle.esc_store.proofs.Common.{Content, object_at, image_at, Becomes, listed_from, receipts_from, steps_from, content_in, HoldsContent, content_is, IsPart, IsRead, SFault, Store, StoreState, IsBooks, IsRegistry, HoldsTables, IsStep, IsLook, was_clean, State as Tables}
 use Rattle.std.specs.Prelude.{IfOk}
-use Rattle.esc_sql.specs.Content.{moment_of}
+use Rattle.esc_sql.specs.Content.{moment_set}
 use Rattle.sqlite.specs.State.{State}
 use Rattle.esc_store.specs.Faults.{IsS1OrS2}
 use Rattle.esc_store.specs.Representation.{IsGivenUp}
@@ -67,7 +67,7 @@ become_turns change old new made = turning (λ tables. (change (content_in old.t
 
 -- what is kept, by each of its parts
 pub books_as : {k : StoreState} {c d : Content} → c ≡ d → d.listed ≡ listed_from 0 k.listed → d.receipts ≡ receipts_from 1 k.receipts → ((row : ℕ) → body_of row d.held ≡ k.bodies row)
-    → ((digest : List ℕ) → parked_at digest d.parked ≡ k.parked digest) → moment_of d.moment ≡ k.moment → d.steps ≡ steps_from 1 k.steps → IsBooks c k
+    → ((digest : List ℕ) → parked_at digest d.parked ≡ k.parked digest) → moment_set d.moment ≡ k.moment → d.steps ≡ steps_from 1 k.steps → IsBooks c k
 books_as {k} is listed receipts held parked moment steps =
     subst (λ x. IsBooks x k) (sym is) (record { listed = listed; receipts = receipts; held = held; parked = parked; moment = moment; steps = steps })
 

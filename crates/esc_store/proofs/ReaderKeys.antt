@@ -1,7 +1,7 @@
 -- What the keys and the objects that a reader finds say.
 use Rattle.esc_store.proofs.Common.{◌≡◌, ℕ, ℤ, ◌≤◌, Bool, true, false, cond, List, [], ◌∷◌, length, filter, map, find, Option, None, Some, refl, sym, ap, subst, ◌∙◌, arith, inl, inr, cases_Bool, same_Some, option_map, is_some, IsSome, IfSome, IsSorted, int_eq}
 use Rattle.esc_store.proofs.Common.{Contains, IsAscending, slice_cmp, Less, option_and_then, kind_rank, Kind, KeyName, key_cmp, key_eq, keys_alike, same_key, ObjectValue, record_of, State, Database, HoldsContent, Content, ObjectRow, ObjectEntry}
-use Rattle.esc_store.proofs.Common.{object_at, object_of, IsRegistry, entry_row, stored_row}
+use Rattle.esc_store.proofs.Common.{object_at, stored_entry, IsRegistry, entry_row, record_row}
 use Rattle.std.specs.Prelude.{IsPermutation}
 use Rattle.std.specs.List.{list_any}
 use Rattle.std.specs.Cmp.{IsTotalOrder}
@@ -27,7 +27,7 @@ use Rattle.esc_sql.proofs.Sorts.{key_eq as both_eq}
 use Rattle.esc_sql.specs.declared.object.StoredObject.{StoredObject}
 use Rattle.esc_scan.specs.ObjectKeys.{key_read, key_of_object, object_with}
 use Rattle.esc_scan.specs.declared.object.ObjectKey.{ObjectKey}
-use Rattle.esc_store.specs.TableKeys.{AreKeysOf, is_key_wanted, is_number_wanted, key_at, numbered, wanted_of}
+use Rattle.esc_store.specs.TableKeys.{AreKeysOf, is_key_wanted, is_number_wanted, key_at, numbered_key, wanted_of}
 use Rattle.esc_store.specs.declared.reader.objects.TableKey.{TableKey}
 use Rattle.esc_store.proofs.Registries.{AreAlone, at_branch, itself, one_object, record_here, same_tests}
 
@@ -59,13 +59,13 @@ at_its_key db c id o holds found =
     (found_too (is_object_at o.kind o.key) (λ (x : ObjectRow). int_eq (object_number x) id) c.objects o found (itself o.kind o.key) (few object_keys (λ _. true) (o.kind, o.key) db c holds))
 
 object_read : AreAlone → (db : Database) (s : State) (c : Content) (id : ℤ) (key : KeyName) (stored : ObjectEntry) (object : ObjectValue) → HoldsContent db c → IsRegistry c s
-    → Some stored ≡ object_with id c.objects → entry_row (key, object) ≡ stored_row stored → s.content key ≡ Some object
+    → Some stored ≡ object_with id c.objects → entry_row (key, object) ≡ record_row stored → s.content key ≡ Some object
 object_read alone db s c id key stored object holds registry found is = at (get_by object_number c.objects id) refl where
   at : (o : Option ObjectRow) → get_by object_number c.objects id ≡ o → s.content key ≡ Some object
   at None none = let never : Some stored ≡ None = found ∙ ap (option_map object_entry) none in absurd cc
   at (Some o) some =
       let same : Some stored ≡ Some (object_entry o) = found ∙ ap (option_map object_entry) some in
-      let row : entry_row (key, object) ≡ stored_row (object_entry o) = is ∙ ap stored_row (same_Some stored (object_entry o) same) in
+      let row : entry_row (key, object) ≡ record_row (object_entry o) = is ∙ ap record_row (same_Some stored (object_entry o) same) in
       let kinds : kind_rank key.kind ≡ o.kind = ap (λ (p : ℕ × List ℕ × Option (List ℕ)). p.0) row in
       let texts : key.text ≡ o.key = ap (λ (p : ℕ × List ℕ × Option (List ℕ)). p.1) row in
       let records : record_of object ≡ Some o.bytes = ap (λ (p : ℕ × List ℕ × Option (List ℕ)). p.2) row in
@@ -73,10 +73,10 @@ object_read alone db s c id key stored object holds registry found is = at (get_
       sym (one_object alone object o.bytes (s.content key) records (sym there ∙ (registry.objects (kind_rank key.kind) key.text ∙ record_here s.content key)))
 
 pub object_found : AreAlone → (db : Database) (s : State) (c : Content) (id : ℤ) (key : KeyName) (found : Option StoredObject) (object : ObjectValue) → HoldsContent db c → IsRegistry c s
-    → option_map object_of found ≡ object_with id c.objects → option_map (λ it. stored_row (object_of it)) found ≡ Some (entry_row (key, object)) → s.content key ≡ Some object
+    → option_map stored_entry found ≡ object_with id c.objects → option_map (λ it. record_row (stored_entry it)) found ≡ Some (entry_row (key, object)) → s.content key ≡ Some object
 object_found alone db s c id key None object holds registry says is = let never : None ≡ Some (entry_row (key, object)) = is in absurd cc
 object_found alone db s c id key (Some stored) object holds registry says is =
-    object_read alone db s c id key (object_of stored) object holds registry says (sym (same_Some (stored_row (object_of stored)) (entry_row (key, object)) is))
+    object_read alone db s c id key (stored_entry stored) object holds registry says (sym (same_Some (record_row (stored_entry stored)) (entry_row (key, object)) is))
 
 -- ---- the keys
 
@@ -149,11 +149,11 @@ module _ (db : Database) (s : State) (c : Content) (kind : Option Kind) (holds :
       ∙ at_branch (λ (x : Option (List ℕ)) (y : Option ObjectValue). is_some x ≡ is_some y) (is_number_wanted kind n)
       (ap is_some (registry.objects n q.text ∙ record_here s.content q) ∙ still_some (s.content q) (registry.recorded q)) refl
 
-  module _ (found : List ObjectKey) (keys sorted : List TableKey) (says : map key_read found ≡ map key_of_object c.objects) (are : map numbered keys ≡ filter (is_key_wanted kind) (map key_read found)) where
+  module _ (found : List ObjectKey) (keys sorted : List TableKey) (says : map key_read found ≡ map key_of_object c.objects) (are : map numbered_key keys ≡ filter (is_key_wanted kind) (map key_read found)) where
     names : map name_of keys ≡ map row_name rows
     names =
         let name : ℤ × ℕ × List ℕ → Name = λ p. (p.1, p.2) in
-        sym (map-map name numbered keys)
+        sym (map-map name numbered_key keys)
         ∙ ap (map name) (are ∙ ap (filter (is_key_wanted kind)) says ∙ filter-map (is_key_wanted kind) key_of_object c.objects)
         ∙ map-map name key_of_object rows
 

@@ -13,7 +13,7 @@ use Rattle.sqlite_keyed.proofs.ListLemmas.{map-map}
 use Rattle.sqlite_keyed.proofs.SortLemmas.{sorted_unique, IsPermutation-sort_by}
 use Rattle.sqlite_value.specs.Keys.{first_key}
 use Rattle.esc_sql.specs.Changes.{by_key}
-use Rattle.esc_sql.specs.Parked.{by_digest, digest_of}
+use Rattle.esc_sql.specs.Parked.{by_digest, parked_digest}
 use Rattle.esc_sql.specs.Rows.{HeldRow, ParkedRow}
 use Rattle.esc_sql.specs.StoreTable.{Parked}
 use Rattle.esc_sql.proofs.Finds.{IsKey, unique_key}
@@ -133,11 +133,11 @@ parked_sorted db k c found bodies holds books says turned up = record { digests 
 
   digests : AreParked k.parked (map digest_in bodies)
   digests =
-      let inorder = map digest_of (sort_by by_digest c.parked) in
+      let inorder = map parked_digest (sort_by by_digest c.parked) in
       let lists = lists_parked db c inorder holds refl in
-      let rows = IsPermutation-map digest_of _ c.parked (IsPermutation-sort_by by_digest (on_total digest_of nat_list_cmp_total) c.parked) in
+      let rows = IsPermutation-map parked_digest _ c.parked (IsPermutation-sort_by by_digest (on_total parked_digest nat_list_cmp_total) c.parked) in
       let turn = subst (λ l. IsPermutation l (map digest_in bodies)) (map-map digest_in parked_kept c.parked) (IsPermutation-map digest_in _ bodies kept) in
-      let all = IsPermutation-trans inorder (map digest_of c.parked) (map digest_in bodies) rows turn in
+      let all = IsPermutation-trans inorder (map parked_digest c.parked) (map digest_in bodies) rows turn in
       subst (AreParked k.parked) (sym (sorted_unique (slice_cmp nat_cmp) nat_list_cmp_total inorder (map digest_in bodies) lists.rising all (sorted_keys bodies up))) (are_parked k c inorder books lists)
 
 -- ---- objects

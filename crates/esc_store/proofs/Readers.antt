@@ -1,5 +1,5 @@
 -- Reads of a store's trees.
-use Rattle.esc_store.proofs.Common.{◌≡◌, inl, List, refl, sym, ap, subst, ◌∙◌, arith, Result, Ok, Err, IfOk, OnOk, IfOk-at_ok, Ghosts, Database, Content, content_in, HoldsContent, StoreState, IsBooks, IsRegistry, MRow, listed_from, IsStore}
+use Rattle.esc_store.proofs.Common.{◌≡◌, inl, List, refl, sym, ap, subst, ◌∙◌, arith, Result, Ok, Err, IfOk, IfOk-at_ok, Ghosts, Database, Content, content_in, HoldsContent, StoreState, IsBooks, IsRegistry, MRow, listed_from, IsStore}
 use Rattle.sqlite_catalog.proofs.QuietLemmas.{quiet_then}
 use Rattle.sqlite_trees.specs.View.{View, IsClean}
 use Rattle.esc_sql.specs.Content.{HoldsRows}
@@ -8,6 +8,7 @@ use Rattle.esc_scan.specs.Scanning.{IsScan, OnlyCursors}
 use Rattle.esc_scan.proofs.Scans.{only_then}
 use Rattle.esc_store.specs.Reading.{AreReadAs, AreHonest, IsHonestReader, IsReadOnly}
 use Rattle.esc_store.specs.Reading.{ReaderRepresents}
+use Rattle.esc_store.specs.ResultLaws.{on_any}
 use Rattle.esc_store.specs.declared.reader.StoreReader.{StoreReader}
 
 -- rows of a store that keeps k, of which this is said
@@ -18,10 +19,6 @@ pub record IsSaid (k : StoreState) (Says : Content → Type 0) : Type 0 where
   pub books : IsBooks content k
   pub registry : IsRegistry content k.registry
   pub says : Says content
-
-pub on_any : {X E P : Type 0} (r : Result X E) → P → OnOk r P
-on_any (Ok x) p = p
-on_any (Err e) p = tt
 
 module _ {S X E : Type 0} {g : Ghosts S} {old new : S} {P : Content → X → Type 0} where
   pub was_honest : {r : Result X E} → IsScan g old new P r → AreHonest g new → AreHonest g old

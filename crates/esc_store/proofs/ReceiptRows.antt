@@ -12,7 +12,7 @@ use Rattle.esc_sql.specs.Changes.{is_of_verdict}
 use Rattle.esc_store.specs.declared.reply.Verdict.TheVariants.{A1, A5}
 use Rattle.esc_store.specs.Decoded.{IsOfVerdict, AreOfVerdict}
 use Rattle.esc_store.specs.StoreState.{IsRising, SaysHeld, AreHeldBy, is_unlisted, TellsUnlisted, AreUnlisted}
-use Rattle.esc_store.specs.TypedRows.{receipt_row}
+use Rattle.esc_store.specs.TypedRows.{numbered_receipt}
 use Rattle.esc_store.specs.ListLaws.{first_or_later, later, any_first, any_later, any_split}
 
 -- ---- each once
@@ -39,7 +39,7 @@ some_back xs n (k, within, is) =
 
 -- ---- the receipts of a verdict, by what a column of their rows says
 
-module _ {Y : Type 0} (column : ReceiptRow → Y) (v : ℕ) (y : Y) (P : ReceiptValue → Type 0) (reads : (n : ℕ) (r : ReceiptValue) → ((verdict_number r.verdict ≡ v) × (column (receipt_row n r) ≡ y)) ↔ P r) where
+module _ {Y : Type 0} (column : ReceiptRow → Y) (v : ℕ) (y : Y) (P : ReceiptValue → Type 0) (reads : (n : ℕ) (r : ReceiptValue) → ((verdict_number r.verdict ≡ v) × (column (numbered_receipt n r) ≡ y)) ↔ P r) where
   pub said : (n : ℕ) (rs : List ReceiptValue) → Contains (map column (filter (is_of_verdict v) (receipts_from n rs))) y ↔ Any P rs
   said n [] = (λ there. absurd (omega (arith, there.1)), λ any. absurd (omega (arith, any.2)))
   said n (r ∷ rs) = elim (cases_Bool (verdict_number r.verdict == v)) [

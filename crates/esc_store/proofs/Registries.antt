@@ -1,36 +1,36 @@
 -- What the statements on objects and before-images do to tables and before-images by keys.
 use Rattle.esc_store.proofs.Common.{◌≡◌, ℕ, Bool, true, false, cond, List, [], ◌++◌, Option, None, Some, refl, sym, ap, ap₂, subst, ◌∙◌, arith, ◌==◌, ◌&&◌, if◌then◌else◌, option_map, IsSome, IfSome, option_and_then, eqb-true}
 use Rattle.esc_store.proofs.Common.{nat_tests, bytes_eq-Decides, Database, Kind, Registrar, kind_rank, one_kind, KeyName, key_eq, ObjectValue, record_of, append-nil, State, Befores}
-use Rattle.esc_store.proofs.Common.{written, noted, ObjectRow, Content, content_in, HoldsContent, object_at, image_at, StoreState, kind_at, record_at, image_kept, IsBooks, IsRegistry, Undo}
+use Rattle.esc_store.proofs.Common.{written, noted, ObjectRow, Content, content_in, HoldsContent, object_at, image_at, StoreState, kind_numbered, record_at_key, image_kept, IsBooks, IsRegistry, Undo}
 use Rattle.std.proofs.lemmas.Option.{same_Some}
 use Rattle.std.proofs.lemmas.Bool.{false_from_ne_true}
 use Rattle.std.proofs.lemmas.Bool.Decides.{same_from_decides, Decides-and, Decides-eqb}
 use Rattle.std.specs.Bool.{Decides}
 use Rattle.esc_apply.specs.Registry.{nothing, with_key, taken}
-use Rattle.esc_apply.specs.Registry.{Content as Objects}
+use Rattle.esc_apply.specs.Registry.{ObjectsByKey}
 use Rattle.esc_tables.specs.KeyLaws.{key_itself, one_key as same_key}
 use Rattle.esc_sql.specs.Content.{is_same_key, is_same_image, rows_of, with_rows}
-use Rattle.esc_sql.specs.StoreTable.{StoreTable, RowOf, Objects as ObjectTable}
+use Rattle.esc_sql.specs.StoreTable.{StoreTable, RowOf, Objects}
 use Rattle.esc_sql.specs.Changes.{PutsImage}
 use Rattle.esc_sql.specs.Rows.{UndoRow}
-use Rattle.esc_store.specs.TypedRows.{at_key}
+use Rattle.esc_store.specs.TypedRows.{at_stored_key}
 pub use Rattle.esc_store.proofs.Following.{moved, follows_step, holds_step, holds_all, become_turns}
 use Rattle.esc_store.proofs.Parts.{Turns, turning, books_as}
 
 -- ---- kinds by number
 
-pub kind_back : (kind : Kind) → kind_at (kind_rank kind) ≡ Some kind
+pub kind_back : (kind : Kind) → kind_numbered (kind_rank kind) ≡ Some kind
 kind_back Registrar = refl
 kind_back _ = refl
 
-pub number_of_kind : (n : ℕ) (kind : Kind) → kind_at n ≡ Some kind → n ≡ kind_rank kind
+pub number_of_kind : (n : ℕ) (kind : Kind) → kind_numbered n ≡ Some kind → n ≡ kind_rank kind
 number_of_kind n Registrar h = grind (arith, nat_tests)
 number_of_kind n _ h = grind (arith, nat_tests)
 
 -- what holds of the number of each kind, and of the numbers of none
-by_kind : (P : ℕ → Type 0) → ((n : ℕ) → kind_at n ≡ None → P n) → ((kind : Kind) → P (kind_rank kind)) → (n : ℕ) → P n
-by_kind P none some n = at (kind_at n) refl where
-  at : (o : Option Kind) → kind_at n ≡ o → P n
+by_kind : (P : ℕ → Type 0) → ((n : ℕ) → kind_numbered n ≡ None → P n) → ((kind : Kind) → P (kind_rank kind)) → (n : ℕ) → P n
+by_kind P none some n = at (kind_numbered n) refl where
+  at : (o : Option Kind) → kind_numbered n ≡ o → P n
   at None is = none n is
   at (Some kind) is = subst P (sym (number_of_kind n kind is)) (some kind)
 
@@ -39,9 +39,9 @@ by_kind P none some n = at (kind_at n) refl where
 same_key_is : (n : ℕ) (text : List ℕ) (m : ℕ) (other : List ℕ) → Decides (is_same_key n text m other) ((n ≡ m) × (text ≡ other))
 same_key_is n text m other = Decides-and _ _ (Decides-eqb n m) (bytes_eq-Decides text other)
 
-pub no_kind : (k : KeyName) (n : ℕ) (text : List ℕ) → kind_at n ≡ None → is_same_key (kind_rank k.kind) k.text n text ≡ false
+pub no_kind : (k : KeyName) (n : ℕ) (text : List ℕ) → kind_numbered n ≡ None → is_same_key (kind_rank k.kind) k.text n text ≡ false
 no_kind k n text none = false_from_ne_true _ (λ is.
-    let some : None ≡ Some k.kind = sym none ∙ (ap kind_at (sym ((same_key_is (kind_rank k.kind) k.text n text).0 is).0) ∙ kind_back k.kind) in absurd cc)
+    let some : None ≡ Some k.kind = sym none ∙ (ap kind_numbered (sym ((same_key_is (kind_rank k.kind) k.text n text).0 is).0) ∙ kind_back k.kind) in absurd cc)
 
 pub itself : (n : ℕ) (text : List ℕ) → is_same_key n text n text ≡ true
 itself n text = (same_key_is n text n text).1 (refl, refl)
@@ -58,17 +58,17 @@ same_tests k q = same_from_decides {P = k ≡ q} _ _
     (same_names k q, λ is. subst (λ (x : KeyName). is_same_key (kind_rank k.kind) k.text (kind_rank x.kind) x.text ≡ true) is (itself (kind_rank k.kind) k.text))
 
 -- what is at a key's own number and bytes
-key_back : {X : Type 0} (f : KeyName → Option X) (q : KeyName) → at_key f (kind_rank q.kind) q.text ≡ f q
+key_back : {X : Type 0} (f : KeyName → Option X) (q : KeyName) → at_stored_key f (kind_rank q.kind) q.text ≡ f q
 key_back f q = ap (option_and_then (λ kind. f (record { kind = kind; text = q.text }))) (kind_back q.kind)
 
-pub record_here : (f : Objects) (q : KeyName) → record_at f (kind_rank q.kind) q.text ≡ option_and_then record_of (f q)
+pub record_here : (f : ObjectsByKey) (q : KeyName) → record_at_key f (kind_rank q.kind) q.text ≡ option_and_then record_of (f q)
 record_here f q = ap (option_and_then record_of) (key_back f q)
 
 pub image_here : (f : Befores) (q : KeyName) → image_kept f (kind_rank q.kind) q.text ≡ option_map (λ o. option_and_then record_of o) (f q)
 image_here f q = ap (option_map (λ o. option_and_then record_of o)) (key_back f q)
 
 -- what is found by a key's number and text is the record of the object there
-pub record_found : (s : State) {q k : KeyName} {kind : ℕ} {key : List ℕ} {found : Option (List ℕ)} → kind ≡ kind_rank q.kind → key ≡ q.text → q ≡ k → found ≡ record_at s.content kind key → found ≡ option_and_then record_of (s.content k)
+pub record_found : (s : State) {q k : KeyName} {kind : ℕ} {key : List ℕ} {found : Option (List ℕ)} → kind ≡ kind_rank q.kind → key ≡ q.text → q ≡ k → found ≡ record_at_key s.content kind key → found ≡ option_and_then record_of (s.content k)
 record_found s kinds keys same is = is ∙ rw (kinds, keys, same) (record_here s.content _)
 
 -- ---- what a statement turns a store's content into
@@ -106,10 +106,10 @@ pub none_both : {X : Type 0} (b : Bool) {x y : Option X} → x ≡ None → y �
 none_both b = at_branch (λ (_ : Bool) y. y ≡ None) b {x = b} {x' = b}
 
 -- other objects, by what the rows at each key say, and at the numbers of no kind
-pub objects_then : {s : State} (f : Objects) {os : List ObjectRow} {c c' : Content} → c' ≡ record c { objects = os } → ((n : ℕ) (text : List ℕ) → kind_at n ≡ None → object_at n text c.objects ≡ None → object_at n text os ≡ None)
+pub objects_then : {s : State} (f : ObjectsByKey) {os : List ObjectRow} {c c' : Content} → c' ≡ record c { objects = os } → ((n : ℕ) (text : List ℕ) → kind_numbered n ≡ None → object_at n text c.objects ≡ None → object_at n text os ≡ None)
     → ((q : KeyName) → Reads (s.content q) (object_at (kind_rank q.kind) q.text c.objects) → Reads (f q) (object_at (kind_rank q.kind) q.text os)) → IsRegistry c s → IsRegistry c' (record s { content = f })
 objects_then {s} f {os} {c} only none some it = subst (λ x. IsRegistry x (record s { content = f })) (sym only) (record {
-  objects = λ n text. by_kind (λ m. object_at m text os ≡ record_at f m text) (λ m is. none m text is (it.objects m text ∙ rw is refl) ∙ rw is refl)
+  objects = λ n text. by_kind (λ m. object_at m text os ≡ record_at_key f m text) (λ m is. none m text is (it.objects m text ∙ rw is refl) ∙ rw is refl)
       (λ kind. (now (record { kind = kind; text = text })).0 ∙ sym (record_here f (record { kind = kind; text = text }))) n;
   images = it.images;
   recorded = λ q. (now q).1;
@@ -119,7 +119,7 @@ objects_then {s} f {os} {c} only none some it = subst (λ x. IsRegistry x (recor
   now q = some q (it.objects (kind_rank q.kind) q.text ∙ record_here s.content q, it.recorded q)
 
 -- the same of before-images
-pub images_then : {s : State} (f : ℕ → Befores) {us : List UndoRow} {c c' : Content} → c' ≡ record c { undo = us } → ((p n : ℕ) (text : List ℕ) → kind_at n ≡ None → image_at p n text c.undo ≡ None → image_at p n text us ≡ None)
+pub images_then : {s : State} (f : ℕ → Befores) {us : List UndoRow} {c c' : Content} → c' ≡ record c { undo = us } → ((p n : ℕ) (text : List ℕ) → kind_numbered n ≡ None → image_at p n text c.undo ≡ None → image_at p n text us ≡ None)
     → ((p : ℕ) (q : KeyName) → ReadsNote (s.undo p q) (image_at p (kind_rank q.kind) q.text c.undo) → ReadsNote (f p q) (image_at p (kind_rank q.kind) q.text us)) → IsRegistry c s → IsRegistry c' (record s { undo = f })
 images_then {s} f {us} {c} only none some it = subst (λ x. IsRegistry x (record s { undo = f })) (sym only) (record {
   objects = it.objects;
@@ -138,7 +138,7 @@ abbrev pub SetsAt : ℕ → List ℕ → Option (List ℕ) → List ObjectRow �
 SetsAt kind key w before after = (n : ℕ) (text : List ℕ) → object_at n text after ≡ (if is_same_key kind key n text then w else object_at n text before)
 
 pub set_registry : {s : State} (k : KeyName) (o : Option ObjectValue) {kind : ℕ} {key : List ℕ} {w : Option (List ℕ)} {c c' : Content} → kind ≡ kind_rank k.kind → key ≡ k.text → option_and_then record_of o ≡ w → IfSome o (λ x. IsSome (record_of x))
-    → Replaces ObjectTable (SetsAt kind key w) c c' → IsRegistry c s → IsRegistry c' (written s k o)
+    → Replaces Objects (SetsAt kind key w) c c' → IsRegistry c s → IsRegistry c' (written s k o)
 set_registry {s} k o kinds keys bytes has set = objects_then (with_key s.content k o) set.only
     (λ n text none was. set.are n text ∙ rw (kinds, keys, no_kind k n text none) was)
     (λ q was. rw (set.are (kind_rank q.kind) q.text, kinds, keys, ← same_tests k q) (at_branch Reads (key_eq k q) (sym bytes, has) was))
@@ -185,10 +185,10 @@ never f None nowhere = refl
 never f (Some x) nowhere = nowhere x
 
 pub nothing_kept : (n : ℕ) (text : List ℕ) → image_kept nothing n text ≡ None
-nothing_kept n text = ap (option_map (λ w. option_and_then record_of w)) (never (λ (kind : Kind). nothing (record { kind = kind; text = text })) (kind_at n) (λ _. refl))
+nothing_kept n text = ap (option_map (λ w. option_and_then record_of w)) (never (λ (kind : Kind). nothing (record { kind = kind; text = text })) (kind_numbered n) (λ _. refl))
 
-pub nothing_there : (n : ℕ) (text : List ℕ) → record_at (λ q. None) n text ≡ None
-nothing_there n text = ap (option_and_then record_of) (never {Y = ObjectValue} (λ (kind : Kind). None) (kind_at n) (λ _. refl))
+pub nothing_there : (n : ℕ) (text : List ℕ) → record_at_key (λ q. None) n text ≡ None
+nothing_there n text = ap (option_and_then record_of) (never {Y = ObjectValue} (λ (kind : Kind). None) (kind_numbered n) (λ _. refl))
 
 -- ---- objects by their records
 

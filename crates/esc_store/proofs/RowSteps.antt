@@ -14,7 +14,7 @@ use Rattle.esc_sql.specs.StoreTable.{Receipts}
 use Rattle.esc_sql.specs.Rows.{HeldRow, receipt_number, held_number}
 use Rattle.esc_sql.specs.Changes.{AddsReceipt, AddsStep, HoldsBody, steps_before}
 use Rattle.esc_store.specs.StoreState.{with_receipt, with_steps}
-use Rattle.esc_store.specs.TypedRows.{receipt_row}
+use Rattle.esc_store.specs.TypedRows.{numbered_receipt}
 use Rattle.esc_store.specs.ChangeParts.{next_number, with_next_receipt, AddsNext, with_steps_from}
 use Rattle.esc_store.proofs.Ends.{keeps_then}
 use Rattle.esc_store.proofs.Parts.{Turns, turning, Becoming, books_as}
@@ -45,7 +45,7 @@ below_next (r ∷ (s ∷ rs)) n keyed is =
 
 -- after the last receipt's number was read, the next receipt is added
 pub step_next : {Y Z D E : Type 0} (old mid new : State) (r : Result ℕ D) (last : ℕ) (v : ReceiptValue) (row : ReceiptRow) (y : Y) (z : Z) → old.in_transaction ≡ true → IsLook old mid (Tells (λ c (found : ℕ). found ≡ last_number c.receipts)) r → r ≡ Ok last
-    → row ≡ receipt_row (last + 1) v → IsStep {X = Y} {E = E} mid new (AddsReceipt row) (Ok y) → IsStep {X = Z} {E = E} old new (AddsNext v) (Ok z)
+    → row ≡ numbered_receipt (last + 1) v → IsStep {X = Y} {E = E} mid new (AddsReceipt row) (Ok y) → IsStep {X = Z} {E = E} old new (AddsNext v) (Ok z)
 step_next old mid new r last v row y z on look is row_is step =
     let done = step_then {Made' = AddsNext v} look.survives look.kept (λ clean. (on, adds clean)) step in record { survives = done.survives; kept = done.kept; made = done.made; failed = done.failed }
   where
@@ -53,12 +53,12 @@ step_next old mid new r last v row y z on look is row_is step =
     adds clean added c h =
         let s = IfOk-at_ok _ is (look.said clean) in
         let there : HoldsContent mid.now c = subst (λ db. HoldsContent db c) (sym s.1.0.now_is) h in
-        let next : row ≡ receipt_row (next_number c) v = row_is ∙ ap (λ n. receipt_row (n + 1) v) (s.0 c h) in
+        let next : row ≡ numbered_receipt (next_number c) v = row_is ∙ ap (λ n. numbered_receipt (n + 1) v) (s.0 c h) in
         (rw next at (added c there)) (below_next c.receipts (next_number c) (h.store.ordered Receipts) refl)
 
 pub books_receipt : (k : StoreState) (r : ReceiptValue) (c c' : Content) → Becoming (with_next_receipt r) c c' → IsBooks c k → IsBooks c' (with_receipt k r)
 books_receipt k r c c' turn books = books_as turn.is books.listed
-    (ap (λ (rs : List ReceiptRow). rs ++ receipt_row (last_number rs + 1) r ∷ []) books.receipts ∙ sym (from_append receipt_row receipts_from (λ _. refl) (λ _ _ _. refl) 1 _ k.receipts (r ∷ []) (ap (λ n. n + 1) (sym (counted k.receipts)))))
+    (ap (λ (rs : List ReceiptRow). rs ++ numbered_receipt (last_number rs + 1) r ∷ []) books.receipts ∙ sym (from_append numbered_receipt receipts_from (λ _. refl) (λ _ _ _. refl) 1 _ k.receipts (r ∷ []) (ap (λ n. n + 1) (sym (counted k.receipts)))))
     books.held books.parked books.moment books.steps
 
 -- ---- bodies

@@ -6,7 +6,7 @@ use Rattle.esc_sql.specs.Content.{Content, HoldsContent}
 use Rattle.esc_sql.specs.Changes.{Becomes, last_number, steps_before}
 use Rattle.esc_store.specs.declared.books.TheConstants.{MOST_RECEIPTS}
 use Rattle.esc_store.specs.ReplyValue.{ReceiptValue}
-use Rattle.esc_store.specs.TypedRows.{receipt_row, steps_from}
+use Rattle.esc_store.specs.TypedRows.{numbered_receipt, steps_from}
 
 -- the number of the next receipt, from 1
 abbrev pub next_number : Content → ℕ
@@ -14,7 +14,8 @@ next_number c = last_number c.receipts + 1
 
 -- a content with one more receipt, after the others, under the next number
 abbrev pub with_next_receipt : ReceiptValue → Content → Content
-with_next_receipt r c = record c { receipts = c.receipts ++ receipt_row (next_number c) r ∷ [] }
+with_next_receipt r c =
+    record c { receipts = c.receipts ++ numbered_receipt (next_number c) r ∷ [] }
 
 -- a store has one more receipt, after the others, under the next number
 abbrev pub AddsNext : ReceiptValue → Database → Database → Type 0

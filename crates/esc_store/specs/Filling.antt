@@ -8,7 +8,7 @@ use Rattle.esc_apply.specs.Registry.{State}
 use Rattle.esc_apply.specs.Changes.{with_object, changed_by, CanBePut}
 use Rattle.esc_sql.specs.Changes.{ObjectEntry, ImageEntry}
 use Rattle.esc_store.specs.Pages.{AreRowsOf}
-use Rattle.esc_store.specs.TypedRows.{record_at}
+use Rattle.esc_store.specs.TypedRows.{record_at_key}
 use Rattle.esc_store.specs.Representation.{ChangeOf, HasMadeTables, IsHonest, store_in}
 
 -- these objects are put, and what their keys had is noted for the step
@@ -21,12 +21,12 @@ after_noting s step es = record { content = s.content; undo = (after_filling s s
 
 -- the before-image that says what the row's key has in this state
 abbrev pub image_now : State → ObjectEntry → ImageEntry
-image_now s r = record { kind = r.kind; key = r.key; bytes = record_at s.content r.kind r.key }
+image_now s r = record { kind = r.kind; key = r.key; bytes = record_at_key s.content r.kind r.key }
 
 -- the keys of these rows have no object, if keys are said to be free
 abbrev pub AreFree : Keys → State → List ObjectEntry → Type 0
 AreFree targets s rows = targets ≡ Vacant
-    → All (λ (r : ObjectEntry). record_at s.content r.kind r.key ≡ None) rows
+    → All (λ (r : ObjectEntry). record_at_key s.content r.kind r.key ≡ None) rows
 
 -- a change gave before-images that say what the keys of these rows have
 abbrev pub AreImagesNow : {S : Type 0} → Ghosts S → Keys → List ObjectEntry → List ImageEntry

@@ -9,7 +9,7 @@ use Rattle.sqlite.specs.Held.{Held, state}
 use Rattle.sqlite.specs.State.{State, HasCleanDisk, Opens}
 use Rattle.esc_sql.specs.Schema.{first_schema, info_tree}
 use Rattle.esc_sql.specs.FirstVersion.{first_content_in}
-use Rattle.esc_sql.specs.FirstVersion.{IsFirstStore as HasFirstTables}
+use Rattle.esc_sql.specs.FirstVersion.{AreFirstTrees}
 use Rattle.esc_store.specs.StoreState.{StoreState}
 use Rattle.esc_store.specs.Representation.{LeavesOr}
 use Rattle.esc_store.specs.StoreTables.{IsStore}
@@ -18,7 +18,7 @@ use Rattle.esc_store.specs.TypedRows.{IsBooks, IsRegistry}
 -- trees are the seven tables of version 1, in order and sound, and hold exactly this; so no body is
 -- parked, and no moment is set
 pub record IsFirstKept (trees : Trees) (k : StoreState) : Type 0 where
-  pub tables : HasFirstTables trees (first_content_in trees)
+  pub tables : AreFirstTrees trees (first_content_in trees)
   pub books : IsBooks (first_content_in trees) k
   pub registry : IsRegistry (first_content_in trees) k.registry
 
@@ -57,7 +57,8 @@ SeesFirst s k = HasCleanDisk s → IsTrue s.is_open → IsFirstKept s.now.trees 
 -- a crash after a call leaves what it might leave before, or a store that keeps k; so of a
 -- connection that was just opened on a store of version 1 it leaves this store, or one of this
 -- version that keeps the same
-pub record LeavesFirstOr {S : Type 0} (g : Ghosts S) (old new : Held S) (k : StoreState) : Type 0 where
+pub record LeavesFirstOr {S : Type 0} (g : Ghosts S) (old new : Held S) (k : StoreState)
+    : Type 0 where
   pub adds : LeavesOr g old new k
   pub opened : Opens (state g old) → HasCleanDisk (state g new) → (trees : Trees)
       → (state g new).may_leave trees → IsFirstStore trees k ⊎ IsStore trees k

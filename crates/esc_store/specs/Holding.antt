@@ -2,7 +2,7 @@
 use Rattle.std.specs.Prelude.{◌≡◌, ◌↔◌, ◌⊎◌, ℕ, List, Some, IsSome}
 use Rattle.std.specs.List.{Any, Contains}
 use Rattle.esc_manifest.specs.declared.row.MRow.{MRow}
-use Rattle.esc_manifest.specs.Listed.{row_of}
+use Rattle.esc_manifest.specs.Listed.{row_with_digest}
 use Rattle.esc_store.specs.ReplyValue.{ReceiptValue}
 use Rattle.esc_store.specs.StoreState.{StoreState, IsRising, SaysHeld, TellsUnlisted}
 
@@ -10,7 +10,8 @@ use Rattle.esc_store.specs.StoreState.{StoreState, IsRising, SaysHeld, TellsUnli
 -- (A1), or that no row listed its digest then (A2 or A5), and that digest is the row's by these
 -- rows
 abbrev pub TellsOf : List MRow → ℕ → ReceiptValue → Type 0
-TellsOf m row r = SaysHeld row r ⊎ (TellsUnlisted r.digest r × (row_of m r.digest ≡ Some row))
+TellsOf m row r = SaysHeld row r
+    ⊎ (TellsUnlisted r.digest r × (row_with_digest m r.digest ≡ Some row))
 
 -- each row that a receipt says is held has a body, and a receipt accounts for each row that has one
 pub record HasReceipts (k : StoreState) : Type 0 where
@@ -26,7 +27,7 @@ pub record IsInserted (rows : List ℕ) (row : ℕ) (more : List ℕ) : Type 0 w
 pub record IsOfDigests (k : StoreState) (digests : List (List ℕ)) (r : ℕ) : Type 0 where
   pub digest : List ℕ
   pub among : Contains digests digest
-  pub lists : row_of k.listed digest ≡ Some r
+  pub lists : row_with_digest k.listed digest ≡ Some r
 
 -- in ascending order, the rows that receipts say are held (`told`), and those that list one of
 -- these digests and have a body

@@ -6,7 +6,12 @@ use Rattle.esc_store.specs.StoreState.{StoreState, AreCounts, AreHeldBy, AreUnli
 
 -- nothing
 abbrev pub nothing_read : Remembered
-nothing_read = record { rows_with_receipt = None; unlisted_digests = None; chain = None; counts = None }
+nothing_read = record {
+  rows_with_receipt = None;
+  unlisted_digests = None;
+  chain = None;
+  counts = None;
+}
 
 -- what is remembered, if anything, is so of k: the rows that its receipts say are held, the digests
 -- that they say no row listed, its chain, and how many objects of each kind it has

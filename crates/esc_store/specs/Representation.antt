@@ -49,8 +49,8 @@ listed_rows_of store = store.manifest
 
 -- how many objects were put into a store or removed since it was opened; a removal counts even if
 -- there was no object
-abbrev pub writes_of : {S : Type 0} → Store S → ℕ
-writes_of store = store.writes
+abbrev pub store_writes : {S : Type 0} → Store S → ℕ
+store_writes store = store.writes
 
 -- the database of a connection holds exactly this, and no transaction is on
 pub record IsAtRest (s : State) (k : StoreState) : Type 0 where
@@ -158,8 +158,8 @@ abbrev pub store_name : {S L : Type 0} → Change S L → GName
 store_name change = change.store.ghost_name
 
 -- how many objects a change has put or removed so far, counted in the same way
-abbrev pub count_of : {S L : Type 0} → Change S L → ℕ
-count_of change = change.count
+abbrev pub change_count : {S L : Type 0} → Change S L → ℕ
+change_count change = change.count
 
 -- a change of a store, which lists rows or none
 abbrev pub ChangeOf : Type 0 → Type 0
@@ -213,7 +213,7 @@ pub record IsChangePart {S X E : Type 0} (g : Ghosts S) (old new : ChangeOf S)
 
 -- what the calls of a change as a registry leave as it was, whatever they return: nothing is
 -- committed, and the rows, receipts, bodies, parked bodies, moment and chain are as they were
-pub record Follows {S : Type 0} (g : Ghosts S) (old new : ChangeOf S) : Type 0 where
+pub record ChangeFollows {S : Type 0} (g : Ghosts S) (old new : ChangeOf S) : Type 0 where
   pub goes_on : IsUncommitted g old new
   pub listed : listed_by new ≡ listed_by old
   pub rest : (before k : StoreState) → HasMadeBooks g old before k → HasMadeBooks g new before k

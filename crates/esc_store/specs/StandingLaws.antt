@@ -16,7 +16,7 @@ use Rattle.esc_store.specs.Representation.{
   IsAsBefore,
   IsUncommitted,
   IsChangePart,
-  Follows,
+  ChangeFollows,
 }
 
 -- nothing was called
@@ -63,7 +63,7 @@ goes_then p q = record {
 }
 
 -- nothing was called
-pub follows_same : {S : Type 0} (g : Ghosts S) (c : ChangeOf S) → Follows g c c
+pub follows_same : {S : Type 0} (g : Ghosts S) (c : ChangeOf S) → ChangeFollows g c c
 follows_same g c = record {
   goes_on = record {
     same_reference = refl;
@@ -77,8 +77,8 @@ follows_same g c = record {
 }
 
 -- what follows from what followed before
-pub follows_then : {S : Type 0} {g : Ghosts S} {a b c : ChangeOf S} → Follows g a b
-    → Follows g b c → Follows g a c
+pub follows_then : {S : Type 0} {g : Ghosts S} {a b c : ChangeOf S} → ChangeFollows g a b
+    → ChangeFollows g b c → ChangeFollows g a c
 follows_then p q = record {
   goes_on = goes_then p.goes_on q.goes_on;
   listed = q.listed ∙ p.listed;

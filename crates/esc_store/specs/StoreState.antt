@@ -41,7 +41,7 @@ use Rattle.esc_envelope.specs.Kinds.{kind_rank}
 use Rattle.esc_manifest.specs.declared.row.MRow.{MRow}
 use Rattle.esc_manifest.specs.ManifestRows.{place_at, resend_at}
 use Rattle.esc_apply.specs.declared.front.Step.{Step}
-use Rattle.esc_apply.specs.Registry.{State, Content, empty, HasSize}
+use Rattle.esc_apply.specs.Registry.{State, ObjectsByKey, empty, HasSize}
 use Rattle.esc_store.specs.declared.parked.TheConstants.{MOST_PARKED}
 use Rattle.esc_store.specs.declared.reply.Verdict.{Verdict}
 use Rattle.esc_store.specs.declared.reply.Verdict.TheVariants.{A1, A2, A3, A4, A5}
@@ -187,11 +187,11 @@ AreUnlisted receipts digests =
     (digest : List ℕ) → Contains digests digest ↔ Any (TellsUnlisted digest) receipts
 
 -- the objects of one kind
-abbrev pub of_kind : Kind → Content → Content
+abbrev pub of_kind : Kind → ObjectsByKey → ObjectsByKey
 of_kind kind content q = if kind_rank q.kind == kind_rank kind then content q else None
 
 -- how many objects there are of each kind, in the order of kinds
-pub record AreCounts (content : Content) (counts : List (Kind × ℕ)) : Type 0 where
+pub record AreCounts (content : ObjectsByKey) (counts : List (Kind × ℕ)) : Type 0 where
   pub kinds : map (λ (c : Kind × ℕ). c.0) counts ≡ Registrar ∷ Contact ∷ Host ∷ Domain ∷ Idn ∷ Nndn
       ∷ []
   pub each : All (λ (c : Kind × ℕ). HasSize (of_kind c.0 content) c.1) counts

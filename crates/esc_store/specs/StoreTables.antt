@@ -6,13 +6,13 @@ use Rattle.sqlite_trees.specs.Tree.{Trees}
 use Rattle.sqlite.specs.Effect.{Database}
 use Rattle.esc_sql.specs.Schema.{store_schema, no_schema, info_tree}
 use Rattle.esc_sql.specs.Content.{content_in, HoldsContent}
-use Rattle.esc_sql.specs.Content.{IsStore as HasTables}
+use Rattle.esc_sql.specs.Content.{AreStoreTrees}
 use Rattle.esc_store.specs.StoreState.{StoreState}
 use Rattle.esc_store.specs.TypedRows.{IsBooks, IsRegistry}
 
 -- trees are the nine tables of version 2, in order and sound, and hold exactly this
 pub record IsKept (trees : Trees) (k : StoreState) : Type 0 where
-  pub tables : HasTables trees (content_in trees)
+  pub tables : AreStoreTrees trees (content_in trees)
   pub books : IsBooks (content_in trees) k
   pub registry : IsRegistry (content_in trees) k.registry
 

@@ -23,7 +23,7 @@ ghost use Rattle.esc_store.specs.Representation.{
   HasMadeTables,
   IsUncommitted,
   IsChangePart,
-  Follows,
+  ChangeFollows,
   IsCommitOf,
   IsRollbackOf,
   StoreLeavesOr,
@@ -31,7 +31,7 @@ ghost use Rattle.esc_store.specs.Representation.{
   IsHonest,
   listed_by,
   store_in,
-  count_of,
+  change_count,
 };
 
 use crate::books::MOST_RECEIPTS;
@@ -103,8 +103,8 @@ impl<'a, S: Alter> Change<'a, S> {
 
     /// The body of the row with this index, from 0, if the change holds one. `S1`, `S2`.
     pub fn body_of(&mut self, row: usize) -> Result<Option<Vec<u8>>, SFault>
-        ensures follows { Follows S.Store self.old self.new }
-        ensures count { count_of self.new ≡ count_of self.old }
+        ensures follows { ChangeFollows S.Store self.old self.new }
+        ensures count { change_count self.new ≡ change_count self.old }
         ensures found { IfOk result (λ found. IsHonest S.Store (store_in self.new)
             → (before k : StoreState) → HasMadeBooks S.Store self.old before k
             → option_map (λ b. b.items) found ≡ k.bodies row) }
@@ -118,7 +118,7 @@ impl<'a, S: Alter> Change<'a, S> {
 
     // The body of a row, if the change holds one.
     fn find_held(&mut self, row: u32) -> Result<Option<Vec<u8>>, SFault>
-        ensures follows { Follows S.Store self.old self.new }
+        ensures follows { ChangeFollows S.Store self.old self.new }
         ensures count { self.new.count ≡ self.old.count }
         ensures found { IfOk result (λ found. IsHonest S.Store self.new.store.now
             → (before k : StoreState) → HasMadeBooks S.Store self.old before k
@@ -147,7 +147,7 @@ impl<'a, S: Alter> Change<'a, S> {
     /// It takes as long as these steps and those that go, however long the chain is. `S1`, `S2`.
     pub fn replace_chain_from(&mut self, front: usize, steps: &[Step]) -> Result<(), SFault>
         ensures goes_on { IsUncommitted S.Store self.old self.new }
-        ensures count { count_of self.new ≡ count_of self.old }
+        ensures count { change_count self.new ≡ change_count self.old }
         ensures listed { listed_by self.new ≡ listed_by self.old }
         ensures set { OnOk result ((before k : StoreState) → front ≤ length k.steps
             → HasMadeBooks S.Store self.old before k → HasMadeBooks S.Store self.new before

@@ -7,9 +7,9 @@ ghost use Rattle.esc_apply.specs.declared.registry.Keys.TheVariants.{Vacant};
 ghost use Rattle.esc_sql.specs.Entries.{new_entry, new_image};
 ghost use Rattle.esc_store.specs.Faults.{IsS1OrS2};
 ghost use Rattle.esc_store.specs.Filling.{after_filling, AreImagesNow, FillsRows, PutsRows};
-ghost use Rattle.esc_store.specs.Pages.{entry_row, stored_row};
-ghost use Rattle.esc_store.specs.Representation.{HasMadeTables, Follows, IsHonest, store_in};
-ghost use Rattle.esc_store.specs.TypedRows.{record_at};
+ghost use Rattle.esc_store.specs.Pages.{entry_row, record_row};
+ghost use Rattle.esc_store.specs.Representation.{HasMadeTables, ChangeFollows, IsHonest, store_in};
+ghost use Rattle.esc_store.specs.TypedRows.{record_at_key};
 
 use crate::change::Change;
 use crate::codec::object::{kind_number, record_bytes};
@@ -25,7 +25,7 @@ use std::collections::BTreeMap;
 // The row of a key and its object. `S1` where the object has no record; `S2`.
 fn new_row<'k>(alloc: Global, key: &'k Key, object: &Object) -> Result<NewObject<'k>, SFault>
     ensures row { IfOk result (λ row. entry_row (key.now, object.now)
-        ≡ stored_row (new_entry row)) }
+        ≡ record_row (new_entry row)) }
     ensures cause { IfErr result IsS1OrS2 }
 {
     let record = record_bytes(alloc, object)?;
@@ -47,7 +47,7 @@ impl<'a, S: Alter> Change<'a, S> {
         objects: &BTreeMap<Key, Object>,
     ) -> Result<(), SFault>
         ensures count { self.new.count ≡ self.old.count }
-        ensures follows { Follows S.Store self.old self.new }
+        ensures follows { ChangeFollows S.Store self.old self.new }
         ensures filled { OnOk result (IsHonest S.Store (store_in self.new) → (s : State)
             → CanBePut targets s step (map with_object objects.now.entries)
             → HasMadeTables S.Store self.old s
@@ -75,7 +75,7 @@ impl<'a, S: Alter> Change<'a, S> {
     ) -> Result<(), SFault>
         requires { length rows.now ≡ ROWS_AT_ONCE }
         ensures count { self.new.count ≡ self.old.count }
-        ensures follows { Follows S.Store self.old self.new }
+        ensures follows { ChangeFollows S.Store self.old self.new }
         ensures filled { OnOk result (FillsRows S.Store step targets (map new_entry rows.now)
             self.old self.new) }
         ensures cause { IfErr result IsS1OrS2 }
@@ -100,7 +100,7 @@ impl<'a, S: Alter> Change<'a, S> {
         rows: &[NewObject<'k>],
     ) -> Result<Vec<NewImage<'k>>, SFault>
         ensures count { self.new.count ≡ self.old.count }
-        ensures follows { Follows S.Store self.old self.new }
+        ensures follows { ChangeFollows S.Store self.old self.new }
         ensures length { IfOk result (λ images. length images.items ≡ length rows.now) }
         ensures images { IfOk result
             (λ images. AreImagesNow S.Store targets (map new_entry rows.now)
@@ -123,11 +123,12 @@ impl<'a, S: Alter> Change<'a, S> {
     // The record of a row's key, if it has one. Where keys are free none is looked up.
     fn find_before(&mut self, targets: Keys, row: &NewObject<'_>) -> Result<Option<Vec<u8>>, SFault>
         ensures count { self.new.count ≡ self.old.count }
-        ensures follows { Follows S.Store self.old self.new }
+        ensures follows { ChangeFollows S.Store self.old self.new }
         ensures found { IfOk result (λ found. IsHonest S.Store (store_in self.new) → (s : State)
-            → (targets ≡ Vacant → record_at s.content row.now.kind row.now.key.now ≡ None)
+            → (targets ≡ Vacant → record_at_key s.content row.now.kind row.now.key.now ≡ None)
             → HasMadeTables S.Store self.old s
-            → (option_map (λ b. b.items) found ≡ record_at s.content row.now.kind row.now.key.now)
+            → (option_map (λ b. b.items) found
+            ≡ record_at_key s.content row.now.kind row.now.key.now)
             × HasMadeTables S.Store self.new s) }
         ensures cause { IfErr result IsS1OrS2 }
     {
@@ -140,7 +141,7 @@ impl<'a, S: Alter> Change<'a, S> {
     // Puts the objects of these rows one by one: it is noted what their keys had.
     fn put_each(&mut self, rows: &[NewObject<'_>]) -> Result<(), SFault>
         ensures count { self.new.count ≡ self.old.count }
-        ensures follows { Follows S.Store self.old self.new }
+        ensures follows { ChangeFollows S.Store self.old self.new }
         ensures put { OnOk result (PutsRows S.Store (map new_entry rows.now) self.old self.new) }
         ensures cause { IfErr result IsS1OrS2 }
     {
@@ -154,7 +155,7 @@ impl<'a, S: Alter> Change<'a, S> {
     // Puts the objects of these rows one by one, each after its before-image.
     fn fill_each(&mut self, step: u32, targets: Keys, rows: &[NewObject<'_>]) -> Result<(), SFault>
         ensures count { self.new.count ≡ self.old.count }
-        ensures follows { Follows S.Store self.old self.new }
+        ensures follows { ChangeFollows S.Store self.old self.new }
         ensures filled { OnOk result (FillsRows S.Store step targets (map new_entry rows.now)
             self.old self.new) }
         ensures cause { IfErr result IsS1OrS2 }

@@ -5,7 +5,7 @@ ghost use Rattle.sqlite_trees.specs.Tree.{Trees};
 ghost use Rattle.sqlite.specs.Held.{state};
 ghost use Rattle.sqlite.specs.State.{HasCleanDisk, KeepsCommit, Survives};
 ghost use Rattle.esc_sql.specs.Schema.{no_schema};
-ghost use Rattle.esc_sql.specs.Entries.{listed_row as stored_row};
+ghost use Rattle.esc_sql.specs.Entries.{listed_row};
 ghost use Rattle.esc_store.specs.Faults.{IsS1OrS2};
 ghost use Rattle.esc_store.specs.StoreState.{fresh};
 ghost use Rattle.esc_store.specs.Opening.{IsAsItWas};
@@ -34,7 +34,7 @@ fn build_here<S: Alter>(conn: &mut Connection<S>, rows: &[Listed]) -> Result<(),
     ensures survives { Survives (state S.Store conn.old) (state S.Store conn.new) (λ _. ⊥) }
     ensures kept { HasCleanDisk (state S.Store conn.new)
         → KeepsCommit (state S.Store conn.old) (state S.Store conn.new) }
-    ensures built { OnOk result ((m : _) → map stored_row rows.now ≡ listed_from 0 m
+    ensures built { OnOk result ((m : _) → map listed_row rows.now ≡ listed_from 0 m
         → (state S.Store conn.old).now.schema ≡ no_schema → HasCleanDisk (state S.Store conn.new)
         → IsStoreDatabase (state S.Store conn.new).now (fresh m)) }
 {
@@ -44,16 +44,16 @@ fn build_here<S: Alter>(conn: &mut Connection<S>, rows: &[Listed]) -> Result<(),
 
 // The same as `build_here`, and commits it.
 fn found_whole<S: Alter>(conn: &mut Connection<S>, rows: &[Listed]) -> Result<(), Error>
-    ensures survives { (m : _) → map stored_row rows.now ≡ listed_from 0 m
+    ensures survives { (m : _) → map listed_row rows.now ≡ listed_from 0 m
         → (state S.Store conn.old).now.schema ≡ no_schema
         → Survives (state S.Store conn.old) (state S.Store conn.new)
         (λ trees. IsStore trees (fresh m)) }
     ensures kept { HasCleanDisk (state S.Store conn.new)
         → OnErr result (KeepsCommit (state S.Store conn.old) (state S.Store conn.new)) }
-    ensures rests { OnOk result ((m : _) → map stored_row rows.now ≡ listed_from 0 m
+    ensures rests { OnOk result ((m : _) → map listed_row rows.now ≡ listed_from 0 m
         → (state S.Store conn.old).now.schema ≡ no_schema
         → IsAtRestIfClean (state S.Store conn.new) (fresh m)) }
-    ensures left { OnOk result ((m : _) → map stored_row rows.now ≡ listed_from 0 m
+    ensures left { OnOk result ((m : _) → map listed_row rows.now ≡ listed_from 0 m
         → (state S.Store conn.old).now.schema ≡ no_schema → HasCleanDisk (state S.Store conn.new)
         → (trees : Trees) → (state S.Store conn.new).may_leave trees → IsStore trees (fresh m)) }
 {
@@ -65,14 +65,14 @@ fn found_whole<S: Alter>(conn: &mut Connection<S>, rows: &[Listed]) -> Result<()
 // transaction, which goes on.
 pub(crate) fn found_here<S: Alter>(conn: &mut Connection<S>, rows: &[Listed]) -> Result<(), SFault>
     requires unused { (state S.Store conn.old).now.schema ≡ no_schema }
-    ensures survives { (m : _) → map stored_row rows.now ≡ listed_from 0 m
+    ensures survives { (m : _) → map listed_row rows.now ≡ listed_from 0 m
         → Survives (state S.Store conn.old) (state S.Store conn.new)
         (λ trees. IsStore trees (fresh m)) }
     ensures kept { HasCleanDisk (state S.Store conn.new)
         → OnErr result (KeepsCommit (state S.Store conn.old) (state S.Store conn.new)) }
-    ensures rests { OnOk result ((m : _) → map stored_row rows.now ≡ listed_from 0 m
+    ensures rests { OnOk result ((m : _) → map listed_row rows.now ≡ listed_from 0 m
         → IsAtRestIfClean (state S.Store conn.new) (fresh m)) }
-    ensures left { OnOk result ((m : _) → map stored_row rows.now ≡ listed_from 0 m
+    ensures left { OnOk result ((m : _) → map listed_row rows.now ≡ listed_from 0 m
         → HasCleanDisk (state S.Store conn.new) → (trees : Trees)
         → (state S.Store conn.new).may_leave trees → IsStore trees (fresh m)) }
     ensures unchanged { OnErr result (IsAsItWas (state S.Store conn.old) (state S.Store conn.new)) }

@@ -21,7 +21,7 @@
 //! |---|---|
 //! | `store`, `founding`, `opening` | a store, how it is made, and how one is found |
 //! | `migrating` | a store of version 1, which becomes one of this version |
-//! | `reads`, `counts`, `remembered` | what a store returns of what it keeps, and what it remembers of it |
+//! | `reads`, `counts`, `remembered` | what a store returns of what it keeps, and what it remembers |
 //! | `held` | which rows a store holds |
 //! | `reader` | receipts, bodies, moment, chain, keys and objects of a store's trees, without SQL |
 //! | `change`, `books` | a change: its receipt, body and chain |

@@ -16,10 +16,10 @@ ghost use Rattle.std.specs.Prelude.{
 };
 ghost use Rattle.esc_manifest.specs.declared.row.MRow.{MRow};
 ghost use Rattle.esc_apply.specs.Registry.{State};
-ghost use Rattle.esc_sql.specs.Entries.{listed_row as stored_row};
+ghost use Rattle.esc_sql.specs.Entries.{listed_row};
 ghost use Rattle.esc_store.specs.Faults.{IsS1OrS2};
 ghost use Rattle.esc_store.specs.StoreState.{StoreState, with_listed};
-ghost use Rattle.esc_store.specs.TypedRows.{listed_row, listed_from};
+ghost use Rattle.esc_store.specs.TypedRows.{indexed_row, listed_from};
 ghost use Rattle.esc_store.specs.Representation.{
   HasMadeBooksIn,
   HasMadeTables,
@@ -71,7 +71,7 @@ impl<'a, S: Alter> Change<'a, S> {
         ensures listing { self.new.listing ≡ self.old.listing }
         ensures count { self.new.count ≡ self.old.count }
         ensures listed { OnOk result ((before k : StoreState) (union : List MRow)
-            → map stored_row rows.now ≡ listed_from 0 union → take from union ≡ k.listed
+            → map listed_row rows.now ≡ listed_from 0 union → take from union ≡ k.listed
             → HasMadeBooksIn S.Store self.old.store.now (Some k.listed) before k
             → HasMadeBooksIn S.Store self.new.store.now (Some union) before (with_listed k union)) }
         ensures holds { OnOk result ((s : State) → HasMadeTables S.Store self.old s
@@ -90,7 +90,7 @@ impl<'a, S: Alter> Change<'a, S> {
         ensures listing { self.new.listing ≡ self.old.listing }
         ensures count { self.new.count ≡ self.old.count }
         ensures listed { OnOk result ((before k : StoreState) (r : MRow)
-            → stored_row row.now ≡ listed_row (length k.listed) r
+            → listed_row row.now ≡ indexed_row (length k.listed) r
             → HasMadeBooksIn S.Store self.old.store.now (Some k.listed) before k
             → HasMadeBooksIn S.Store self.new.store.now (Some (k.listed ++ r ∷ [])) before
             (with_listed k (k.listed ++ r ∷ []))) }

@@ -21,7 +21,7 @@ ghost use Rattle.esc_store.specs.Representation.{
   LeavesOnly,
   IsHonest,
   connection_of,
-  writes_of,
+  store_writes,
 };
 ghost use Rattle.esc_store.specs.FirstVersion.{
   IsFirstStore,
@@ -156,7 +156,8 @@ fn migrate_whole<S: Alter>(alloc: Global, conn: &mut Connection<S>) -> Result<Ma
 }
 
 // The same as `migrate_whole`, on a connection without a transaction, if the database has the seven
-// tables (else `S3`): where it fails the connection is as it was. `S1` also in a transaction, which goes on.
+// tables (else `S3`): where it fails the connection is as it was. `S1` also in a transaction, which
+// goes on.
 fn migrate_here<S: Alter>(alloc: Global, conn: &mut Connection<S>) -> Result<Manifest, SFault>
     ensures survives { (k : StoreState) → IsFirstStore (state S.Store conn.old).committed.trees k
         → Survives (state S.Store conn.old) (state S.Store conn.new) (λ trees. IsStore trees k) }

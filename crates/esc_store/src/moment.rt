@@ -1,7 +1,7 @@
 //! The moment up to which the chain goes: what a store returns of it, and how a change sets it.
 
 ghost use Rattle.std.specs.Prelude.{◌≡◌, Some, None, IfOk, IfErr};
-ghost use Rattle.esc_sql.specs.Content.{moment_of};
+ghost use Rattle.esc_sql.specs.Content.{moment_set};
 ghost use Rattle.esc_store.specs.Faults.{IsS1OrS2};
 ghost use Rattle.esc_store.specs.StoreState.{StoreState, with_moment};
 ghost use Rattle.esc_store.specs.Representation.{
@@ -24,7 +24,7 @@ impl<S: Alter> Store<S> {
     #[tactic(auto, using(crate::proofs::Sure::read_here))]
     fn moment_here(&mut self) -> Result<Option<i64>, SFault>
         ensures read { IsStoreRead S.Store self.old self.new
-            (λ c found. found ≡ moment_of c.moment) result }
+            (λ c found. found ≡ moment_set c.moment) result }
         ensures cause { IfErr result IsS1OrS2 }
     {
         let found = find_moment(&mut self.conn);

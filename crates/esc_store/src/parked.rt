@@ -21,7 +21,7 @@ ghost use Rattle.esc_store.specs.Representation.{
   HasMadeBooks,
   HasMadeTables,
   IsChangePart,
-  Follows,
+  ChangeFollows,
   IsAsBefore,
   IsHonest,
   IsStoreRead,
@@ -125,7 +125,7 @@ impl<'a, S: Alter> Change<'a, S> {
     // The body that is parked under a digest, if one is.
     fn find_parked(&mut self, digest: &[u8; 32]) -> Result<Option<Vec<u8>>, SFault>
         ensures count { self.new.count ≡ self.old.count }
-        ensures follows { Follows S.Store self.old self.new }
+        ensures follows { ChangeFollows S.Store self.old self.new }
         ensures found { IfOk result (λ found. IsHonest S.Store self.new.store.now
             → (before k : StoreState) → HasMadeBooks S.Store self.old before k
             → option_map (λ b. b.items) found ≡ k.parked digest.now) }

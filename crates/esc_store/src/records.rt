@@ -20,11 +20,11 @@ ghost use Rattle.esc_tables.specs.KeyName.{KeyName};
 ghost use Rattle.esc_tables.specs.ObjectValue.{ObjectValue};
 ghost use Rattle.esc_record.specs.Record.{record_of};
 ghost use Rattle.esc_apply.specs.Registry.{State, empty, written, noted, taken};
-ghost use Rattle.esc_sql.specs.Entries.{image_of};
+ghost use Rattle.esc_sql.specs.Entries.{stored_image};
 ghost use Rattle.esc_store.specs.Decoded.{AreNotes};
 ghost use Rattle.esc_store.specs.Faults.{IsS1OrS2};
-ghost use Rattle.esc_store.specs.Representation.{HasMadeTables, Follows};
-ghost use Rattle.esc_store.specs.TypedRows.{record_at};
+ghost use Rattle.esc_store.specs.Representation.{HasMadeTables, ChangeFollows};
+ghost use Rattle.esc_store.specs.TypedRows.{record_at_key};
 
 use crate::change::Change;
 use crate::fault::SFault;
@@ -37,10 +37,10 @@ impl<'a, S: Alter> Change<'a, S> {
     // The record at the key with this kind's number and these bytes as its text, if there is one.
     pub(crate) fn find_stored(&mut self, kind: u32, text: &[u8]) -> Result<Option<Vec<u8>>, SFault>
         ensures count { self.new.count ≡ self.old.count }
-        ensures follows { Follows S.Store self.old self.new }
+        ensures follows { ChangeFollows S.Store self.old self.new }
         ensures found { IfOk result (λ found. HasCleanDisk (state S.Store self.new.store.now.conn)
             → (s : State) → HasMadeTables S.Store self.old s
-            → (option_map (λ b. b.items) found ≡ record_at s.content kind text.now)
+            → (option_map (λ b. b.items) found ≡ record_at_key s.content kind text.now)
             × HasMadeTables S.Store self.new s) }
         ensures cause { IfErr result IsS1OrS2 }
     {
@@ -51,7 +51,7 @@ impl<'a, S: Alter> Change<'a, S> {
     // Writes a record at the key with this kind's number and these bytes as its text.
     pub(crate) fn put_stored(&mut self, kind: u32, text: &[u8], bytes: &[u8]) -> Result<(), SFault>
         ensures count { self.new.count ≡ self.old.count }
-        ensures follows { Follows S.Store self.old self.new }
+        ensures follows { ChangeFollows S.Store self.old self.new }
         ensures written { OnOk result ((s : State) (k : KeyName) (o : ObjectValue)
             → kind ≡ kind_rank k.kind → text.now ≡ k.text → record_of o ≡ Some bytes.now
             → HasMadeTables S.Store self.old s
@@ -65,7 +65,7 @@ impl<'a, S: Alter> Change<'a, S> {
     // Removes the record of such a key, if there is one.
     pub(crate) fn remove_stored(&mut self, kind: u32, text: &[u8]) -> Result<(), SFault>
         ensures count { self.new.count ≡ self.old.count }
-        ensures follows { Follows S.Store self.old self.new }
+        ensures follows { ChangeFollows S.Store self.old self.new }
         ensures written { OnOk result ((s : State) (k : KeyName)
             → kind ≡ kind_rank k.kind → text.now ≡ k.text
             → HasMadeTables S.Store self.old s
@@ -85,7 +85,7 @@ impl<'a, S: Alter> Change<'a, S> {
         before: Option<&[u8]>,
     ) -> Result<(), SFault>
         ensures count { self.new.count ≡ self.old.count }
-        ensures follows { Follows S.Store self.old self.new }
+        ensures follows { ChangeFollows S.Store self.old self.new }
         ensures noted { OnOk result ((s : State) (k : KeyName) (o : _)
             → kind ≡ kind_rank k.kind → text.now ≡ k.text
             → option_and_then record_of o ≡ option_map (λ b. b.now) before.entry
@@ -104,10 +104,10 @@ impl<'a, S: Alter> Change<'a, S> {
         step: u32,
     ) -> Result<Vec<StoredImage>, SFault>
         ensures count { self.new.count ≡ self.old.count }
-        ensures follows { Follows S.Store self.old self.new }
+        ensures follows { ChangeFollows S.Store self.old self.new }
         ensures found { IfOk result (λ found. HasCleanDisk (state S.Store self.new.store.now.conn)
             → (s : State) → HasMadeTables S.Store self.old s
-            → AreNotes step s (map image_of found.items) × HasMadeTables S.Store self.new s) }
+            → AreNotes step s (map stored_image found.items) × HasMadeTables S.Store self.new s) }
         ensures cause { IfErr result IsS1OrS2 }
     {
         let found = select_undo(alloc, &mut self.store.conn, step);
@@ -117,7 +117,7 @@ impl<'a, S: Alter> Change<'a, S> {
     // Removes what was noted for a step.
     pub(crate) fn forget_records(&mut self, step: u32) -> Result<(), SFault>
         ensures count { self.new.count ≡ self.old.count }
-        ensures follows { Follows S.Store self.old self.new }
+        ensures follows { ChangeFollows S.Store self.old self.new }
         ensures taken { OnOk result ((s : State) → HasMadeTables S.Store self.old s
             → HasMadeTables S.Store self.new (taken s step)) }
         ensures cause { IfErr result IsS1OrS2 }
@@ -129,7 +129,7 @@ impl<'a, S: Alter> Change<'a, S> {
     // Removes all records.
     pub(crate) fn clear_records(&mut self) -> Result<(), SFault>
         ensures count { self.new.count ≡ self.old.count }
-        ensures follows { Follows S.Store self.old self.new }
+        ensures follows { ChangeFollows S.Store self.old self.new }
         ensures cleared { OnOk result ((s : State) → HasMadeTables S.Store self.old s
             → HasMadeTables S.Store self.new (record { content = empty.content; undo = s.undo })) }
         ensures cause { IfErr result IsS1OrS2 }
@@ -141,7 +141,7 @@ impl<'a, S: Alter> Change<'a, S> {
     // Removes what was noted for all steps.
     pub(crate) fn clear_notes(&mut self) -> Result<(), SFault>
         ensures count { self.new.count ≡ self.old.count }
-        ensures follows { Follows S.Store self.old self.new }
+        ensures follows { ChangeFollows S.Store self.old self.new }
         ensures cleared { OnOk result ((s : State)
             → HasMadeTables S.Store self.old (record { content = empty.content; undo = s.undo })
             → HasMadeTables S.Store self.new empty) }

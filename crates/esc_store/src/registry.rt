@@ -13,7 +13,13 @@ use std::collections::BTreeMap;
 impl<'a, S: Alter> Registry for Change<'a, S> {
     ghost use Rattle.esc_apply.specs.Registry.{saturated};
     ghost use Rattle.esc_store.specs.Faults.{IsS1OrS2};
-    ghost use Rattle.esc_store.specs.Representation.{HasMadeTables, Follows, IsHonest, store_in, count_of};
+    ghost use Rattle.esc_store.specs.Representation.{
+      HasMadeTables,
+      ChangeFollows,
+      IsHonest,
+      store_in,
+      change_count,
+    };
     ghost use Rattle.esc_store.specs.StandingLaws.{follows_same, follows_then};
     ghost use Rattle.std.proofs.Common.{inr, arith};
 
@@ -21,7 +27,7 @@ impl<'a, S: Alter> Registry for Change<'a, S> {
 
     ghost holds = { λ r s. HasMadeTables S.Store r s };
 
-    ghost count = { λ r. saturated (count_of r) };
+    ghost count = { λ r. saturated (change_count r) };
 
     ghost fails = { λ fault. IsS1OrS2 fault };
 
@@ -29,7 +35,7 @@ impl<'a, S: Alter> Registry for Change<'a, S> {
 
     ghost is_honest = { λ r. IsHonest S.Store (store_in r) };
 
-    ghost follows = { λ a b. Follows S.Store a b };
+    ghost follows = { λ a b. ChangeFollows S.Store a b };
 
     fn get(&mut self, alloc: Global, key: &Key) -> Result<Option<Object>, SFault> {
         let found = self.find_stored(kind_number(key.kind), key.text.as_bytes())?;

@@ -18,7 +18,7 @@ ghost use Rattle.esc_sql.specs.Changes.{
   receipt_of,
   body_of,
 };
-ghost use Rattle.esc_sql.specs.Entries.{receipt_row, step_row, object_of};
+ghost use Rattle.esc_sql.specs.Entries.{receipt_row, step_row, stored_entry};
 ghost use Rattle.esc_store.specs.Faults.{IsS1OrS2};
 ghost use Rattle.esc_store.specs.Representation.{IsStep, IsStoreRead};
 
@@ -146,7 +146,7 @@ impl<S: Alter> Store<S> {
     // All records.
     pub(crate) fn objects_here(&mut self, alloc: Global) -> Result<Vec<StoredObject>, SFault>
         ensures read { IsStoreRead S.Store self.old self.new
-            (λ c found. ListsObjects c (map object_of found.items)) result }
+            (λ c found. ListsObjects c (map stored_entry found.items)) result }
         ensures cause { IfErr result IsS1OrS2 }
     {
         let found = all_objects(alloc, &mut self.conn);
@@ -161,7 +161,7 @@ impl<S: Alter> Store<S> {
         from: &[u8],
     ) -> Result<Vec<StoredObject>, SFault>
         ensures read { IsStoreRead S.Store self.old self.new
-            (λ c found. ListsFrom kind from.now c (map object_of found.items)) result }
+            (λ c found. ListsFrom kind from.now c (map stored_entry found.items)) result }
         ensures cause { IfErr result IsS1OrS2 }
     {
         let found = objects_from(alloc, &mut self.conn, kind, from);

@@ -48,7 +48,7 @@ ghost use Rattle.esc_store.specs.Representation.{
   StoreLeavesNoMore,
   connection_of,
   listed_rows_of,
-  writes_of,
+  store_writes,
   store_name,
 };
 ghost use Rattle.sqlite.specs.State.{HasCleanDisk};
@@ -177,7 +177,7 @@ impl<S: Alter> Store<S> {
     /// opened. A removal counts even if there was no object. It stays at 2^64 - 1 once there.
     /// Doesn't allocate.
     pub fn writes(&self) -> u64
-        ensures count { result ≡ writes_of self.now }
+        ensures count { result ≡ store_writes self.now }
     {
         self.writes
     }
@@ -187,7 +187,7 @@ impl<S: Alter> Store<S> {
         ensures* refused { sem 𝓛
             (RestsIfErr (the_row S.row S.Store) self.entry
             store_name result (λ last. (listed_rows_of last ≡ listed_rows_of self.old)
-            × (writes_of last ≡ writes_of self.old) × StoreLeavesNoMore S.Store self.old last
+            × (store_writes last ≡ store_writes self.old) × StoreLeavesNoMore S.Store self.old last
             × ((k : StoreState) → Represents S.Store self.old k → Represents S.Store last k))) }
         ensures same_reference { IfOk result (λ change. store_name change
             ≡ self.entry.ghost_name) }

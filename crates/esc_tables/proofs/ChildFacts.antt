@@ -10,9 +10,9 @@ use Rattle.std.proofs.lemmas.List.Elements.{filter-append}
 use Rattle.std.proofs.lemmas.List.Sums.{sum_by_push, fold_push}
 use Rattle.esc_tables.specs.KeyName.{KeyName, key_cmp, key_eq}
 use Rattle.esc_tables.specs.ObjectValue.{RowValue, ObjectValue}
-use Rattle.esc_tables.specs.Objects.{at_key, has_pair, with_children, with_child, alone, object_of, in_order, objects_of, orphans_of}
+use Rattle.esc_tables.specs.Objects.{at_key, has_pair, with_children, with_child, alone, object_of, last_by_key, objects_of, orphans_of}
 use Rattle.esc_tables.specs.KeyLaws.{keys_alike, one_key}
-use Rattle.esc_tables.proofs.ObjectFacts.{putting, put_is, found_is, sorted_from, same_objects, in_order_found, objects_found, objects_sorted}
+use Rattle.esc_tables.proofs.ObjectFacts.{putting, put_is, found_is, sorted_from, same_objects, last_by_key_found, objects_found, objects_sorted}
 
 -- ---- one step of the map
 
@@ -89,9 +89,9 @@ at_key_alone k [] = refl
 at_key_alone k (p ∷ ps) = elim (cases_Bool (key_eq k p.0)) [ inl e ↦ rw e (ap (λ (os : List ObjectValue). with_children [] p.1 ∷ os) (at_key_alone k ps)) | inr e ↦ rw e (at_key_alone k ps) ]
 
 -- parent rows alone, before any child row
-pub parents_found : (parents : List (KeyName × RowValue)) (m : BTreeMap KeyName ObjectValue) → m.entries ≡ in_order (map alone parents) → (k : KeyName) → get key_cmp m k ≡ object_of parents [] k
+pub parents_found : (parents : List (KeyName × RowValue)) (m : BTreeMap KeyName ObjectValue) → m.entries ≡ last_by_key (map alone parents) → (k : KeyName) → get key_cmp m k ≡ object_of parents [] k
 parents_found parents m is k =
-    sym (found_is k m.entries) ∙ ap (find key_cmp k) is ∙ in_order_found k (map alone parents) ∙ ap (last_or None) (at_key_alone k parents) ∙ last_mapped (with_children []) (at_key k parents) None
+    sym (found_is k m.entries) ∙ ap (find key_cmp k) is ∙ last_by_key_found k (map alone parents) ∙ ap (last_or None) (at_key_alone k parents) ∙ last_mapped (with_children []) (at_key k parents) None
 
 -- a map that has for each key its object has these entries
 pub entries_are : (parents children : List (KeyName × RowValue)) (m : BTreeMap KeyName ObjectValue) → IsOrdered key_cmp m → ((k : KeyName) → get key_cmp m k ≡ object_of parents children k) → m.entries ≡ objects_of parents children
@@ -99,7 +99,7 @@ entries_are parents children m ordered has =
     same_objects m.entries (objects_of parents children) (sorted_from m.entries ordered) (objects_sorted parents children) (λ k. found_is k m.entries ∙ has k ∙ sym (objects_found parents children k))
 
 -- a parent row put at its key
-pub parent_more : (ps : List (KeyName × RowValue)) (p : KeyName × RowValue) (old new : List (KeyName × ObjectValue)) → old ≡ in_order (map alone ps) → new ≡ insert_entry key_cmp old p.0 (with_children [] p.1) → new ≡ in_order (map alone (ps ++ (p ∷ [])))
+pub parent_more : (ps : List (KeyName × RowValue)) (p : KeyName × RowValue) (old new : List (KeyName × ObjectValue)) → old ≡ last_by_key (map alone ps) → new ≡ insert_entry key_cmp old p.0 (with_children [] p.1) → new ≡ last_by_key (map alone (ps ++ (p ∷ [])))
 parent_more ps p old new before put_there =
     put_there ∙ sym (put_is old p.0 (with_children [] p.1)) ∙ ap (λ (es : List (KeyName × ObjectValue)). put key_cmp p.0 (with_children [] p.1) es) before
-    ∙ sym (fold_push putting [] (map alone ps) (alone p)) ∙ ap in_order (sym (map_push alone ps p))
+    ∙ sym (fold_push putting [] (map alone ps) (alone p)) ∙ ap last_by_key (sym (map_push alone ps p))

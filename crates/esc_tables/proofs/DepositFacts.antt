@@ -10,7 +10,7 @@ use Rattle.esc_envelope.specs.Envelope.{envelope_of}
 use Rattle.esc_tables.specs.DepositValue.{DepositValue}
 use Rattle.esc_tables.specs.TableRow.{are_filed, rows_in, key_of}
 use Rattle.esc_tables.specs.Objects.{objects_of, orphans_of}
-use Rattle.esc_tables.specs.Reading.{tables_of, check_rows, deposit_of, deposit_in, parent_rows, child_rows, sections_deposit, reading}
+use Rattle.esc_tables.specs.Reading.{tables_of, check_rows, deposit_of_files, deposit_in, parent_rows, child_rows, sections_deposit, reading}
 
 -- ---- the tests in order
 
@@ -22,13 +22,13 @@ pub told_rows : (files : List Named) (e : EnvelopeValue) (n : ℕ) → are_filed
 unfolding deposit_in
 told_rows files e n filed wrong = rw (filed, wrong) refl
 
-pub told_deposit : (files : List Named) (e : EnvelopeValue) → are_filed files (tables_of e) ≡ true → check_rows (rows_in files (tables_of e)) ≡ Ok tt → deposit_in files e ≡ Ok (deposit_of files e)
+pub told_deposit : (files : List Named) (e : EnvelopeValue) → are_filed files (tables_of e) ≡ true → check_rows (rows_in files (tables_of e)) ≡ Ok tt → deposit_in files e ≡ Ok (deposit_of_files files e)
 unfolding deposit_in
 told_deposit files e filed right = rw (filed, right) refl
 
 -- what returns the deposit of rows that pass returns that of files, where they are filed
 pub read_filed : {E : Type 0} (files : List Named) (e : EnvelopeValue) (r : Result DepositValue E) → are_filed files (tables_of e) ≡ true
-    → OnOk r (check_rows (rows_in files (tables_of e)) ≡ Ok tt) → IfOk r (λ d. d ≡ deposit_of files e) → IfOk r (λ d. deposit_in files e ≡ Ok d)
+    → OnOk r (check_rows (rows_in files (tables_of e)) ≡ Ok tt) → IfOk r (λ d. d ≡ deposit_of_files files e) → IfOk r (λ d. deposit_in files e ≡ Ok d)
 read_filed files e (Ok d) filed passed made = told_deposit files e filed passed ∙ ap (λ (x : DepositValue). Ok x) (sym made)
 read_filed files e (Err fault) filed passed made = tt
 
@@ -47,8 +47,8 @@ same_reading body first files e framed told = rw (framed, told) refl
 -- ---- a deposit is its parts
 
 pub made_of : (files : List Named) (e : EnvelopeValue) (d : DepositValue) → d.header ≡ e.header → d.counts ≡ e.counts → d.deletes ≡ map key_of (rows_in files e.deletes)
-    → d.contents ≡ objects_of (parent_rows files e) (child_rows files e) → d.orphans ≡ orphans_of (parent_rows files e) (child_rows files e) → d ≡ deposit_of files e
-unfolding deposit_of
+    → d.contents ≡ objects_of (parent_rows files e) (child_rows files e) → d.orphans ≡ orphans_of (parent_rows files e) (child_rows files e) → d ≡ deposit_of_files files e
+unfolding deposit_of_files
 made_of files e d header counts deletes contents orphans = λ i. record { header = header i; counts = counts i; deletes = deletes i; contents = contents i; orphans = orphans i }
 
 abbrev no_section : Section

@@ -8,7 +8,7 @@ use Rattle.esc_bundle.specs.Frame.{frame}
 use Rattle.esc_envelope.specs.EnvelopeValue.{EnvelopeValue}
 use Rattle.esc_envelope.specs.Envelope.{envelope_of}
 use Rattle.esc_tables.specs.DepositValue.{DepositValue}
-use Rattle.esc_tables.specs.Reading.{deposit_of, deposit_in, sections_deposit, reading, sections_envelope, bundled_envelope}
+use Rattle.esc_tables.specs.Reading.{deposit_of_files, deposit_in, sections_deposit, reading, sections_envelope, bundled_envelope}
 use Rattle.esc_tables.proofs.ExactFacts.{steps_of, parts_of, same_ok}
 
 pub unframed : (body : List ℕ) (n : ℕ) → frame body ≡ Err n → bundled_envelope body ≡ Err n
@@ -24,8 +24,8 @@ same_envelope body first files framed = rw framed refl
 abbrev Heads : EnvelopeValue → DepositValue → Type 0
 Heads e d = (e.header ≡ d.header) × (e.counts ≡ d.counts)
 
-made_heads : (files : List Named) (e : EnvelopeValue) (d : DepositValue) → d ≡ deposit_of files e → Heads e d
-unfolding deposit_of
+made_heads : (files : List Named) (e : EnvelopeValue) (d : DepositValue) → d ≡ deposit_of_files files e → Heads e d
+unfolding deposit_of_files
 made_heads files e d made = (sym (ap (λ (x : DepositValue). x.header) made), sym (ap (λ (x : DepositValue). x.counts) made))
 
 first_heads : (body : List ℕ) (ss : List Named) (d : DepositValue) → frame body ≡ Ok ss → sections_deposit ss ≡ Ok d → (e : EnvelopeValue) × (bundled_envelope body ≡ Ok e) × Heads e d

@@ -13,7 +13,7 @@ use Rattle.esc_envelope.specs.Envelope.{envelope_of}
 use Rattle.esc_tables.specs.DepositValue.{DepositValue}
 use Rattle.esc_tables.specs.TableRow.{TableRow, are_filed, is_whole, has_key}
 use Rattle.esc_tables.specs.Objects.{objects_of}
-use Rattle.esc_tables.specs.Reading.{tables_of, check_rows, deposit_of, deposit_in, sections_deposit, reading, most_rows, parent_rows, child_rows}
+use Rattle.esc_tables.specs.Reading.{tables_of, check_rows, deposit_of_files, deposit_in, sections_deposit, reading, most_rows, parent_rows, child_rows}
 use Rattle.esc_tables.specs.DepositOf.{all_rows, Makes, IsDepositOf, IsDepositFault, IsLeastDepositFault, IsRefusedAt, IsRefused}
 use Rattle.esc_tables.proofs.ObjectFacts.{same_objects, objects_found, objects_sorted}
 use Rattle.esc_tables.proofs.DepositFacts.{made_of, told_8, told_rows, told_deposit, same_reading, no_frame, no_envelope}
@@ -21,8 +21,8 @@ use Rattle.esc_tables.proofs.SurveyFacts.{told_9}
 
 -- ---- one deposit is made
 
-made_is : (files : List Named) (e : EnvelopeValue) → Makes files e (deposit_of files e)
-unfolding deposit_of
+made_is : (files : List Named) (e : EnvelopeValue) → Makes files e (deposit_of_files files e)
+unfolding deposit_of_files
 made_is files e = record {
   header = refl;
   counts = refl;
@@ -32,7 +32,7 @@ made_is files e = record {
   orphans = refl;
 }
 
-made_only : (files : List Named) (e : EnvelopeValue) (d : DepositValue) → Makes files e d → d ≡ deposit_of files e
+made_only : (files : List Named) (e : EnvelopeValue) (d : DepositValue) → Makes files e d → d ≡ deposit_of_files files e
 made_only files e d made =
     let contents : d.contents ≡ objects_of (parent_rows files e) (child_rows files e) = same_objects d.contents (objects_of (parent_rows files e) (child_rows files e)) made.sorted (objects_sorted (parent_rows files e) (child_rows files e)) (λ k. made.objects k ∙ sym (objects_found (parent_rows files e) (child_rows files e) k)) in
     made_of files e d made.header made.counts made.deletes contents made.orphans
@@ -73,14 +73,14 @@ same_ok x y h = cc
 -- ---- a deposit is read
 
 abbrev pub Parts : List Named → EnvelopeValue → DepositValue → Type 0
-Parts files e d = (are_filed files (tables_of e) ≡ true) × (check_rows (all_rows files e) ≡ Ok tt) × (d ≡ deposit_of files e)
+Parts files e d = (are_filed files (tables_of e) ≡ true) × (check_rows (all_rows files e) ≡ Ok tt) × (d ≡ deposit_of_files files e)
 
 pub parts_of : (files : List Named) (e : EnvelopeValue) (d : DepositValue) → deposit_in files e ≡ Ok d → Parts files e d
 unfolding deposit_in
 parts_of files e d h =
-    let first = steps_of (check (are_filed files (tables_of e)) 8) (λ _. check_rows (all_rows files e) >>= λ _. Ok (deposit_of files e)) d h in
-    let second = steps_of (check_rows (all_rows files e)) (λ _. Ok (deposit_of files e)) d first.2 in
-    (passes (are_filed files (tables_of e)) 8 first.1, second.1, sym (same_ok (deposit_of files e) d second.2))
+    let first = steps_of (check (are_filed files (tables_of e)) 8) (λ _. check_rows (all_rows files e) >>= λ _. Ok (deposit_of_files files e)) d h in
+    let second = steps_of (check_rows (all_rows files e)) (λ _. Ok (deposit_of_files files e)) d first.2 in
+    (passes (are_filed files (tables_of e)) 8 first.1, second.1, sym (same_ok (deposit_of_files files e) d second.2))
 
 is_deposit_in : (body : List ℕ) (first : Named) (files : List Named) (e : EnvelopeValue) (d : DepositValue) → IsBundle body (first ∷ files) → envelope_of first.bytes ≡ Ok e → Parts files e d → IsDepositOf body d
 is_deposit_in body first files e d bundle told parts =
@@ -127,7 +127,7 @@ abbrev NoneStands : List Named → EnvelopeValue → Type 0
 NoneStands files e = (m : ℕ) → IsDepositFault files e m → ⊥
 
 abbrev Told : List Named → EnvelopeValue → Type 0
-Told files e = ((deposit_in files e ≡ Ok (deposit_of files e)) × NoneStands files e) ⊎ ((n : ℕ) × (deposit_in files e ≡ Err n) × IsLeastDepositFault files e n)
+Told files e = ((deposit_in files e ≡ Ok (deposit_of_files files e)) × NoneStands files e) ⊎ ((n : ℕ) × (deposit_in files e ≡ Err n) × IsLeastDepositFault files e n)
 
 -- a test that passes and fails
 never : {P : Type 0} (b : Bool) → b ≡ true → b ≡ false → P
@@ -209,7 +209,7 @@ same_number : {A : Type 0} (r : Result A ℕ) (m n : ℕ) → r ≡ Err m → r 
 same_number r m n first then = cc
 
 least_from : (files : List Named) (e : EnvelopeValue) (n : ℕ) → Told files e → deposit_in files e ≡ Err n → IsLeastDepositFault files e n
-least_from files e n (inl right) h = not_both (deposit_in files e) (deposit_of files e) n right.0 h
+least_from files e n (inl right) h = not_both (deposit_in files e) (deposit_of_files files e) n right.0 h
 least_from files e n (inr wrong) h = subst (IsLeastDepositFault files e) (same_number (deposit_in files e) wrong.0 n wrong.1 h) wrong.2
 
 refused_from : (files : List Named) (e : EnvelopeValue) (n : ℕ) → Told files e → IsLeastDepositFault files e n → deposit_in files e ≡ Err n

@@ -12,7 +12,7 @@ use Rattle.std.specs.declared.cmp.Ordering.TheVariants.{Less, Equal, Greater}
 use Rattle.std.proofs.lemmas.Bool.{cases_Bool}
 use Rattle.esc_tables.specs.KeyName.{KeyName, key_cmp, key_eq}
 use Rattle.esc_tables.specs.ObjectValue.{RowValue, ObjectValue}
-use Rattle.esc_tables.specs.Objects.{at_key, with_children, object_of, in_order, objects_of}
+use Rattle.esc_tables.specs.Objects.{at_key, with_children, object_of, last_by_key, objects_of}
 use Rattle.esc_tables.specs.KeyLaws.{keys_total, keys_exact, one_key}
 
 -- ---- the words of the map, and those of the definition
@@ -64,11 +64,11 @@ sorted_onward : {X : Type 0} (ps es : List (KeyName × X)) → T (is_sorted key_
 sorted_onward [] es h = h
 sorted_onward (p ∷ ps) es h = sorted_onward ps (put key_cmp p.0 p.1 es) (is_sorted-put key_cmp keys_total p.0 p.1 es h)
 
-pub in_order_found : {X : Type 0} (k : KeyName) (ps : List (KeyName × X)) → find key_cmp k (in_order ps) ≡ last_or None (at_key k ps)
-in_order_found k ps = found_from k ps []
+pub last_by_key_found : {X : Type 0} (k : KeyName) (ps : List (KeyName × X)) → find key_cmp k (last_by_key ps) ≡ last_or None (at_key k ps)
+last_by_key_found k ps = found_from k ps []
 
-pub in_order_sorted : {X : Type 0} (ps : List (KeyName × X)) → T (is_sorted key_cmp (in_order ps))
-in_order_sorted ps = sorted_onward ps [] tt
+pub last_by_key_sorted : {X : Type 0} (ps : List (KeyName × X)) → T (is_sorted key_cmp (last_by_key ps))
+last_by_key_sorted ps = sorted_onward ps [] tt
 
 -- ---- each key with its object
 
@@ -93,8 +93,8 @@ same_sorted children (e ∷ es) = rw (same_below e.0 children es, same_sorted ch
 -- the entries have for each key its object
 pub objects_found : (parents children : List (KeyName × RowValue)) (k : KeyName) → find key_cmp k (objects_of parents children) ≡ object_of parents children k
 unfolding objects_of
-objects_found parents children k = found_object k children (in_order parents) ∙ ap (option_map (with_children (at_key k children))) (in_order_found k parents)
+objects_found parents children k = found_object k children (last_by_key parents) ∙ ap (option_map (with_children (at_key k children))) (last_by_key_found k parents)
 
 pub objects_sorted : (parents children : List (KeyName × RowValue)) → T (is_sorted key_cmp (objects_of parents children))
 unfolding objects_of
-objects_sorted parents children = subst T (sym (same_sorted children (in_order parents))) (in_order_sorted parents)
+objects_sorted parents children = subst T (sym (same_sorted children (last_by_key parents))) (last_by_key_sorted parents)

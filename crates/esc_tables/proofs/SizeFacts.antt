@@ -15,8 +15,8 @@ use Rattle.esc_tables.specs.KeyName.{KeyName, key_cmp}
 use Rattle.esc_tables.specs.ObjectValue.{RowValue, ObjectValue}
 use Rattle.esc_tables.specs.DepositValue.{DepositValue}
 use Rattle.esc_tables.specs.TableRow.{TableRow, table_rows, rows_in, key_of, keyed}
-use Rattle.esc_tables.specs.Objects.{at_key, with_children, in_order, objects_of}
-use Rattle.esc_tables.specs.Reading.{placed, is_before, by_name, deposit_of, deposit_in, sections_deposit, reading, most_rows, parent_rows, child_rows}
+use Rattle.esc_tables.specs.Objects.{at_key, with_children, last_by_key, objects_of}
+use Rattle.esc_tables.specs.Reading.{placed, is_before, by_name, deposit_of_files, deposit_in, sections_deposit, reading, most_rows, parent_rows, child_rows}
 use Rattle.esc_tables.specs.DepositOf.{all_rows}
 use Rattle.esc_tables.proofs.ObjectFacts.{putting}
 use Rattle.esc_tables.proofs.ExactFacts.{Parts, parts_of, steps_of, right_rows}
@@ -38,7 +38,7 @@ all_put (p ∷ ps) es = omega (arith, all_put ps (put key_cmp p.0 p.1 es), one_p
 
 few_objects : (parents children : List (KeyName × RowValue)) → length (objects_of parents children) ≤ length parents
 unfolding objects_of
-few_objects parents children = omega (arith, length-map {B = KeyName × ObjectValue} (in_order parents) (λ (e : KeyName × RowValue). (e.0, with_children (at_key e.0 children) e.1)), all_put parents [])
+few_objects parents children = omega (arith, length-map {B = KeyName × ObjectValue} (last_by_key parents) (λ (e : KeyName × RowValue). (e.0, with_children (at_key e.0 children) e.1)), all_put parents [])
 
 -- ---- no more parent rows than rows
 
@@ -78,8 +78,8 @@ few_contents files e =
     let all : length (all_rows files e) ≡ length (rows_in files e.contents) + length (rows_in files e.deletes) = ap (λ (rows : List TableRow). length rows) (flat_map-append (table_rows files) e.contents e.deletes) ∙ length-append (rows_in files e.contents) (rows_in files e.deletes) in
     omega (arith, all)
 
-few_in : (files : List Named) (e : EnvelopeValue) → length (deposit_of files e).deletes + length (deposit_of files e).contents ≤ length (all_rows files e)
-unfolding deposit_of
+few_in : (files : List Named) (e : EnvelopeValue) → length (deposit_of_files files e).deletes + length (deposit_of_files files e).contents ≤ length (all_rows files e)
+unfolding deposit_of_files
 few_in files e =
     let all : length (all_rows files e) ≡ length (rows_in files e.contents) + length (rows_in files e.deletes) = ap (λ (rows : List TableRow). length rows) (flat_map-append (table_rows files) e.contents e.deletes) ∙ length-append (rows_in files e.contents) (rows_in files e.deletes) in
     let deletes : length (map key_of (rows_in files e.deletes)) ≡ length (rows_in files e.deletes) = length-map (rows_in files e.deletes) key_of in

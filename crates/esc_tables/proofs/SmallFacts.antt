@@ -16,15 +16,15 @@ use Rattle.esc_csv.specs.Records.{records_of}
 use Rattle.esc_envelope.specs.EnvelopeValue.{EnvelopeValue, TableValue}
 use Rattle.esc_envelope.specs.Envelope.{envelope_of}
 use Rattle.esc_envelope.specs.Id.{is_id, is_id_byte}
-use Rattle.esc_envelope.specs.DeclaredTables.{IsTable, is_name, is_name_byte}
+use Rattle.esc_envelope.specs.DeclaredTables.{IsTable, is_table_name, is_table_name_byte}
 use Rattle.esc_tables.specs.DepositOf.{all_rows}
 use Rattle.esc_tables.specs.DepositValue.{DepositValue}
 use Rattle.esc_tables.specs.KeyName.{KeyName, key_cmp, key_eq}
 use Rattle.esc_tables.specs.ObjectValue.{RowValue, ObjectValue}
-use Rattle.esc_tables.specs.Objects.{at_key, with_children, in_order, objects_of}
-use Rattle.esc_tables.specs.Reading.{by_name, deposit_of, deposit_in, sections_deposit, reading, most_rows, parent_rows, child_rows}
+use Rattle.esc_tables.specs.Objects.{at_key, with_children, last_by_key, objects_of}
+use Rattle.esc_tables.specs.Reading.{by_name, deposit_of_files, deposit_in, sections_deposit, reading, most_rows, parent_rows, child_rows}
 use Rattle.esc_tables.specs.SmallObject.{IsSmallRow, IsSmallObject}
-use Rattle.esc_tables.specs.TableRow.{TableRow, in_table, bytes_named, table_rows, rows_in, row_of, keyed}
+use Rattle.esc_tables.specs.TableRow.{TableRow, in_table, bytes_named, table_rows, rows_in, row_as_cells, keyed}
 use Rattle.esc_tables.proofs.ExactFacts.{Parts, parts_of, steps_of, right_rows}
 use Rattle.esc_tables.proofs.ObjectFacts.{putting}
 use Rattle.esc_tables.proofs.OrderFacts.{by_name_all}
@@ -69,9 +69,9 @@ rows_of_tables fit files (t ∷ ts) small all =
 abbrev IsSmallCell : List ℕ × List ℕ → Type 0
 IsSmallCell c = (length c.0 ≤ 64) × (length c.1 ≤ limit)
 
-name_small : (name : List ℕ) → is_name name ≡ true → length name ≤ 64
+name_small : (name : List ℕ) → is_table_name name ≡ true → length name ≤ 64
 name_small name is =
-    let sized = and_parts (nat_lt 0 (length name) && nat_le (length name) 64) (list_all is_name_byte name) is in
+    let sized = and_parts (nat_lt 0 (length name) && nat_le (length name) 64) (list_all is_table_name_byte name) is in
     let few = (and_parts (nat_lt 0 (length name)) (nat_le (length name) 64) sized.0).1 in
     grind (arith, nat_tests)
 
@@ -93,7 +93,7 @@ few_cells [] texts = omega arith
 few_cells (f ∷ fs) [] = omega arith
 few_cells (f ∷ fs) (t ∷ ts) = omega (arith, few_cells fs ts)
 
-small_row : (r : TableRow) → IsOfTable r → IsSmallRow (row_of r)
+small_row : (r : TableRow) → IsOfTable r → IsSmallRow (row_as_cells r)
 small_row r is = record {
   table = name_small r.table.name is.table.named;
   few = omega (arith, few_cells r.table.fields r.fields, is.table.few);
@@ -118,9 +118,9 @@ put_small k v (e ∷ es) small all = by_place (key_cmp k e.0) (put_small k v es 
     by_place Equal later = (small, all.1)
     by_place Greater later = (all.0, later)
 
-in_order_small : (ps es : List (KeyName × RowValue)) → AllByRecursion HasSmallRow ps → AllByRecursion HasSmallRow es → AllByRecursion HasSmallRow (fold putting es ps)
-in_order_small [] es todo all = all
-in_order_small (p ∷ ps) es todo all = in_order_small ps (put key_cmp p.0 p.1 es) todo.1 (put_small p.0 p.1 es todo.0 all)
+last_by_key_small : (ps es : List (KeyName × RowValue)) → AllByRecursion HasSmallRow ps → AllByRecursion HasSmallRow es → AllByRecursion HasSmallRow (fold putting es ps)
+last_by_key_small [] es todo all = all
+last_by_key_small (p ∷ ps) es todo all = last_by_key_small ps (put key_cmp p.0 p.1 es) todo.1 (put_small p.0 p.1 es todo.0 all)
 
 children_small : (k : KeyName) (ps : List (KeyName × RowValue)) → AllByRecursion HasSmallRow ps → AllByRecursion IsSmallRow (at_key k ps)
 children_small k [] all = tt
@@ -142,8 +142,8 @@ objects_small children (e ∷ es) small few all =
 
 -- ---- the deposit
 
-small_in : FieldsFit → (files : List Named) (e : EnvelopeValue) → AreSmall files → All IsTable e.contents → length (all_rows files e) ≤ most_rows → AllByRecursion HasSmallObject (deposit_of files e).contents
-unfolding deposit_of objects_of
+small_in : FieldsFit → (files : List Named) (e : EnvelopeValue) → AreSmall files → All IsTable e.contents → length (all_rows files e) ≤ most_rows → AllByRecursion HasSmallObject (deposit_of_files files e).contents
+unfolding deposit_of_files objects_of
 small_in fit files e small tables few =
     let is_parent : TableValue → Bool = λ t. t.parent in
     let is_child : TableValue → Bool = λ t. not t.parent in
@@ -152,7 +152,7 @@ small_in fit files e small tables few =
     let sorted : length (rows_in files (by_name (filter is_child e.contents))) ≡ length (rows_in files (filter is_child e.contents)) = same_length files (filter is_child e.contents) in
     let all : length (child_rows files e) ≡ length (rows_in files (by_name (filter is_child e.contents))) = length-map (rows_in files (by_name (filter is_child e.contents))) keyed in
     let within : length (rows_in files (filter is_child e.contents)) ≤ most_rows = omega (arith, few, fewer_tables files is_child e.contents, few_contents files e) in
-    objects_small (child_rows files e) (in_order (parent_rows files e)) children (omega (arith, all, sorted, within)) (in_order_small (parent_rows files e) [] parents tt)
+    objects_small (child_rows files e) (last_by_key (parent_rows files e)) children (omega (arith, all, sorted, within)) (last_by_key_small (parent_rows files e) [] parents tt)
 
 small_parts : FieldsFit → (files : List Named) (e : EnvelopeValue) (d : DepositValue) → AreSmall files → All IsTable e.contents → Parts files e d → AllByRecursion HasSmallObject d.contents
 small_parts fit files e d small tables parts =

@@ -16,7 +16,7 @@ use Rattle.esc_envelope.specs.EnvelopeValue.{TableValue}
 use Rattle.esc_tables.specs.declared.survey.Survey.{Survey}
 use Rattle.esc_tables.specs.TableRow.{TableRow, bytes_named, in_table, table_rows, is_whole, has_key}
 use Rattle.esc_tables.specs.Reading.{check_rows}
-use Rattle.esc_tables.specs.Survey.{noted, unseen, is_right, verdict}
+use Rattle.esc_tables.specs.Survey.{surveyed, unseen, is_right, verdict}
 
 -- a file without a byte has no row
 no_records : records_of [] ≡ []
@@ -37,9 +37,9 @@ and_true : (b : Bool) → b ≡ (b && true)
 and_true true = refl
 and_true false = refl
 
-keys_seen : (s : Survey) (rows : List TableRow) → (fold noted s rows).has_keys ≡ (s.has_keys && list_all has_key rows)
+keys_seen : (s : Survey) (rows : List TableRow) → (fold surveyed s rows).has_keys ≡ (s.has_keys && list_all has_key rows)
 keys_seen s [] = and_true s.has_keys
-keys_seen s (r ∷ rows) = keys_seen (noted s r) rows ∙ and_assoc s.has_keys (has_key r) (list_all has_key rows)
+keys_seen s (r ∷ rows) = keys_seen (surveyed s r) rows ∙ and_assoc s.has_keys (has_key r) (list_all has_key rows)
 
 one_more : (n len : ℕ) → n ≤ 100_001 → (cond (nat_le n 100_000) (n + 1) n ≤ 100_001) × (min (cond (nat_le n 100_000) (n + 1) n + len) 100_001 ≡ min (n + (1 + len)) 100_001)
 one_more n len h = elim (cases_Bool (nat_le n 100_000)) [
@@ -47,15 +47,15 @@ one_more n len h = elim (cases_Bool (nat_le n 100_000)) [
   | inr many ↦ let ge : 100_000 < n = grind (arith, nat_tests) in rw many (omega arith, omega arith)
 ]
 
-rows_seen : (s : Survey) (rows : List TableRow) → s.rows ≤ 100_001 → (fold noted s rows).rows ≡ min (s.rows + length rows) 100_001
+rows_seen : (s : Survey) (rows : List TableRow) → s.rows ≤ 100_001 → (fold surveyed s rows).rows ≡ min (s.rows + length rows) 100_001
 rows_seen s [] h = omega arith
-rows_seen s (r ∷ rows) h = let more = one_more s.rows (length rows) h in rows_seen (noted s r) rows more.0 ∙ more.1 ∙ omega arith
+rows_seen s (r ∷ rows) h = let more = one_more s.rows (length rows) h in rows_seen (surveyed s r) rows more.0 ∙ more.1 ∙ omega arith
 
 -- what was seen of all rows, in two parts
 abbrev pub SeenOf : List TableRow → Survey → Type 0
 SeenOf rows s = (s.has_keys ≡ list_all has_key rows) × (s.rows ≡ min (length rows) 100_001)
 
-pub seen_is : (rows : List TableRow) → SeenOf rows (fold noted unseen rows)
+pub seen_is : (rows : List TableRow) → SeenOf rows (fold surveyed unseen rows)
 seen_is rows = (keys_seen unseen rows, rows_seen unseen rows (omega arith) ∙ omega arith)
 
 -- the fault that applies
@@ -82,13 +82,13 @@ pub right_verdict : (s : Survey) → verdict s ≡ Ok tt → is_right s ≡ true
 right_verdict s h = both_pass s.has_keys (nat_le s.rows 100_000) h
 
 -- what is right after a row was right before it
-right_before : (s : Survey) (r : TableRow) → is_right (noted s r) ≡ true → is_right s ≡ true
+right_before : (s : Survey) (r : TableRow) → is_right (surveyed s r) ≡ true → is_right s ≡ true
 right_before s r h = by_test (nat_le s.rows 100_000) refl
   where
     by_test : (b : Bool) → nat_le s.rows 100_000 ≡ b → is_right s ≡ true
-    by_test true few = rw ((and_parts s.has_keys (has_key r) (and_parts (s.has_keys && has_key r) (nat_le (noted s r).rows 100_000) h).0).0, few) refl
+    by_test true few = rw ((and_parts s.has_keys (has_key r) (and_parts (s.has_keys && has_key r) (nat_le (surveyed s r).rows 100_000) h).0).0, few) refl
     by_test false many = absurd (cc (sym many ∙ (and_parts (s.has_keys && has_key r) (nat_le s.rows 100_000) (rw many at h)).1))
 
-pub right_at_first : (s : Survey) (rows : List TableRow) → is_right (fold noted s rows) ≡ true → is_right s ≡ true
+pub right_at_first : (s : Survey) (rows : List TableRow) → is_right (fold surveyed s rows) ≡ true → is_right s ≡ true
 right_at_first s [] h = h
-right_at_first s (r ∷ rows) h = right_before s r (right_at_first (noted s r) rows h)
+right_at_first s (r ∷ rows) h = right_before s r (right_at_first (surveyed s r) rows h)

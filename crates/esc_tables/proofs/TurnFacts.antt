@@ -15,7 +15,7 @@ use Rattle.esc_envelope.specs.EnvelopeValue.{TableValue}
 use Rattle.esc_tables.specs.declared.survey.Survey.{Survey}
 use Rattle.esc_tables.specs.TableRow.{TableRow, table_rows, rows_in, is_whole, has_key}
 use Rattle.esc_tables.specs.Reading.{placed, by_name, is_before, check_rows}
-use Rattle.esc_tables.specs.Survey.{noted, unseen, verdict, AreRead, IsFaultOf}
+use Rattle.esc_tables.specs.Survey.{surveyed, unseen, verdict, AreSurveyed, IsFaultOf}
 use Rattle.esc_tables.proofs.SizeFacts.{same_length}
 use Rattle.esc_tables.proofs.SurveyFacts.{all_in_each, SeenOf, seen_is, judged, told_9}
 
@@ -115,16 +115,16 @@ same_faults files cs ds = rw (parts_tested files cs ds is_whole, parts_tested fi
 -- ---- the least fault of rows that were read in three parts
 
 -- what was seen of them, if the first part was read before any other row
-seen_in_parts : (ps cs ds : List TableRow) {s t u : Survey} → s ≡ fold noted unseen ps → t ≡ fold noted s cs → u ≡ fold noted t ds → SeenOf (ps ++ (cs ++ ds)) u
+seen_in_parts : (ps cs ds : List TableRow) {s t u : Survey} → s ≡ fold surveyed unseen ps → t ≡ fold surveyed s cs → u ≡ fold surveyed t ds → SeenOf (ps ++ (cs ++ ds)) u
 seen_in_parts ps cs ds first second third =
     let all =
-    third ∙ ap (λ (x : Survey). fold noted x ds) second ∙ ap (λ (x : Survey). fold noted (fold noted x cs) ds) first
-    ∙ sym (fold-append noted (fold noted unseen ps) cs ds) ∙ sym (fold-append noted unseen ps (cs ++ ds)) in
+    third ∙ ap (λ (x : Survey). fold surveyed x ds) second ∙ ap (λ (x : Survey). fold surveyed (fold surveyed x cs) ds) first
+    ∙ sym (fold-append surveyed (fold surveyed unseen ps) cs ds) ∙ sym (fold-append surveyed unseen ps (cs ++ ds)) in
     rw all (seen_is (ps ++ (cs ++ ds)))
 
 -- their verdict is that of what was seen of them
 pub judged_in_turn : {X Y : Type 0} {of_row : TableRow → X} {of_delete : TableRow → Y} (files : List Named) (contents deletes : List TableValue) {s t u : Survey} {a b c d : List X} {e f : List Y}
-    → AreRead of_row (parents_in files contents) (unseen, a) (s, b) → AreRead of_row (children_in files contents) (s, c) (t, d) → AreRead of_delete (rows_in files deletes) (t, e) (u, f)
+    → AreSurveyed of_row (parents_in files contents) (unseen, a) (s, b) → AreSurveyed of_row (children_in files contents) (s, c) (t, d) → AreSurveyed of_delete (rows_in files deletes) (t, e) (u, f)
     → check_rows (rows_in files (contents ++ deletes)) ≡ verdict u
 judged_in_turn files contents deletes {u = u} first second third =
     let ps = parents_in files contents in

@@ -41,14 +41,14 @@ abbrev pub orphans_of : List (KeyName × RowValue) → List (KeyName × RowValue
 orphans_of parents children = count_by (λ c. not (has_pair parents c.0)) children
 
 -- each key of these pairs once, in the order of keys, with its last value
-abbrev pub in_order : {X : Type 0} → List (KeyName × X) → List (KeyName × X)
-in_order pairs = fold (λ entries p. put key_cmp p.0 p.1 entries) [] pairs
+abbrev pub last_by_key : {X : Type 0} → List (KeyName × X) → List (KeyName × X)
+last_by_key pairs = fold (λ entries p. put key_cmp p.0 p.1 entries) [] pairs
 
 -- each key of a parent row, in order, with its object
 unfoldable pub objects_of : List (KeyName × RowValue) → List (KeyName × RowValue)
     → List (KeyName × ObjectValue)
 objects_of parents children = map (λ e. (e.0, with_children (at_key e.0 children) e.1))
-    (in_order parents)
+    (last_by_key parents)
 
 -- an object that is a parent row without child rows, with its key
 abbrev pub alone : KeyName × RowValue → KeyName × ObjectValue

@@ -68,8 +68,8 @@ abbrev pub child_rows : List Named → EnvelopeValue → List (KeyName × RowVal
 child_rows files e = map keyed (rows_in files (by_name (filter (λ t. not t.parent) e.contents)))
 
 -- the deposit that the rows make
-unfoldable pub deposit_of : List Named → EnvelopeValue → DepositValue
-deposit_of files e = record {
+unfoldable pub deposit_of_files : List Named → EnvelopeValue → DepositValue
+deposit_of_files files e = record {
   header = e.header;
   counts = e.counts;
   deletes = map key_of (rows_in files e.deletes);
@@ -91,7 +91,7 @@ unfoldable pub deposit_in : List Named → EnvelopeValue → Result DepositValue
 deposit_in files e = do
   filed ← check (are_filed files (tables_of e)) 8
   right ← check_rows (rows_in files (tables_of e))
-  Ok (deposit_of files e)
+  Ok (deposit_of_files files e)
 
 -- the deposit that sections make, the first of which is the envelope. A bundle has at least one
 -- section, so the case without any does not occur

@@ -23,8 +23,8 @@ use Rattle.esc_tables.specs.TableRow.{TableRow, is_whole, has_key}
 use Rattle.esc_tables.specs.Reading.{most_rows}
 
 -- what was seen of the rows, with one more
-abbrev pub noted : Survey → TableRow → Survey
-noted s r = record {
+abbrev pub surveyed : Survey → TableRow → Survey
+surveyed s r = record {
   has_keys = s.has_keys && has_key r;
   rows = if nat_le s.rows most_rows then s.rows + 1 else s.rows;
 }
@@ -46,9 +46,9 @@ verdict s = do
 -- these rows were read. They are whole, what was seen of them is noted, and as long as that is
 -- right, what is read of each is appended to a list; what was seen and the list are given as they
 -- stood before and after
-pub record AreRead {X : Type 0} (of_row : TableRow → X) (rows : List TableRow)
+pub record AreSurveyed {X : Type 0} (of_row : TableRow → X) (rows : List TableRow)
     (before after : Survey × List X) : Type 0 where
-  pub seen : after.0 ≡ fold noted before.0 rows
+  pub seen : after.0 ≡ fold surveyed before.0 rows
   pub whole : list_all is_whole rows ≡ true
   pub kept : is_right after.0 ≡ true → after.1 ≡ before.1 ++ map of_row rows
 

@@ -105,9 +105,9 @@ abbrev pub heading_of : TableValue → HeadingValue
 heading_of t = record { name = t.name; fields = t.fields }
 
 -- a row as its cells: each field with its text, as it is in the file
-abbrev pub row_of : TableRow → RowValue
-row_of r = record { table = r.table.name; cells = zip r.table.fields r.fields }
+abbrev pub row_as_cells : TableRow → RowValue
+row_as_cells r = record { table = r.table.name; cells = zip r.table.fields r.fields }
 
 -- a row with the key of its object
 abbrev pub keyed : TableRow → KeyName × RowValue
-keyed r = (key_of r, row_of r)
+keyed r = (key_of r, row_as_cells r)

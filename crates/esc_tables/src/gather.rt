@@ -3,7 +3,7 @@
 ghost use Rattle.std.specs.Prelude.{◌≡◌, IfOk, OnOk, is_some, map, option_map, if◌then◌else◌};
 ghost use Rattle.std.specs.BTreeMap.{get, insert_entry, IsOrdered};
 ghost use Rattle.esc_tables.specs.KeyName.{KeyName, key_cmp, key_eq};
-ghost use Rattle.esc_tables.specs.Objects.{alone, with_child, in_order, objects_of, orphans_of};
+ghost use Rattle.esc_tables.specs.Objects.{alone, with_child, last_by_key, objects_of, orphans_of};
 
 use crate::key::Key;
 use crate::object::{Object, Row};
@@ -31,7 +31,7 @@ fn put(objects: &mut BTreeMap<Key, Object>, key: Key, object: Object) -> Result<
 
 // Each key's last parent row, with no child row yet.
 fn with_parents(alloc: Global, rows: Vec<(Key, Row)>) -> Result<BTreeMap<Key, Object>, NoMemory>
-    ensures entries { IfOk result (λ m. m.entries ≡ in_order (map alone rows.items)) }
+    ensures entries { IfOk result (λ m. m.entries ≡ last_by_key (map alone rows.items)) }
     ensures ordered { IfOk result (λ m. IsOrdered key_cmp m) }
 {
     let mut objects = BTreeMap::new(alloc);

@@ -22,7 +22,7 @@ ghost use Rattle.esc_tables.specs.DepositValue.{DepositValue};
 ghost use Rattle.esc_tables.specs.Reading.{
   tables_of,
   check_rows,
-  deposit_of,
+  deposit_of_files,
   deposit_in,
   reading,
   bundled_envelope,
@@ -45,7 +45,7 @@ const WRONG_FILES: Fault = Fault::Refused(8);
 fn make_deposit(alloc: Global, files: &[Section<'_>], envelope: Envelope) -> Result<Deposit, Fault>
     ensures passed { OnOk result
         (check_rows (rows_in (views files.now) (tables_of envelope)) ≡ Ok tt) }
-    ensures made { IfOk result (λ d. d ≡ deposit_of (views files.now) envelope) }
+    ensures made { IfOk result (λ d. d ≡ deposit_of_files (views files.now) envelope) }
     ensures refused { IfErr result (λ e. (n : ℕ) → e ≡ Fault.Refused n
         → check_rows (rows_in (views files.now) (tables_of envelope)) ≡ Err n) }
 {

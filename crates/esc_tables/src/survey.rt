@@ -2,7 +2,7 @@
 
 ghost use Rattle.std.specs.Prelude.{◌≡◌, ℕ, true, false, Ok, Err, IfOk, IfErr, OnOk};
 ghost use Rattle.esc_tables.specs.TableRow.{in_table, is_whole};
-ghost use Rattle.esc_tables.specs.Survey.{noted, unseen, is_right, verdict};
+ghost use Rattle.esc_tables.specs.Survey.{surveyed, unseen, is_right, verdict};
 
 use crate::row::{has_key, is_whole};
 use esc_bundle::Fault;
@@ -44,7 +44,7 @@ impl Survey {
     /// What was seen after one more row. A row that isn't whole is refused at once, since no other
     /// fault of rows is less.
     pub fn note(self, table: &Table, row: &Record) -> Result<Survey, Fault>
-        ensures seen { IfOk result (λ s. s ≡ noted self (in_table table.now row.now)) }
+        ensures seen { IfOk result (λ s. s ≡ surveyed self (in_table table.now row.now)) }
         ensures whole { OnOk result (is_whole (in_table table.now row.now) ≡ true) }
         ensures refused { IfErr result (λ e. (n : ℕ) → e ≡ Fault.Refused n
             → (n ≡ 9) × (is_whole (in_table table.now row.now) ≡ false)) }

@@ -23,7 +23,7 @@ ghost use Rattle.std.specs.Prelude.{
 ghost use Rattle.esc_bundle.specs.Bundle.{views};
 ghost use Rattle.esc_tables.specs.TableRow.{table_rows, rows_in, in_table, key_of, keyed};
 ghost use Rattle.esc_tables.specs.Reading.{check_rows, by_name};
-ghost use Rattle.esc_tables.specs.Survey.{AreRead, IsFaultOf};
+ghost use Rattle.esc_tables.specs.Survey.{AreSurveyed, IsFaultOf};
 
 use crate::files::bytes_named;
 use crate::key::Key;
@@ -54,7 +54,7 @@ fn read_row<T: FromRow>(
     found: &mut Vec<T>,
 ) -> Result<Survey, Fault>
     requires { T.is_shared shared.now table.now }
-    ensures read { IfOk result (λ s. AreRead T.of_row (in_table table.now row.now ∷ [])
+    ensures read { IfOk result (λ s. AreSurveyed T.of_row (in_table table.now row.now ∷ [])
         (survey, found.old.items) (s, found.new.items)) }
     ensures refused { IfErr result (IsFaultOf (in_table table.now row.now ∷ [])) }
 {
@@ -74,7 +74,7 @@ fn read_records<T: FromRow>(
     mut survey: Survey,
     found: &mut Vec<T>,
 ) -> Result<Survey, Fault>
-    ensures read { IfOk result (λ s. AreRead T.of_row (map (in_table table.now) rows.old)
+    ensures read { IfOk result (λ s. AreSurveyed T.of_row (map (in_table table.now) rows.old)
         (survey, found.old.items) (s, found.new.items)) }
     ensures refused { IfErr result (IsFaultOf (map (in_table table.now) rows.old)) }
 {
@@ -95,7 +95,7 @@ fn read_table<T: FromRow>(
     survey: Survey,
     found: &mut Vec<T>,
 ) -> Result<Survey, Fault>
-    ensures read { IfOk result (λ s. AreRead T.of_row (table_rows (views files.now) table.now)
+    ensures read { IfOk result (λ s. AreSurveyed T.of_row (table_rows (views files.now) table.now)
         (survey, found.old.items) (s, found.new.items)) }
     ensures refused { IfErr result (IsFaultOf (table_rows (views files.now) table.now)) }
 {
@@ -114,7 +114,7 @@ fn read_parents(
     mut survey: Survey,
     found: &mut Vec<(Key, Row)>,
 ) -> Result<Survey, Fault>
-    ensures read { IfOk result (λ s. AreRead keyed
+    ensures read { IfOk result (λ s. AreSurveyed keyed
         (rows_in (views files.now) (filter (λ t. t.parent) tables.now))
         (survey, found.old.items) (s, found.new.items)) }
     ensures refused { IfErr result (IsFaultOf
@@ -137,7 +137,7 @@ fn read_tables(
     mut survey: Survey,
     found: &mut Vec<(Key, Row)>,
 ) -> Result<Survey, Fault>
-    ensures read { IfOk result (λ s. AreRead keyed
+    ensures read { IfOk result (λ s. AreSurveyed keyed
         (rows_in (views files.now) (map (λ t. t.now) tables.now))
         (survey, found.old.items) (s, found.new.items)) }
     ensures refused { IfErr result (IsFaultOf
@@ -157,7 +157,7 @@ fn read_children(
     survey: Survey,
     found: &mut Vec<(Key, Row)>,
 ) -> Result<Survey, Fault>
-    ensures read { IfOk result (λ s. AreRead keyed
+    ensures read { IfOk result (λ s. AreSurveyed keyed
         (rows_in (views files.now) (by_name (filter (λ t. not t.parent) tables.now)))
         (survey, found.old.items) (s, found.new.items)) }
     ensures refused { IfErr result (IsFaultOf
@@ -175,7 +175,7 @@ fn read_deletes(
     mut survey: Survey,
     found: &mut Vec<Key>,
 ) -> Result<Survey, Fault>
-    ensures read { IfOk result (λ s. AreRead key_of (rows_in (views files.now) deletes.now)
+    ensures read { IfOk result (λ s. AreSurveyed key_of (rows_in (views files.now) deletes.now)
         (survey, found.old.items) (s, found.new.items)) }
     ensures refused { IfErr result (IsFaultOf (rows_in (views files.now) deletes.now)) }
 {

@@ -8,11 +8,11 @@ ghost use Rattle.esc_store.specs.StoreState.{StoreState};
 ghost use Rattle.esc_desk.specs.Readers.{IsUnchangedReader, OkForReaderEvents, store_read_by};
 ghost use Rattle.esc_desk.specs.ReaderWalks.{
   ForReaderEvents,
-  HasFailed,
+  HasReaderWalkFailed,
   IsUnwrittenReader,
   ListsKeys,
-  ListsTables,
-  lent_as,
+  ReaderListsTables,
+  reader_lent_as,
   reader_of,
 };
 
@@ -52,16 +52,16 @@ impl<S: Store> DeskReader<S> {
     #[tactic(auto, using(crate::proofs::ReaderWalks::unwritten_by))]
     pub fn walk(&mut self, alloc: Global, kind: Option<Kind>) -> Result<ReaderWalk<'_, S>, SFault>
         ensures* refused { sem 𝓛 (RestsIfErr (the_row S.row) self.entry
-            (λ walk. lent_as walk) result (IsUnwrittenReader S.Store self.old)) }
-        ensures same_reference { IfOk result (λ walk. lent_as walk ≡ self.entry.ghost_name) }
+            (λ walk. reader_lent_as walk) result (IsUnwrittenReader S.Store self.old)) }
+        ensures same_reference { IfOk result (λ walk. reader_lent_as walk ≡ self.entry.ghost_name) }
         ensures unwritten { IfOk result (λ walk.
             IsUnwrittenReader S.Store self.old (reader_of walk)) }
         ensures stands { IfOk result (λ walk. (k : StoreState)
             → ReaderRepresents S.Store (store_read_by self.old) k
             → ReaderRepresents S.Store (store_read_by (reader_of walk)) k) }
         ensures lists { IfOk result (λ walk. ForReaderEvents S.Store self.old (reader_of walk)
-            (λ e. ListsTables S.Store walk kind e)) }
-        ensures unfailed { IfOk result (λ walk. HasFailed walk → ⊥) }
+            (λ e. ReaderListsTables S.Store walk kind e)) }
+        ensures unfailed { IfOk result (λ walk. HasReaderWalkFailed walk → ⊥) }
         ensures cause { IfErr result IsS1OrS2 }
     {
         let left = self.keys_left(alloc, kind)?;
@@ -107,26 +107,26 @@ impl<'a, S: Store> Objects for ReaderWalk<'a, S, KeysLeft> {
     ghost use Rattle.esc_store.specs.Faults.{IsS1OrS2};
     ghost use Rattle.esc_desk.specs.Readers.{IsHonestDeskReader};
     ghost use Rattle.esc_desk.specs.ReaderWalks.{
-      AreToCome,
-      Follows,
-      HasFailed,
+      AreOfKeysLeft,
+      ReaderWalkFollows,
+      HasReaderWalkFailed,
       keys_left_of,
       reader_of,
     };
 
     type Error = SFault;
 
-    ghost lists = { λ walk es. AreToCome S.Store (reader_of walk) (keys_left_of walk) es };
+    ghost lists = { λ walk es. AreOfKeysLeft S.Store (reader_of walk) (keys_left_of walk) es };
 
     ghost bound = { λ walk. into_iter_len walk.left.keys };
 
-    ghost has_failed = { λ walk. HasFailed walk };
+    ghost has_failed = { λ walk. HasReaderWalkFailed walk };
 
     ghost fails = { λ fault. IsS1OrS2 fault };
 
     ghost is_honest = { λ walk. IsHonestDeskReader S.Store (reader_of walk) };
 
-    ghost follows = { λ a b. Follows S.Store a b };
+    ghost follows = { λ a b. ReaderWalkFollows S.Store a b };
 
     // A walk counts as failed while an object is read, so that an early return leaves it failed.
     fn next(&mut self) -> Result<Option<(Key, Object)>, SFault> {

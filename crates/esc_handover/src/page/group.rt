@@ -1,7 +1,7 @@
 //! Listed places that are shown together.
 
 ghost use Rattle.std.specs.Prelude.{◌≡◌, ◌+◌, ◌^◌, ◌<◌, count_by, is_some, IfOk, OnOk};
-ghost use Rattle.esc_handover.specs.Picture.{has_look, takes, places_in, places_of};
+ghost use Rattle.esc_handover.specs.Picture.{has_look, takes, places_in, places_in_group};
 
 use crate::page::axis::Axis;
 use esc_bundle::NoMemory;
@@ -102,8 +102,8 @@ impl Grouping {
         current: Option<Group<'a>>,
         line: &'a GapLine,
     ) -> (Option<Group<'a>>, Group<'a>)
-        requires { places_of current < 2 ^ 63 }
-        ensures { places_of result.0 + result.1.count ≡ places_of current.entry + 1 }
+        requires { places_in_group current < 2 ^ 63 }
+        ensures { places_in_group result.0 + result.1.count ≡ places_in_group current.entry + 1 }
     {
         match current {
             Some(group) if self.joins(group, line) => {
@@ -122,7 +122,7 @@ impl Grouping {
 // Adds a group, if it is one.
 fn push_closed<'a>(groups: &mut Vec<Group<'a>>, closed: Option<Group<'a>>) -> Result<(), NoMemory>
     ensures { OnOk result (places_in groups.new.items ≡ places_in groups.old.items
-        + places_of closed.entry) }
+        + places_in_group closed.entry) }
 {
     if let Some(group) = closed {
         groups.push(group)?;

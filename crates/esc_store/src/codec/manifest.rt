@@ -4,9 +4,9 @@ ghost use Rattle.std.specs.Prelude.{◌≡◌, ℕ, List, map, option_map, strin
 ghost use Rattle.esc_envelope.specs.declared.place.DepositType.{DepositType as deposit_type};
 ghost use Rattle.esc_envelope.specs.Place.{rank};
 ghost use Rattle.esc_manifest.specs.declared.row.MRow.{MRow as manifest_row};
-ghost use Rattle.esc_sql.specs.Entries.{listed_row as stored_row};
+ghost use Rattle.esc_sql.specs.Entries.{listed_row};
 ghost use Rattle.esc_store.specs.Faults.{IsS1OrS2};
-ghost use Rattle.esc_store.specs.TypedRows.{listed_row, listed_from};
+ghost use Rattle.esc_store.specs.TypedRows.{indexed_row, listed_from};
 
 use crate::codec::small;
 use crate::fault::{DAMAGED, SFault};
@@ -53,7 +53,7 @@ fn copy_of(alloc: Global, text: &Option<String>) -> Result<Option<String>, SFaul
 
 // A row of a manifest as its table keeps it.
 fn stored_listed(alloc: Global, number: usize, row: &MRow) -> Result<Listed, SFault>
-    ensures row { IfOk result (λ l. stored_row l ≡ listed_row number row.now) }
+    ensures row { IfOk result (λ l. listed_row l ≡ indexed_row number row.now) }
     ensures cause { IfErr result IsS1OrS2 }
 {
     let header = &row.header;
@@ -70,7 +70,7 @@ fn stored_listed(alloc: Global, number: usize, row: &MRow) -> Result<Listed, SFa
 
 // The rows of a manifest as their table keeps them.
 pub(crate) fn stored_manifest(alloc: Global, rows: &[MRow]) -> Result<Vec<Listed>, SFault>
-    ensures rows { IfOk result (λ stored. map stored_row stored.items ≡ listed_from 0 rows.now) }
+    ensures rows { IfOk result (λ stored. map listed_row stored.items ≡ listed_from 0 rows.now) }
     ensures cause { IfErr result IsS1OrS2 }
 {
     let mut stored = Vec::new(alloc);
@@ -109,7 +109,7 @@ pub(crate) fn digest_of(bytes: &[u8]) -> Result<[u8; 32], SFault>
 // The manifest's row that a row of the table keeps.
 fn manifest_row(alloc: Global, stored: &Listed) -> Result<MRow, SFault>
     ensures row { IfOk result (λ row. (n : ℕ) (r : manifest_row)
-        → stored_row stored.now ≡ listed_row n r → row ≡ r) }
+        → listed_row stored.now ≡ indexed_row n r → row ≡ r) }
     ensures cause { IfErr result IsS1OrS2 }
 {
     let kind = type_of(stored.kind)?;
@@ -133,7 +133,7 @@ fn manifest_row(alloc: Global, stored: &Listed) -> Result<MRow, SFault>
 // The manifest's rows that all rows of the table keep.
 fn manifest_rows(alloc: Global, stored: &[Listed]) -> Result<Vec<MRow>, SFault>
     ensures rows { IfOk result (λ rows. (rs : List manifest_row)
-        → map stored_row stored.now ≡ listed_from 0 rs → rows.items ≡ rs) }
+        → map listed_row stored.now ≡ listed_from 0 rs → rows.items ≡ rs) }
     ensures cause { IfErr result IsS1OrS2 }
 {
     let mut rows = Vec::new(alloc);
@@ -147,7 +147,7 @@ fn manifest_rows(alloc: Global, stored: &[Listed]) -> Result<Vec<MRow>, SFault>
 // The manifest that the table keeps.
 pub(crate) fn kept_manifest(alloc: Global, stored: &[Listed]) -> Result<Manifest, SFault>
     ensures manifest { IfOk result (λ manifest. (rs : List manifest_row)
-        → map stored_row stored.now ≡ listed_from 0 rs → manifest ≡ rs) }
+        → map listed_row stored.now ≡ listed_from 0 rs → manifest ≡ rs) }
     ensures cause { IfErr result IsS1OrS2 }
 {
     let rows = manifest_rows(alloc, stored)?;
@@ -160,7 +160,7 @@ pub(crate) fn both_forms(
     manifest: &Manifest,
 ) -> Result<(Manifest, Vec<Listed>), SFault>
     ensures own { IfOk result (λ forms. forms.0 ≡ manifest.now) }
-    ensures rows { IfOk result (λ forms. map stored_row forms.1.items
+    ensures rows { IfOk result (λ forms. map listed_row forms.1.items
         ≡ listed_from 0 manifest.now) }
     ensures cause { IfErr result IsS1OrS2 }
 {

@@ -19,7 +19,7 @@ ghost use Rattle.std.specs.Prelude.{
 ghost use Rattle.std.specs.Option.{option_and_then};
 ghost use Rattle.esc_envelope.specs.Kinds.{kind_rank};
 ghost use Rattle.esc_record.specs.Record.{record_of};
-ghost use Rattle.esc_sql.specs.Entries.{image_of, object_of};
+ghost use Rattle.esc_sql.specs.Entries.{stored_image, stored_entry};
 ghost use Rattle.esc_store.specs.Faults.{IsS1OrS2};
 ghost use Rattle.esc_store.specs.Decoded.{AreObjectsOf, AreImagesOf};
 ghost use Rattle.std.specs.List.{IsDistinct};
@@ -27,7 +27,7 @@ ghost use Rattle.std.specs.List.Sorted.{IsStrictlySortedBy};
 ghost use Rattle.std.specs.Map.{lookup, keys_of};
 ghost use Rattle.std.specs.BTreeMap.{IsOrdered};
 ghost use Rattle.esc_tables.specs.KeyName.{KeyName, key_cmp, key_eq};
-ghost use Rattle.esc_store.specs.Pages.{entry_row, stored_row};
+ghost use Rattle.esc_store.specs.Pages.{entry_row, record_row};
 
 use crate::fault::{DAMAGED, SFault};
 use esc_envelope::Kind;
@@ -141,7 +141,7 @@ fn add_object(
     stored: &StoredObject,
 ) -> Result<(), SFault>
     ensures added { OnOk result ((rows : _) → AreObjectsOf rows objects.old.entries
-        → AreObjectsOf (rows ++ object_of stored.now ∷ []) objects.new.entries) }
+        → AreObjectsOf (rows ++ stored_entry stored.now ∷ []) objects.new.entries) }
     ensures ordered { OnOk result (IsOrdered key_cmp objects.new) }
     ensures cause { IfErr result IsS1OrS2 }
 {
@@ -157,7 +157,7 @@ pub(crate) fn objects_of(
 ) -> Result<BTreeMap<Key, Object>, SFault>
     ensures once { IfOk result (λ objects. IsDistinct key_eq (keys_of objects.entries)) }
     ensures each { IfOk result
-        (λ objects. AreObjectsOf (map object_of stored.now) objects.entries) }
+        (λ objects. AreObjectsOf (map stored_entry stored.now) objects.entries) }
     ensures cause { IfErr result IsS1OrS2 }
 {
     let mut objects = BTreeMap::new(alloc);
@@ -169,7 +169,7 @@ pub(crate) fn objects_of(
 
 // The key and the object of a row.
 fn entry_of(alloc: Global, stored: &StoredObject) -> Result<(Key, Object), SFault>
-    ensures entry { IfOk result (λ entry. entry_row entry ≡ stored_row (object_of stored.now)) }
+    ensures entry { IfOk result (λ entry. entry_row entry ≡ record_row (stored_entry stored.now)) }
     ensures cause { IfErr result IsS1OrS2 }
 {
     let key = key_of(alloc, stored.kind, stored.key.as_slice())?;
@@ -183,7 +183,7 @@ pub(crate) fn entries_of(
     stored: &[StoredObject],
 ) -> Result<Vec<(Key, Object)>, SFault>
     ensures entries { IfOk result (λ entries. map entry_row entries.items
-        ≡ map (λ it. stored_row (object_of it)) stored.now) }
+        ≡ map (λ it. record_row (stored_entry it)) stored.now) }
     ensures cause { IfErr result IsS1OrS2 }
 {
     let mut entries = Vec::new(alloc);
@@ -197,7 +197,7 @@ pub(crate) fn entries_of(
 // What a key had before a step: the object of the row's record, or none.
 fn before_of(alloc: Global, stored: &StoredImage) -> Result<Option<Object>, SFault>
     ensures before { IfOk result (λ before. option_map record_of before
-        ≡ option_map (λ bytes. Some bytes) (image_of stored.now).bytes) }
+        ≡ option_map (λ bytes. Some bytes) (stored_image stored.now).bytes) }
     ensures cause { IfErr result IsS1OrS2 }
 {
     match &stored.record {
@@ -213,7 +213,7 @@ fn add_image(
     stored: &StoredImage,
 ) -> Result<(), SFault>
     ensures added { OnOk result ((rows : _) → AreImagesOf rows images.old.entries
-        → AreImagesOf (rows ++ image_of stored.now ∷ []) images.new.entries) }
+        → AreImagesOf (rows ++ stored_image stored.now ∷ []) images.new.entries) }
     ensures ordered { OnOk result (IsOrdered key_cmp images.new) }
     ensures cause { IfErr result IsS1OrS2 }
 {
@@ -228,7 +228,8 @@ fn images_by_key(
     stored: &[StoredImage],
 ) -> Result<BTreeMap<Key, Option<Object>>, SFault>
     ensures ordered { IfOk result (λ images. IsOrdered key_cmp images) }
-    ensures each { IfOk result (λ images. AreImagesOf (map image_of stored.now) images.entries) }
+    ensures each { IfOk result
+        (λ images. AreImagesOf (map stored_image stored.now) images.entries) }
     ensures cause { IfErr result IsS1OrS2 }
 {
     let mut images = BTreeMap::new(alloc);
@@ -244,7 +245,7 @@ pub(crate) fn images_of(
     stored: &[StoredImage],
 ) -> Result<Vec<(Key, Option<Object>)>, SFault>
     ensures ordered { IfOk result (λ images. IsStrictlySortedBy key_cmp (keys_of images.items)) }
-    ensures each { IfOk result (λ images. AreImagesOf (map image_of stored.now) images.items) }
+    ensures each { IfOk result (λ images. AreImagesOf (map stored_image stored.now) images.items) }
     ensures cause { IfErr result IsS1OrS2 }
 {
     let images = images_by_key(alloc, stored)?;

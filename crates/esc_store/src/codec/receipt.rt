@@ -21,7 +21,7 @@ ghost use Rattle.esc_store.specs.TypedRows.{
   verdict_number,
   fault_number,
   bit,
-  receipt_row as row_of,
+  numbered_receipt,
   receipts_from,
 };
 ghost use Rattle.std.specs.Ordering.{nat_cmp};
@@ -98,7 +98,7 @@ pub(crate) fn stored_receipt(
     number: u32,
     receipt: &Receipt<'_>,
 ) -> Result<StoredReceipt, SFault>
-    ensures row { IfOk result (λ r. receipt_row r ≡ row_of number receipt.now) }
+    ensures row { IfOk result (λ r. receipt_row r ≡ numbered_receipt number receipt.now) }
     ensures cause { IfErr result IsS1OrS2 }
 {
     Ok(StoredReceipt {
@@ -187,7 +187,7 @@ pub(crate) fn reply_of(
     stored: &StoredReceipt,
 ) -> Result<Reply, SFault>
     ensures reply { IfOk result (λ reply. (n : ℕ) (r : ReceiptValue)
-        → receipt_row stored.now ≡ row_of n r → reply ≡ reply_kept manifest.now n r) }
+        → receipt_row stored.now ≡ numbered_receipt n r → reply ≡ reply_kept manifest.now n r) }
     ensures cause { IfErr result IsS1OrS2 }
 {
     let number = String::from_str(alloc, stored.number.as_str())?;

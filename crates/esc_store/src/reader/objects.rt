@@ -1,18 +1,18 @@
 //! What a reader returns of the chain's tables by key, one object at a time.
 
 ghost use Rattle.std.specs.Prelude.{◌≡◌, Some, filter, map, option_map, IfOk, IfErr};
-ghost use Rattle.esc_sql.specs.Entries.{object_of};
+ghost use Rattle.esc_sql.specs.Entries.{stored_entry};
 ghost use Rattle.esc_scan.specs.ObjectKeys.{key_read};
 ghost use Rattle.esc_store.specs.Faults.{IsS1OrS2};
 ghost use Rattle.esc_store.specs.StoreState.{StoreState};
 ghost use Rattle.esc_store.specs.Reading.{IsHonestReader, IsReadOnly, ReaderRepresents};
-ghost use Rattle.esc_store.specs.Pages.{entry_row, stored_row};
+ghost use Rattle.esc_store.specs.Pages.{entry_row, record_row};
 ghost use Rattle.esc_store.specs.TableKeys.{
   AreKeysOf,
   is_key_wanted,
   is_number_wanted,
   key_at,
-  numbered,
+  numbered_key,
   wanted_of,
 };
 
@@ -92,7 +92,7 @@ fn is_wanted(kind: Option<Kind>, number: u32) -> bool
 
 // A stored key with its rowid. `S1` where it is no key; `S2`.
 fn table_key(alloc: Global, stored: &ObjectKey) -> Result<TableKey, SFault>
-    ensures key { IfOk result (λ key. numbered key ≡ key_read stored.now) }
+    ensures key { IfOk result (λ key. numbered_key key ≡ key_read stored.now) }
     ensures cause { IfErr result IsS1OrS2 }
 {
     Ok(TableKey {
@@ -103,7 +103,7 @@ fn table_key(alloc: Global, stored: &ObjectKey) -> Result<TableKey, SFault>
 
 // The stored keys of one kind or of all, in the order of rowids. `S1` where one is no key; `S2`.
 fn keys_of(alloc: Global, kind: Option<Kind>, stored: &[ObjectKey]) -> Result<Vec<TableKey>, SFault>
-    ensures keys { IfOk result (λ keys. map numbered keys.items
+    ensures keys { IfOk result (λ keys. map numbered_key keys.items
         ≡ filter (is_key_wanted kind) (map key_read stored.now)) }
     ensures cause { IfErr result IsS1OrS2 }
 {
@@ -119,7 +119,7 @@ fn keys_of(alloc: Global, kind: Option<Kind>, stored: &[ObjectKey]) -> Result<Ve
 // The object of this key in a row. `S1` where there is no row, or it is of another key, or it is no
 // object's; `S2`.
 fn object_in_row(alloc: Global, key: &Key, found: Option<StoredObject>) -> Result<Object, SFault>
-    ensures entry { IfOk result (λ object. option_map (λ it. stored_row (object_of it)) found
+    ensures entry { IfOk result (λ object. option_map (λ it. record_row (stored_entry it)) found
         ≡ Some (entry_row (key.now, object))) }
     ensures cause { IfErr result IsS1OrS2 }
 {

@@ -5,7 +5,7 @@ use Rattle.esc_check.specs.FindingValue.{FindingValue}
 use Rattle.esc_check.specs.Findings.{IsFinding, missing_target}
 use Rattle.esc_check.specs.Gathered.{count_findings}
 use Rattle.esc_check.specs.LinkValue.{LinkValue}
-use Rattle.esc_check.specs.TableMap.{tables_of}
+use Rattle.esc_check.specs.TableMap.{content_of_entries}
 use Rattle.esc_check.proofs.ListingLaws.{in_order}
 use Rattle.esc_check.proofs.WalkLaws.{walked_found}
 use Rattle.esc_check.proofs.walk.finish.Goals as goal
@@ -18,4 +18,4 @@ returns-clause-each c = λ es w ordered leads.
     let all = c.in_ok-check_met.ensures ∙ ap (λ (l : List FindingValue). l ++ flat_map (count_findings g.met.keys) counts) missing in
     let are = walked_found w g es counts c.check_met.new.found.items c.settle.result.items ordered leads all c.settle.ensures.same in
     let strict = in_order es w counts c.settle.result.items ordered are c.settle.ensures.ordered in
-    λ f. subst (λ (l : List FindingValue). Contains l f ↔ IsFinding (tables_of es) w counts f) (sym (c.listed.ensures.same strict)) (are f)
+    λ f. subst (λ (l : List FindingValue). Contains l f ↔ IsFinding (content_of_entries es) w counts f) (sym (c.listed.ensures.same strict)) (are f)

@@ -5,7 +5,7 @@ use Rattle.esc_store.specs.StoreState.{AreHeldBy}
 use Rattle.esc_events.specs.ArrivalValue.{an_arrival}
 use Rattle.esc_events.specs.Plans.{AreLatestSteps}
 use Rattle.esc_desk.specs.declared.edit.Storing.TheVariants.{Hold}
-use Rattle.esc_desk.specs.Edits.{noted}
+use Rattle.esc_desk.specs.Edits.{receipted}
 use Rattle.esc_desk.specs.Lengthening.{IsChainWithout}
 use Rattle.esc_desk.proofs.Deciding.{decided_moved, decision_by}
 use Rattle.esc_desk.proofs.DecidingArrivals.{late_move, late_idle, stores_something}
@@ -36,7 +36,7 @@ returns-clause-decided g c = λ clean e n k stood is none.
     record {
       decided = decided_moved c.args.receipt _ _ _ c.plan_arrived.new.cache c.latest_chain_at_rows_are_held.ensures c.read_deposits_mention_few.ensures
           plan.sound (late_move is row none books held moment latest (plan.old ∙ is.chain)) (ap (λ v. v.items) plan.held)
-          (subst (AreHeldBy (noted c.args.receipt k).receipts) (ap (λ v. v.items) (sym plan.told)) is.told);
+          (subst (AreHeldBy (receipted c.args.receipt k).receipts) (ap (λ v. v.items) (sym plan.told)) is.told);
       idle = λ work cost. late_idle is row none books work;
       there = λ empty. absurd (stores_something (decision_by c.args.receipt None (Hold row c.args.body c.args.deposit) None (Some c.plan_arrived.new.cache) (Some c.in_ok-plan.plan)).edit refl empty);
     }

@@ -12,7 +12,7 @@ use Rattle.esc_events.specs.Parks.{IsParking}
 use Rattle.esc_events.specs.StateAfter.{AreBooks}
 use Rattle.esc_desk.specs.declared.edit.Storing.TheVariants.{Park}
 use Rattle.esc_desk.specs.Decisions.{IsDecidedArrival}
-use Rattle.esc_desk.specs.Edits.{noted}
+use Rattle.esc_desk.specs.Edits.{receipted}
 use Rattle.esc_desk.proofs.DecidingArrivals.{decided_there, decided_parked, parked_besides}
 use Rattle.esc_desk.proofs.EditSteps.{edit_fault_then}
 use Rattle.esc_desk.proofs.intake.decide_unlisted.Goals as goal
@@ -29,7 +29,7 @@ returns-in-Free-clause-decided g c = λ clean e n k stood is.
     let a = an_arrival n c.args.body.now in
     let at = subst (IsParking k.parked c.args.digest) c.in-Free.is (c.in_ok-parking_of.ensures.parking clean k stood) in
     let free = subst (λ (d : List ℕ). IsParking k.parked d Free) c.requires.digest at in
-    let books = subst (λ (d : List ℕ). AreBooks sha256 reading (e ++ arrived a ∷ []) (with_parked (noted c.args.receipt k) d (Some c.args.body.now))) (sym c.requires.digest) (is.parked refl free) in
+    let books = subst (λ (d : List ℕ). AreBooks sha256 reading (e ++ arrived a ∷ []) (with_parked (receipted c.args.receipt k) d (Some c.args.body.now))) (sym c.requires.digest) (is.parked refl free) in
     subst (IsDecidedArrival e a k Unlisted) (sym c.still-in-Free.ensures)
     (decided_parked is (Park c.args.digest c.args.body) refl (parked_besides is c.args.digest c.args.body.now) books)
 

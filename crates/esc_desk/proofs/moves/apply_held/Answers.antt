@@ -7,7 +7,7 @@ use Rattle.esc_apply.specs.Registry.{saturated}
 use Rattle.esc_apply.specs.Tables.{mention_count}
 use Rattle.esc_store.specs.Representation.{HasMadeTables}
 use Rattle.esc_store.specs.StandingLaws.{follows_same, follows_then, was_clean}
-use Rattle.esc_events.specs.Plans.{rows_in}
+use Rattle.esc_events.specs.Plans.{rows_in_steps}
 use Rattle.esc_events.specs.StateAfter.{deposit_of, deposits_of}
 use Rattle.esc_desk.proofs.PlanLemmas.{deposits_count, deposits_more}
 use Rattle.esc_desk.proofs.moves.apply_held.Goals as goal
@@ -48,12 +48,12 @@ loop-step-preserved g c =
       left = λ bodies hand. made.left bodies (now.left bodies hand);
       counted = one_more_count _ _ _ c.loop-step.writes c.in_ok-more.more _ now.counted made.counted c.saturating_add-writes.ensures;
       number = λ clean before k hand rest.
-          one_more_sum (deposits_of reading k.bodies (rows_in (take i steps))) _ _ _ _ _ (deposits_more (f k.bodies) steps i _ c.loop-step-test.true)
+          one_more_sum (deposits_of reading k.bodies (rows_in_steps (take i steps))) _ _ _ _ _ (deposits_more (f k.bodies) steps i _ c.loop-step-test.true)
           (now.number (was_clean made.follows.goes_on.survives clean) before k hand rest)
           (made.number clean before k (now.left k.bodies hand) (now.follows.rest before k rest))
           c.saturating_add-writes.ensures;
       applied = λ clean before k held len hand rest stood.
-          let ds = deposits_of reading k.bodies (rows_in (take i steps)) in
+          let ds = deposits_of reading k.bodies (rows_in_steps (take i steps)) in
           let so_far = now.applied (was_clean made.follows.goes_on.survives clean) before k held len hand rest stood in
           let at = next_step held ds c.args.front i c.loop-step.pos len (deposits_count (f k.bodies) steps i (omega arith)) now.at in
           let longer = made.applied clean before k (held ++ ds) at (now.left k.bodies hand) (now.follows.rest before k rest) so_far in

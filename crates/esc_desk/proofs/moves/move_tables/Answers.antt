@@ -10,7 +10,7 @@ use Rattle.esc_apply.specs.Registry.{saturated}
 use Rattle.esc_apply.specs.Tables.{mention_count}
 use Rattle.esc_store.specs.Representation.{HasMadeTables}
 use Rattle.esc_store.specs.StandingLaws.{was_clean}
-use Rattle.esc_events.specs.Plans.{deposits_past, front_of, rows_in}
+use Rattle.esc_events.specs.Plans.{deposits_past, front_of, rows_in_steps}
 use Rattle.esc_events.specs.StateAfter.{deposits_of}
 use Rattle.esc_desk.proofs.moves.move_tables.Goals as goal
 
@@ -29,7 +29,7 @@ returns-clause-moved g c = λ clean before k held len hand rest stood.
     let back = c.in_ok-back.ensures.gone (was_clean forth.follows.goes_on.survives clean) held (len ∙ steps) stood in
     let moved = forth.applied clean before k (take front held) (length_front held front _ len within) hand (c.in_ok-back.ensures.follows.rest before k rest) back.0 in
     subst (λ (ds : List DepositValue). HasMadeTables g.S.Store c.apply_held.new.change (chain_state ds))
-    (ap₂ (λ (n : ℕ) (l : List Step). take n held ++ deposits_of reading k.bodies (rows_in l)) fronts past) moved
+    (ap₂ (λ (n : ℕ) (l : List Step). take n held ++ deposits_of reading k.bodies (rows_in_steps l)) fronts past) moved
 
 pub returns-clause-cost : goal.returns-clause-cost
 returns-clause-cost g c = λ clean before k held len hand rest stood room.
@@ -42,7 +42,7 @@ returns-clause-cost g c = λ clean before k held len hand rest stood room.
     let back = c.in_ok-back.ensures.gone (was_clean forth.follows.goes_on.survives clean) held (len ∙ steps) stood in
     let ds = deposits_past plan k.bodies in
     let number : c.in_ok-forth.forth ≡ saturated (sum_by mention_count ds) =
-    forth.number clean before k hand (c.in_ok-back.ensures.follows.rest before k rest) ∙ ap (λ (l : List Step). saturated (sum_by mention_count (deposits_of reading k.bodies (rows_in l)))) past in
+    forth.number clean before k hand (c.in_ok-back.ensures.follows.rest before k rest) ∙ ap (λ (l : List Step). saturated (sum_by mention_count (deposits_of reading k.bodies (rows_in_steps l)))) past in
     let applied = ap length past ∙ length-drop (front_of plan) plan.new.items in
     let writes = ap (λ (f : ℕ). sum_by mention_count (undone_of held f) + sum_by mention_count ds) fronts in
     c.work_of.ensures.exact held ds back.1 number room ∙ (λ i. work_of (sym steps i) (fronts i) (applied i) (writes i))

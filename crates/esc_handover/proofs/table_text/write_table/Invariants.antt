@@ -3,7 +3,7 @@ use Rattle.std.specs.Io.KnownBytes.{Appends}
 use Rattle.std.specs.List.{flat_map}
 use Rattle.esc_apply.specs.ObjectStreams.{Entry}
 use Rattle.esc_csv.specs.Lines.{text_of}
-use Rattle.esc_handover.specs.Layouts.{object_lines, table_text}
+use Rattle.esc_handover.specs.Layouts.{entry_lines, table_csv}
 use Rattle.esc_handover.proofs.table_text.write_table.Given as goal
 
 -- what is written, with the lines of the objects that are left, is the whole
@@ -15,7 +15,7 @@ invariant-loop-heading g l =
       written : objects.is_honest l.objects → (es : List Entry) → objects.lists l.fn.objects es
           → (left : List Entry) × objects.lists l.objects left
           × ((text : List _) × Appends (g.W.Write.contents l.fn.output) (g.W.Write.contents l.output) text
-          × (text ++ text_of (flat_map (object_lines l.layout) left) ≡ table_text l.layout es));
+          × (text ++ text_of (flat_map (entry_lines l.layout) left) ≡ table_csv l.layout es));
     }
 
 abbrev pub decreases-loop-heading : goal.decreases-loop-heading

@@ -4,23 +4,24 @@ use Rattle.std.proofs.lemmas.Result.{IfOk-weaker}
 use Rattle.esc_http.specs.declared.request_plan.RequestPlan.{RequestPlan}
 use Rattle.esc_http.specs.declared.request_plan.RequestPlan.TheVariants.{Put}
 use Rattle.esc_http.specs.RequestPlans.{plan_of_head}
-use Rattle.esc_http.specs.Answering.{refused, wants, with_body, IsUndecided}
+use Rattle.esc_http.specs.Answering.{refused, wants, request_with_body, IsUndecided}
 use Rattle.esc_request.specs.Head.{HasHead}
-use Rattle.esc_request.specs.PieceLaws.{nothing_read}
+use Rattle.esc_request.specs.PieceLaws.{read_no_piece}
 use Rattle.esc_http.proofs.AnswerLemmas.{text_is, always, same_request, memory_answers_some, undecided}
 use Rattle.esc_http.proofs.answer.answer_head.Goals as goal
 
 pub returns-in-Refuse-clause-answers : goal.returns-in-Refuse-clause-answers
 returns-in-Refuse-clause-answers g c = λ h at. (
   refused c.in-Refuse.refusal,
-  always _ _ (λ rest. ap (λ (p : RequestPlan). with_body p rest) (c.in-Refuse.ensures h at)),
+  always _ _
+      (λ rest. ap (λ (p : RequestPlan). request_with_body p rest) (c.in-Refuse.ensures h at)),
   (refl, text_is _ c.refusal_response.result c.refusal_response.ensures.text),
 )
 
 pub returns-in-Get-clause-answers : goal.returns-in-Get-clause-answers
 returns-in-Get-clause-answers g c = λ h at. (
   wants c.in-Get.report,
-  always _ _ (λ rest. ap (λ (p : RequestPlan). with_body p rest) (c.in-Get.ensures h at)),
+  always _ _ (λ rest. ap (λ (p : RequestPlan). request_with_body p rest) (c.in-Get.ensures h at)),
   c.answer_report.ensures.answers,
 )
 
@@ -36,13 +37,13 @@ pub returns-in_default-clause-answers : goal.returns-in_default-clause-answers
 returns-in_default-clause-answers g c = λ h at. memory_answers_some g.S.Store c.args.desk.now _ (plan_of_head h)
 
 pub returns-in-Refuse-clause-unread : goal.returns-in-Refuse-clause-unread
-returns-in-Refuse-clause-unread g c = (_, nothing_read IsUndecided _ c.args.bytes.now)
+returns-in-Refuse-clause-unread g c = (_, read_no_piece IsUndecided _ c.args.bytes.now)
 
 pub returns-in-Get-clause-unread : goal.returns-in-Get-clause-unread
-returns-in-Get-clause-unread g c = (_, nothing_read IsUndecided _ c.args.bytes.now)
+returns-in-Get-clause-unread g c = (_, read_no_piece IsUndecided _ c.args.bytes.now)
 
 pub returns-in_default-clause-unread : goal.returns-in_default-clause-unread
-returns-in_default-clause-unread g c = (_, nothing_read IsUndecided _ c.args.bytes.now)
+returns-in_default-clause-unread g c = (_, read_no_piece IsUndecided _ c.args.bytes.now)
 
 pub returns-clause-unread : goal.returns-clause-unread
 returns-clause-unread g c =

@@ -1,12 +1,12 @@
 use Rattle.std.proofs.Common.{◌≡◌, ◌≤◌, ◌+◌, ◌++◌, length}
-use Rattle.esc_manifest.specs.RowFaults.{most_rows}
+use Rattle.esc_manifest.specs.RowFaults.{most_manifest_rows}
 use Rattle.esc_manifest.proofs.records.push_all.Given as goal
 
 -- the records so far, and those that are left, are all
 abbrev pub invariant-loop-fields : goal.invariant-loop-fields
 invariant-loop-fields l = record {
   read : l.records.items ++ l.unread ≡ l.fn.records.items ++ l.fn.unread;
-  few : length l.records.items ≤ most_rows + 1;
+  few : length l.records.items ≤ most_manifest_rows + 1;
 }
 
 abbrev pub decreases-loop-fields : goal.decreases-loop-fields

@@ -3,7 +3,7 @@ use Rattle.std.specs.Prelude.{◌&&◌, ◌==◌}
 use Rattle.std.specs.List.{list_all, zip}
 use Rattle.std.proofs.lemmas.List.{length-map}
 use Rattle.esc_envelope.specs.EnvelopeValue.{TableValue}
-use Rattle.esc_pack.specs.KnownFields.{is_named}
+use Rattle.esc_pack.specs.KnownFields.{names_field}
 use Rattle.esc_pack.proofs.table_text.is_heading.Goals as goal
 
 -- a test of pairs sees what contracts see of both
@@ -18,7 +18,7 @@ pub returns : goal.returns
 returns c =
     let names = c.deref-2.result.now in
     let texts = c.deref-3.result.now in
-    let test = is_named c.deref.result.now in
+    let test = names_field c.deref.result.now in
     let name : c.deref.result.now ≡ c.args.table.now.name = c.deref.ensures ∙ ap (λ (t : TableValue). t.name) c.table.view_is in
     let row : map (λ (n : Bor (List ℕ)). n.now) names ≡ c.args.line.now =
     ap (map (λ (n : Bor (List ℕ)). n.now)) c.deref-2.ensures.value ∙ c.in_ok-names.ensures in
@@ -28,4 +28,4 @@ returns c =
     let many : length texts ≡ length (map string_bytes texts) = sym (length-map texts string_bytes) in
     c.are_all_named.ensures
     ∙ (λ k. (few k == many k) && seen test names texts k)
-    ∙ (λ k. (length (row k) == length (fields k)) && list_all (is_named (name k)) (zip (row k) (fields k)))
+    ∙ (λ k. (length (row k) == length (fields k)) && list_all (names_field (name k)) (zip (row k) (fields k)))

@@ -4,18 +4,18 @@ use Rattle.esc_csv.specs.Lines.{line_text}
 use Rattle.esc_envelope.specs.Watermark.{IsInYears}
 use Rattle.esc_manifest.specs.declared.row.MRow.{MRow}
 use Rattle.esc_manifest.specs.ManifestRows.{no_row}
-use Rattle.esc_pack.specs.Written.{row_line, rows_text, IsLegible}
+use Rattle.esc_pack.specs.Written.{manifest_line, rows_text, IsLegible}
 use Rattle.esc_pack.proofs.SectionFacts.{taken, All_next}
 use Rattle.esc_pack.proofs.written.write_rows.Goals as goal
 
 -- the line of the first row that is left has been written
 one_more : (old : List ℕ) {new whole : List ℕ} (rows : List MRow) {i : ℕ} {row : MRow} → i < length rows → row ≡ get_or rows i row
-    → new ≡ old ++ line_text (row_line row) → old ++ rows_text (drop i rows) ≡ whole
+    → new ≡ old ++ line_text (manifest_line row) → old ++ rows_text (drop i rows) ≡ whole
     → new ++ rows_text (drop (i + 1) rows) ≡ whole
 one_more old rows {i} {row} lt is wrote known =
     let later = drop (i + 1) rows in
     let left : drop i rows ≡ row ∷ later = drop_more rows i row lt ∙ ap (λ (r : MRow). r ∷ later) (sym is) in
-    ap (λ (text : List ℕ). text ++ rows_text later) wrote ∙ append_assoc old (line_text (row_line row)) (rows_text later)
+    ap (λ (text : List ℕ). text ++ rows_text later) wrote ∙ append_assoc old (line_text (manifest_line row)) (rows_text later)
     ∙ ap (λ (rs : List MRow). old ++ rows_text rs) (sym left) ∙ known
 
 pub write_row-requires : goal.write_row-requires

@@ -1,7 +1,7 @@
 use Rattle.std.proofs.Common.{◌≡◌, ℕ, List, length, take, min, subst, rules}
 use Rattle.std.specs.Io.KnownBytes.{Consumes, prepend_known}
 use Rattle.esc_request.specs.Body.{IsShorter}
-use Rattle.esc_request.specs.PieceLaws.{nothing_read}
+use Rattle.esc_request.specs.PieceLaws.{read_no_piece}
 use Rattle.esc_request.proofs.BodyLemmas.{whole_is, read_on}
 use Rattle.esc_request.proofs.body.read_body.Goals as goal
 
@@ -19,7 +19,8 @@ returns-then-branch-clause-body g c =
     whole_is _ _ front body c.min-here.result c.args.size here long took
 
 pub returns-in_default-clause-awaited : goal.returns-in_default-clause-awaited
-returns-in_default-clause-awaited g c = (_, nothing_read (IsShorter c.args.size) _ c.args.front.now)
+returns-in_default-clause-awaited g c =
+    (_, read_no_piece (IsShorter c.args.size) _ c.args.front.now)
 
 pub returns-in_err-fill_body-clause-awaited : goal.returns-in_err-fill_body-clause-awaited
 returns-in_err-fill_body-clause-awaited g c =

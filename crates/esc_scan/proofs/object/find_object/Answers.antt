@@ -3,7 +3,7 @@ use mir.Val.{SFits}
 use Rattle.std.proofs.lemmas.Int.{to_z-of_z}
 use Rattle.sqlite_trees.specs.Tree.{has_rowid}
 use Rattle.esc_sql.specs.StoreTable.{Objects}
-use Rattle.esc_sql.specs.Entries.{object_of}
+use Rattle.esc_sql.specs.Entries.{stored_entry}
 use Rattle.esc_sql.specs.Changes.{object_entry}
 use Rattle.esc_scan.specs.Scanning.{ReadsRow, ReadsFirst}
 use Rattle.esc_scan.proofs.Firsts.{object_is}
@@ -18,7 +18,7 @@ returns g c =
         quiet = c.read_at.ensures.quiet;
         only = λ clean. c.in_ok-found.ensures.only clean;
         said = λ clean k shows.
-            let first = subst (λ (z : ℤ). ReadsFirst (ReadsRow Objects object_of object_entry) (filter (has_rowid z) rows) c.in_ok-found.found) (to_z-of_z w64 c.args.id fits) (c.in_ok-found.ensures.reads clean) in
+            let first = subst (λ (z : ℤ). ReadsFirst (ReadsRow Objects stored_entry object_entry) (filter (has_rowid z) rows) c.in_ok-found.found) (to_z-of_z w64 c.args.id fits) (c.in_ok-found.ensures.reads clean) in
             object_is c.args.id k.objects c.in_ok-found.found rows (shows.tables Objects) first;
       };
     }

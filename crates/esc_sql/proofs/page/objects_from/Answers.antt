@@ -1,4 +1,4 @@
-use Rattle.esc_sql.proofs.Calls.{filter, map, take, ◌∙◌, take-map, sort_by, object_entry, by_key, is_kind_from, shown_entry, object_of, if_goes, reads_each, shown_object, read_then, lists_from}
+use Rattle.esc_sql.proofs.Calls.{filter, map, take, ◌∙◌, take-map, sort_by, object_entry, by_key, is_kind_from, shown_entry, stored_entry, if_goes, reads_each, shown_object, read_then, lists_from}
 use Rattle.esc_sql.proofs.page.objects_from.Goals as goal
 
 pub returns : goal.returns
@@ -6,6 +6,6 @@ returns g c = record {
   read = read_then c.in_ok-rows.ensures.read (λ db x h shows.
       let sorted = sort_by by_key (filter (is_kind_from c.args.kind c.args.from.now) x.objects) in
       if_goes c.read_rows.result _ _ c.read_rows.ensures (λ all are.
-      lists_from c.args.kind c.args.from.now db x h (map object_of all.items)
-      (reads_each shown_entry object_of object_entry (take 256 sorted) _ all.items are (c.deref.ensures.value ∙ shows ∙ take-map shown_object 256 sorted))));
+      lists_from c.args.kind c.args.from.now db x h (map stored_entry all.items)
+      (reads_each shown_entry stored_entry object_entry (take 256 sorted) _ all.items are (c.deref.ensures.value ∙ shows ∙ take-map shown_object 256 sorted))));
 }

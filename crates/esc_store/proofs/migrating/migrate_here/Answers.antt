@@ -1,6 +1,6 @@
 use Rattle.esc_store.proofs.Common.{state}
 use Rattle.esc_store.proofs.Ends.{survives_first}
-use Rattle.esc_sql.specs.FirstVersion.{first_content_in, IsFirstStore as HasFirstTables}
+use Rattle.esc_sql.specs.FirstVersion.{first_content_in, AreFirstTrees}
 use Rattle.esc_store.specs.FirstVersion.{IsFirstStore}
 use Rattle.esc_store.proofs.OpeningLemmas.{sees_committed, at_rest, tables_refused}
 use Rattle.esc_store.proofs.migrating.migrate_here.Goals as goal
@@ -22,4 +22,4 @@ pub returns-then-not-has_first_tables-clause-never : goal.returns-then-not-has_f
 unfolding IsFirstStore
 returns-then-not-has_first_tables-clause-never g c = λ is clean up k stored.
     let settled = at_rest c.is_autocommit.ensures.value c.is_autocommit.ensures.settled c.if-not-is_autocommit.false in
-    tables_refused HasFirstTables first_content_in c.has_first_tables.ensures.found (settled.1 up) c.if-not-has_first_tables.true up stored.tables
+    tables_refused AreFirstTrees first_content_in c.has_first_tables.ensures.found (settled.1 up) c.if-not-has_first_tables.true up stored.tables

@@ -1,4 +1,4 @@
-use Rattle.esc_store.proofs.Common.{◌∙◌, ap, sym, subst, map, IfOk-at_ok, if_goes, IsStoreDatabase, was_clean, if_ok, stored_listed as listed_row}
+use Rattle.esc_store.proofs.Common.{◌∙◌, ap, sym, subst, map, IfOk-at_ok, if_goes, IsStoreDatabase, was_clean, if_ok, listed_row}
 use Rattle.esc_store.proofs.Ends.{tables_of}
 use Rattle.esc_store.proofs.migrating.read_upgraded.Goals as goal
 

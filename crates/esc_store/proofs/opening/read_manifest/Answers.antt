@@ -1,4 +1,4 @@
-use Rattle.esc_store.proofs.Common.{◌∙◌, ap, sym, subst, map, IfOk-at_ok, IsStoreDatabase, if_goes, was_clean, stored_listed as listed_row}
+use Rattle.esc_store.proofs.Common.{◌∙◌, ap, sym, subst, map, IfOk-at_ok, IsStoreDatabase, if_goes, was_clean, listed_row}
 use Rattle.std.proofs.Common.{rules}
 use Rattle.esc_store.proofs.Ends.{tables_of}
 use Rattle.esc_store.proofs.OpeningLemmas.{if_err_is}

@@ -1,7 +1,8 @@
-use Rattle.esc_store.proofs.Common.{◌∙◌, ap, map, if_goes, stored_listed as listed_row}
+use Rattle.esc_store.proofs.Common.{◌∙◌, ap, map, if_goes, listed_row}
 use Rattle.std.proofs.Common.{rules}
 use Rattle.esc_store.proofs.OpeningLemmas.{if_err_is}
-use Rattle.esc_store.proofs.Readers.{on_any, scan_after, scan_then, was_honest}
+use Rattle.esc_store.proofs.Readers.{scan_after, scan_then, was_honest}
+use Rattle.esc_store.specs.ResultLaws.{on_any}
 use Rattle.esc_store.proofs.reader.read_manifest.Goals as goal
 
 pub returns-clause-read : goal.returns-clause-read

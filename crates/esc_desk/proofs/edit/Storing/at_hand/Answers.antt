@@ -5,7 +5,7 @@ use Rattle.esc_store.specs.StoreState.{StoreState, with_body}
 use Rattle.esc_events.specs.StateAfter.{deposit_of, or_no_deposit}
 use Rattle.esc_desk.specs.declared.edit.AtHand.{AtHand}
 use Rattle.esc_desk.specs.declared.edit.Storing.{Storing}
-use Rattle.esc_desk.specs.Edits.{stored, IsAtHand, IsRead}
+use Rattle.esc_desk.specs.Edits.{stored, IsAtHand, HasItsDeposit}
 use Rattle.esc_desk.proofs.KnownRows.{put_at}
 use Rattle.esc_desk.proofs.edit.Storing.at_hand.Goals as goal
 
@@ -16,4 +16,4 @@ of_row k row body d read = sym (ap (deposit_of reading) (put_at k.bodies row bod
 pub returns-in-Hold : goal.returns-in-Hold
 returns-in-Hold c =
     let at : AtHand = record { row = c.in-Hold.row; deposit = Some c.in-Hold.deposit } in
-    subst (λ (s : Storing). IsRead s → (k : StoreState) → IsAtHand at (stored s k).bodies) (sym c.in-Hold.is) (λ read k. of_row k c.in-Hold.row _ c.in-Hold.deposit read)
+    subst (λ (s : Storing). HasItsDeposit s → (k : StoreState) → IsAtHand at (stored s k).bodies) (sym c.in-Hold.is) (λ read k. of_row k c.in-Hold.row _ c.in-Hold.deposit read)

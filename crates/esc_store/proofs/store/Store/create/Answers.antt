@@ -1,4 +1,4 @@
-use Rattle.esc_store.proofs.Common.{survives_same, ◌∙◌, ap, map, stored_listed as listed_row, Represents, LeavesOnly, LeavesOr}
+use Rattle.esc_store.proofs.Common.{survives_same, ◌∙◌, ap, map, listed_row, Represents, LeavesOnly, LeavesOr}
 use Rattle.std.proofs.Common.{rules}
 use Rattle.esc_store.proofs.store.Store.create.Goals as goal
 

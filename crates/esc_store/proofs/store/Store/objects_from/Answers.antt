@@ -1,4 +1,4 @@
-use Rattle.esc_store.proofs.Common.{sym, ap, map, ◌∙◌, object_of, if_goes, stored_row}
+use Rattle.esc_store.proofs.Common.{sym, ap, map, ◌∙◌, stored_entry, if_goes, record_row}
 use Rattle.sqlite_keyed.proofs.ListLemmas.{map-map}
 use Rattle.esc_store.proofs.Paging.{page_is, page_short}
 use Rattle.esc_store.proofs.Sure.{told_of}
@@ -7,11 +7,11 @@ use Rattle.esc_store.proofs.store.Store.objects_from.Goals as goal
 pub returns-clause-page : goal.returns-clause-page
 returns-clause-page g c = λ honest k stands. if_goes c.entries_of.result _ _ c.entries_of.ensures.entries (λ page same.
     let told = told_of c.in_ok-stored.ensures.read honest k stands in
-    page_is c.no_record_begins_another.ensures k.registry told.content c.args.kind c.args.from.now (map object_of c.in_ok-stored.stored.items) page.items told.registry (rw (← c.kind_number.ensures) told.says)
-    (same ∙ ap (map (λ it. stored_row (object_of it))) c.as_slice.ensures.value ∙ sym (map-map stored_row object_of c.in_ok-stored.stored.items)))
+    page_is c.no_record_begins_another.ensures k.registry told.content c.args.kind c.args.from.now (map stored_entry c.in_ok-stored.stored.items) page.items told.registry (rw (← c.kind_number.ensures) told.says)
+    (same ∙ ap (map (λ it. record_row (stored_entry it))) c.as_slice.ensures.value ∙ sym (map-map record_row stored_entry c.in_ok-stored.stored.items)))
 
 pub returns-clause-few : goal.returns-clause-few
 returns-clause-few g c = λ honest k stands. if_goes c.entries_of.result _ _ c.entries_of.ensures.entries (λ page same.
     let told = told_of c.in_ok-stored.ensures.read honest k stands in
-    page_short told.content c.args.kind c.args.from.now (map object_of c.in_ok-stored.stored.items) page.items (rw (← c.kind_number.ensures) told.says)
-    (same ∙ ap (map (λ it. stored_row (object_of it))) c.as_slice.ensures.value ∙ sym (map-map stored_row object_of c.in_ok-stored.stored.items)))
+    page_short told.content c.args.kind c.args.from.now (map stored_entry c.in_ok-stored.stored.items) page.items (rw (← c.kind_number.ensures) told.says)
+    (same ∙ ap (map (λ it. record_row (stored_entry it))) c.as_slice.ensures.value ∙ sym (map-map record_row stored_entry c.in_ok-stored.stored.items)))
