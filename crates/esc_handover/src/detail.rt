@@ -7,6 +7,7 @@ use crate::seen::Seen;
 use crate::test::Test;
 use esc_bundle::NoMemory;
 use esc_chain::GapLine;
+use esc_cli::OneLine;
 use esc_envelope::{Kind, Place, watermark_text};
 use std::alloc::Global;
 
@@ -37,20 +38,10 @@ pub(crate) fn moment_words(alloc: Global, moment: i64) -> Result<String, NoMemor
 /// A text of a deposit on one line: if it has control characters, these are written as Rust escapes
 /// them, and so are its backslashes.
 pub(crate) fn one_line(alloc: Global, text: &str) -> Result<String, NoMemory> {
-    if !text.chars().any(char::is_control) {
-        return Ok(String::from_str(alloc, text)?);
+    if text.is_empty() {
+        return Ok(String::new(alloc));
     }
-    let mut words = String::new(alloc);
-    for letter in text.chars() {
-        if letter.is_control() || letter == '\\' {
-            let escape = letter.escape_default();
-            let spelled = format!(in alloc; "{escape}")?;
-            words.push_str(spelled.as_str())?;
-        } else {
-            words.push(letter)?;
-        }
-    }
-    Ok(words)
+    Ok(format!(in alloc; "{}", OneLine(text))?)
 }
 
 fn place_words(alloc: Global, place: Place) -> Result<String, NoMemory> {

@@ -26,6 +26,14 @@
 //! little memory. `text_in` gives the text of a field in a row, and `repeated` finds names that are
 //! the same but for case. `digest_of` is the SHA-256 of what a reader gives.
 //!
+//! What `handover` does without its desk is here, too. [`Told`] is what a desk and the bodies of
+//! its store say: `gaps_of`, `read_findings`, `read_bodies` and `are_made_by` find it, and
+//! `made_of` makes the lines or the page of it. `bundle_or_stop` gives the bundle, and `place_file`
+//! writes a file in one step. `check_layouts` says whether tables can be files; then
+//! `write_table_file` and a [`Database`] write them to a [`NewFolder`], with their sums. A
+//! [`Progress`] tells on standard error how far that is, where it takes long. A [`Stop`] says what
+//! all of this stops for, in a line and a status.
+//!
 //! ```text
 //! let tables = desk.tables(alloc)?;
 //! let body = bundle_of(alloc, "F20", end.watermark, &tables)?;   // the next deposit
@@ -68,43 +76,71 @@
 //! in which they first come) and the text of each (`table_csv`). An absent field is an empty text,
 //! as one that is there and empty. `tables_are_read_back` is a law: the text reads as its heading
 //! and its rows.
+//!
+//! Of what touches files, a store or standard error it is proved that no call is unsafe and that
+//! each ends: no contract can say what a file holds or what is printed, so that is tested on the
+//! built program. `gaps_of` gives the lines of `esc_chain`.
 #![tactic(auto)]
 
 mod acceptance;
 mod apart;
 mod bundle;
+mod chain;
+mod database;
 mod detail;
 mod draft;
+mod files;
+mod folder;
+mod gaps;
 mod gathering;
 mod guide;
 mod guides;
 mod laws;
 mod layout;
+mod layout_check;
 mod line;
 mod page;
+mod progress;
+mod reading;
 mod rebuild;
 mod refusal;
+mod registry_bundle;
 mod same;
 mod seen;
+mod stop;
 mod sums;
+mod table_file;
 mod table_name;
 mod table_text;
 mod test;
+mod told;
 mod writing_fault;
 
 pub use acceptance::{is_accepted, passes};
 pub use apart::repeated;
 pub use bundle::bundle_of;
+pub use chain::ChainFacts;
+pub use database::Database;
+pub use files::{place_file, unopened_stop};
+pub use folder::{NewFolder, check_place};
+pub use gaps::gaps_of;
 pub use guide::Guide;
 pub use laws::{full_bundle_restores_its_tables, moments_stand_in_order, tables_are_read_back};
 pub use layout::{Layout, layouts_from};
+pub use layout_check::check_layouts;
 pub use line::{Line, lines_of};
 pub use page::page_of;
+pub use progress::Progress;
+pub use reading::{are_made_by, read_findings, read_layouts, read_table_names};
 pub use rebuild::{apply_deposit, are_listed};
 pub use refusal::BundleRefusal;
+pub use registry_bundle::{bundle_or_stop, check_object_count};
 pub use seen::Seen;
+pub use stop::{REFUSED, Stop, or_stop, tell_stop};
 pub use sums::digest_of;
+pub use table_file::write_table_file;
 pub use table_name::{TableName, table_names_from};
 pub use table_text::{text_in, write_table};
 pub use test::Test;
+pub use told::{Form, Made, Told, entries_of, made_of, read_bodies};
 pub use writing_fault::WritingFault;

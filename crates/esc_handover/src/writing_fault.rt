@@ -7,6 +7,7 @@ ghost use Rattle.esc_handover.specs.declared.writing_fault.WritingFault.TheVaria
 };
 
 use esc_bundle::NoMemory;
+use sqlite::ErrorCode;
 use std::io;
 
 /// Why a table was not written.
@@ -33,5 +34,14 @@ impl<E> From<io::Error> for WritingFault<E> {
 
     fn from(error: io::Error) -> WritingFault<E> {
         WritingFault::Output(error)
+    }
+}
+
+impl<E> From<sqlite::Error> for WritingFault<E> {
+    fn from(error: sqlite::Error) -> WritingFault<E> {
+        match error {
+            sqlite::Error::SqliteFailure(ErrorCode::OutOfMemory) => WritingFault::NoMemory,
+            _ => WritingFault::Output(io::Error::from(io::ErrorKind::Other)),
+        }
     }
 }

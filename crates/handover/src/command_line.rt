@@ -2,13 +2,12 @@
 
 use crate::bundle::{Bundling, write_bundle};
 use crate::page::{Paging, write_page};
-use crate::stop::{Stop, tell_stop};
 use crate::store_file::{Task, use_store};
 use crate::tables::{Tabling, write_tables};
 use clap::builder::ValueParser;
 use clap::{ArgMatches, Error};
-use esc_arguments::or_stop;
 use esc_cli::{Argument, ArgumentForm, DONE, Program, Subcommand, USAGE, print_answer};
+use esc_handover::{Stop, or_stop, tell_stop};
 use std::io::Write;
 
 /// The version of the program, and that of the stores that it opens.
@@ -288,6 +287,6 @@ fn tables_command<'a>(
 fn tell_error<O: Write, E: Write>(rt: &HostRuntime, error: &Error, out: &mut O, err: &mut E) -> u8 {
     match or_stop(rt, "-", print_answer(rt.alloc(), error, out, err)) {
         Ok(status) => status,
-        Err(stop) => tell_stop(rt, err, &Stop::from(stop)),
+        Err(stop) => tell_stop(rt, err, &stop),
     }
 }

@@ -31,36 +31,28 @@
 //! | `command_line` | the table of the commands and its texts; from the words to the status |
 //! | `store_file` | opens the store in a file, and closes it |
 //! | `bundle` | `bundle`: the tables as one deposit |
-//! | `check` | `check`: what a desk says of its store, and the lines of the acceptance |
+//! | `check` | `check` and `page`: what is seen of a store |
 //! | `page` | `page`: a store as a page |
-//! | `chain` | `check`: what the bodies of a store say |
-//! | `files` | writes a file in one step |
 //! | `tables` | `tables`: the tables as files |
-//! | `database` | `tables`: the tables as those of a database |
-//! | `folder` | makes a folder beside its place, and puts it there when it is whole |
-//! | `progress` | tells how far the work is |
-//! | `stop` | why the program stops, the text of that and the status |
+//!
+//! What needs no desk is in [`esc_handover`]: what the bodies of a store say, texts and pages, how
+//! files, folders and a database are written, how it is told how far the work is, and what the
+//! program stops for.
 //!
 //! By proof: that no call is unsafe and that each ends, whatever the words and files are.
 #![tactic(auto)]
 
 mod bundle;
-mod chain;
 mod check;
 mod command_line;
-mod database;
-mod files;
-mod folder;
 mod page;
-mod progress;
-mod stop;
 mod store_file;
 mod tables;
 
 use command_line::run_words;
 use esc_cli::{given_words, print_invalid_utf8};
+use esc_handover::{Stop, tell_stop};
 use std::process::ExitCode;
-use stop::{Stop, tell_stop};
 
 fn main(rt: HostRuntime) -> ExitCode {
     ExitCode::from(run(&rt))

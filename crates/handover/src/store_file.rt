@@ -1,12 +1,10 @@
 //! The store in a file: how it is opened and left, and what is done with its desk in between.
 
 use crate::bundle::tables_bundle;
-use crate::check::{Form, acceptance};
-use crate::progress::Progress;
-use crate::stop::Stop;
+use crate::check::acceptance;
 use crate::tables::{Tabling, desk_tables};
-use esc_arguments::check_access;
-use esc_desk::{Desk, SFault};
+use esc_desk::Desk;
+use esc_handover::{Form, Made, Progress, Stop, unopened_stop};
 use esc_recovery::{PathFault, close_desk, open_desk_at};
 use sqlite::{Alter, Unknown};
 use std::alloc::Global;
@@ -22,13 +20,6 @@ pub enum Task<'a> {
     Tables(Tabling<'a>),
     /// A page that shows it.
     Page,
-}
-
-/// What was made of a store: a text, and the program's status.
-#[derive(Drop)]
-pub struct Made {
-    pub text: Vec<u8>,
-    pub status: u8,
 }
 
 /// Does a task with the store in a file, and tells how far it is if that is asked for. What stops
@@ -50,7 +41,7 @@ pub fn use_store(
     let made = made?;
     match closed {
         Ok(_files) => Ok(made),
-        Err(fault) => Err(Stop::from(fault)),
+        Err(fault) => Err(Stop::Store(fault)),
     }
 }
 
@@ -76,14 +67,10 @@ fn use_desk<S: Alter>(
     }
 }
 
-// Why there is no desk: `E1` if the system doesn't let the file be read and written, else the
-// store's fault.
+// Why there is no desk: the store's fault, or the system's.
 fn stop_of(rt: &HostRuntime, path: &str, fault: PathFault) -> Stop {
     match fault {
-        PathFault::Store(fault) => Stop::from(fault),
-        PathFault::Unopened => match check_access(rt, path) {
-            Ok(()) => Stop::from(SFault::S1),
-            Err(stop) => Stop::from(stop),
-        },
+        PathFault::Store(fault) => Stop::Store(fault),
+        PathFault::Unopened => unopened_stop(rt, path),
     }
 }

@@ -1,14 +1,16 @@
 //! A folder that is made beside its place, and put there when it is whole.
 
 use crate::files::write_new;
-use crate::stop::Stop;
-use esc_arguments::or_stop;
+use crate::stop::{Stop, or_stop};
+use crate::sums::digest_of;
+use crate::writing_fault::WritingFault;
 use esc_cli::path_in;
-use esc_handover::digest_of;
+use esc_store::SFault;
+use std::alloc::Global;
 use std::fs::{self, File};
 use std::io::{Error, ErrorKind};
 
-/// A folder beside its place.
+/// A folder beside its place, and the sums of its files.
 #[derive(Drop)]
 pub struct NewFolder<'a> {
     rt: &'a HostRuntime,
@@ -16,6 +18,8 @@ pub struct NewFolder<'a> {
     place: &'a str,
     // Where it is until then.
     beside: String,
+    // A line for each file that was summed.
+    sums: String,
 }
 
 // Whether a folder has nothing in it.
@@ -52,7 +56,7 @@ fn trimmed(path: &str) -> &str {
 
 /// `E1` unless there is nothing at a path, or a folder with nothing in it.
 pub fn check_place(rt: &HostRuntime, place: &str) -> Result<(), Stop> {
-    Ok(or_stop(rt, place, find_room(rt, trimmed(place)))?)
+    or_stop(rt, place, find_room(rt, trimmed(place)))
 }
 
 impl<'a> NewFolder<'a> {
@@ -62,40 +66,75 @@ impl<'a> NewFolder<'a> {
         let path = trimmed(place);
         let beside = format!(in rt.alloc(); "{path}.part")?;
         match fs::create_dir(rt, beside.as_str()) {
-            Ok(()) => Ok(NewFolder { rt, place, beside }),
+            Ok(()) => Ok(NewFolder {
+                rt,
+                place,
+                beside,
+                sums: String::new(rt.alloc()),
+            }),
             Err(error) if error.kind() == ErrorKind::AlreadyExists => {
-                Ok(or_stop(rt, beside.as_str(), Err(error))?)
+                or_stop(rt, beside.as_str(), Err(error))
             }
-            Err(error) => Ok(or_stop(rt, place, Err(error))?),
+            Err(error) => or_stop(rt, place, Err(error)),
         }
     }
 
+    pub(crate) fn rt(&self) -> &'a HostRuntime {
+        self.rt
+    }
+
+    pub(crate) fn alloc(&self) -> Global {
+        self.rt.alloc()
+    }
+
     /// The path of a file in it.
-    pub fn path_of(&self, name: &str) -> Result<String, Stop> {
+    pub(crate) fn path_of(&self, name: &str) -> Result<String, Stop> {
         Ok(path_in(self.rt.alloc(), self.beside.as_str(), name)?)
     }
 
     /// A new file in it, to be written.
-    pub fn create_file(&self, name: &str) -> Result<File, Stop> {
+    pub(crate) fn create_file(&self, name: &str) -> Result<File, Stop> {
         let path = self.path_of(name)?;
         self.or_stop(File::create_new(self.rt, path.as_str()))
     }
 
-    /// Writes a new file in it.
-    pub fn write(&self, name: &str, bytes: &[u8]) -> Result<(), Stop> {
-        let file = self.create_file(name)?;
-        self.or_stop(write_new(file, bytes))
+    /// Adds the line of a file in it: its SHA-256 and its name, as `sha256sum -c` reads them.
+    pub(crate) fn add_sum(&mut self, name: &str) -> Result<(), Stop> {
+        let digest = self.digest(name)?;
+        let digest = hex::encode(self.rt.alloc(), &digest)?;
+        let line = format!(in self.rt.alloc(); "{digest}  {name}\n")?;
+        self.sums.push_str(line.as_str())?;
+        Ok(())
     }
 
-    /// The SHA-256 of a file in it.
-    pub fn digest(&self, name: &str) -> Result<[u8; 32], Stop> {
+    // The SHA-256 of a file in it.
+    fn digest(&self, name: &str) -> Result<[u8; 32], Stop> {
         let path = self.path_of(name)?;
         self.or_stop(digest_at(self.rt, path.as_str()))
     }
 
+    /// Writes the file of the sums.
+    pub fn write_sums(&self) -> Result<(), Stop> {
+        let file = self.create_file("sha256sums")?;
+        self.or_stop(write_new(file, self.sums.as_bytes()))
+    }
+
     /// What came of a file in it, or the stop at its place.
-    pub fn or_stop<T>(&self, found: Result<T, Error>) -> Result<T, Stop> {
-        Ok(or_stop(self.rt, self.place, found)?)
+    pub(crate) fn or_stop<T>(&self, found: Result<T, Error>) -> Result<T, Stop> {
+        or_stop(self.rt, self.place, found)
+    }
+
+    /// What came of a table in it, or the stop for that.
+    pub(crate) fn or_stop_writing<T>(
+        &self,
+        written: Result<T, WritingFault<SFault>>,
+    ) -> Result<T, Stop> {
+        match written {
+            Ok(value) => Ok(value),
+            Err(WritingFault::Source(fault)) => Err(Stop::Store(fault)),
+            Err(WritingFault::Output(error)) => self.or_stop(Err(error)),
+            Err(WritingFault::NoMemory) => Err(Stop::NO_MEMORY),
+        }
     }
 
     /// Puts it in its place, if all that belongs in it was written; else removes it.

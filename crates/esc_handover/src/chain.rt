@@ -1,12 +1,11 @@
 //! What the bodies of a store say: whether they are as listed, and what those of the chain make.
 
 use crate::progress::Progress;
+use crate::rebuild::apply_deposit;
 use esc_bundle::Fault;
-use esc_desk::SFault;
 use esc_envelope::{Envelope, Table};
-use esc_handover::apply_deposit;
 use esc_manifest::MRow;
-use esc_store::Store;
+use esc_store::{SFault, Store};
 use esc_tables::{Key, Object, read_bundled_envelope, read_deposit};
 use sha2::{Digest, Sha256};
 use sqlite::Alter;
@@ -52,7 +51,7 @@ fn is_as_listed<S: Alter>(alloc: Global, store: &mut Store<S>, row: usize) -> Re
 
 /// The rows among these whose body isn't there, or has another SHA-256 than listed. The bodies are
 /// read one at a time.
-pub fn spoiled_rows<S: Alter>(
+pub(crate) fn spoiled_rows<S: Alter>(
     alloc: Global,
     store: &mut Store<S>,
     held: &[usize],
@@ -68,18 +67,13 @@ pub fn spoiled_rows<S: Alter>(
     Ok(spoiled)
 }
 
-/// What the deposits of a store's chain say. The bodies are read one at a time.
-pub fn read_chain<S: Alter>(
+/// Adds what the deposits of a store's chain say. The bodies are read one at a time.
+pub(crate) fn read_chain<S: Alter>(
     alloc: Global,
     store: &mut Store<S>,
+    facts: &mut ChainFacts,
     progress: &mut Progress<'_>,
-) -> Result<ChainFacts, SFault> {
-    let mut facts = ChainFacts {
-        objects: BTreeMap::new(alloc),
-        tables: Vec::new(alloc),
-        orphans: 0,
-        are_read: true,
-    };
+) -> Result<(), SFault> {
     let steps = store.chain(alloc)?;
     for (count, step) in steps.iter().enumerate() {
         progress.tell_read("tables", count as u64, "bodies");
@@ -88,10 +82,20 @@ pub fn read_chain<S: Alter>(
             None => facts.are_read = false,
         }
     }
-    Ok(facts)
+    Ok(())
 }
 
 impl ChainFacts {
+    /// What no deposits say.
+    pub(crate) fn new(alloc: Global) -> ChainFacts {
+        ChainFacts {
+            objects: BTreeMap::new(alloc),
+            tables: Vec::new(alloc),
+            orphans: 0,
+            are_read: true,
+        }
+    }
+
     // Adds what the next body of the chain says.
     fn add(&mut self, alloc: Global, body: &[u8]) -> Result<(), SFault> {
         match self.add_deposit(alloc, body) {

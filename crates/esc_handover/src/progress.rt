@@ -23,6 +23,7 @@ pub struct Progress<'a> {
 }
 
 impl<'a> Progress<'a> {
+    /// What tells how far the work is if `is_asked`, and else tells nothing.
     pub fn new(rt: &'a HostRuntime, is_asked: bool) -> Progress<'a> {
         let told = if is_asked {
             Instant::now(rt).ok()
@@ -41,7 +42,7 @@ impl<'a> Progress<'a> {
     }
 
     /// Tells that a file is written.
-    pub fn tell_written(&mut self, name: &str) {
+    pub(crate) fn tell_written(&mut self, name: &str) {
         if self.is_asked {
             let line = format!(in self.rt.alloc(); "{name}: written\n");
             self.tell(line);
@@ -50,7 +51,7 @@ impl<'a> Progress<'a> {
 
     /// Tells how many of these things were read for a file, a kind or a test, unless a line was
     /// told shortly before.
-    pub fn tell_read(&mut self, name: &str, count: u64, things: &str) {
+    pub(crate) fn tell_read(&mut self, name: &str, count: u64, things: &str) {
         if self.is_asked && self.is_due() {
             let line = format!(in self.rt.alloc(); "{name}: {count} {things} read\n");
             self.tell(line);
@@ -80,7 +81,7 @@ impl<'a> Progress<'a> {
 
 /// Objects of which it is told how many came.
 #[derive(Drop)]
-pub struct Watched<'a, 'p, O: Drop> {
+pub(crate) struct Watched<'a, 'p, O: Drop> {
     objects: O,
     progress: &'p mut Progress<'a>,
     name: &'p str,
@@ -89,7 +90,11 @@ pub struct Watched<'a, 'p, O: Drop> {
 
 impl<'a, 'p, O: Drop> Watched<'a, 'p, O> {
     /// These objects, which are read for a file, a kind or a test of this name.
-    pub fn new(objects: O, progress: &'p mut Progress<'a>, name: &'p str) -> Watched<'a, 'p, O> {
+    pub(crate) fn new(
+        objects: O,
+        progress: &'p mut Progress<'a>,
+        name: &'p str,
+    ) -> Watched<'a, 'p, O> {
         Watched {
             objects,
             progress,

@@ -1,4 +1,4 @@
-use Rattle.handover.proofs.database.add_objects.Given as goal
+use Rattle.esc_handover.proofs.database.add_objects.Given as goal
 
 abbrev pub decreases-loop-key : goal.decreases-loop-key
 decreases-loop-key g l = g.O.Objects.bound l.objects

@@ -1,12 +1,13 @@
 //! What the program stops for, and its statuses.
 
+use crate::refusal::BundleRefusal;
 use esc_bundle::NoMemory;
+use esc_check::StreamFault;
 use esc_cli::OneLine;
-use esc_desk::SFault;
-use esc_handover::BundleRefusal;
-use std::alloc::{AllocError, AllocFailed};
+use esc_store::SFault;
+use std::alloc::{AllocError, AllocFailed, Global};
 use std::fmt;
-use std::io::Write;
+use std::io::{Error, ErrorKind, Write};
 
 /// The tables aren't given as what was asked for, or the registry isn't to be taken over as it is.
 pub const REFUSED: u8 = 1;
@@ -17,8 +18,10 @@ const STOPPED: u8 = 3;
 /// What the program stops for.
 #[derive(Debug, Drop)]
 pub enum Stop {
-    /// What stops `restore` too: `E1`, `S1` to `S3`.
-    Shared(esc_arguments::Stop),
+    /// `E1`: a file or folder can't be read or written. Standard output is `-`.
+    Unreadable(String),
+    /// `S1` to `S3`: the store fails, or memory was refused.
+    Store(SFault),
     /// The tables are no bundle, which was to be at this path.
     Unbundled {
         refusal: BundleRefusal,
@@ -34,12 +37,31 @@ pub enum Stop {
 
 impl Stop {
     /// Out of memory: `S2`.
-    pub const NO_MEMORY: Stop = Stop::Shared(esc_arguments::Stop::Store(SFault::S2));
+    pub const NO_MEMORY: Stop = Stop::Store(SFault::S2);
+
+    // The stop for a path that can't be read or written.
+    fn at(rt: &HostRuntime, path: &str, error: &Error) -> Stop {
+        if error.kind() == ErrorKind::OutOfMemory {
+            return Stop::NO_MEMORY;
+        }
+        match String::from_str(rt.alloc(), path) {
+            Ok(path) => Stop::Unreadable(path),
+            Err(_) => Stop::NO_MEMORY,
+        }
+    }
+
+    /// The tables are no bundle, which was to be at this path.
+    pub(crate) fn unbundled(alloc: Global, refusal: BundleRefusal, path: &str) -> Stop {
+        match String::from_str(alloc, path) {
+            Ok(path) => Stop::Unbundled { refusal, path },
+            Err(_) => Stop::NO_MEMORY,
+        }
+    }
 
     /// The program's status.
     pub fn status(&self) -> u8 {
         match self {
-            Stop::Shared(stop) => stop.status(),
+            Stop::Unreadable(_) | Stop::Store(_) => STOPPED,
             Stop::Unbundled {
                 refusal: BundleRefusal::NoMemory,
                 ..
@@ -53,7 +75,8 @@ impl Stop {
 impl fmt::Display for Stop {
     fn fmt<W: fmt::Write>(&self, f: &mut fmt::Formatter<W>) -> fmt::Result {
         match self {
-            Stop::Shared(stop) => write!(f, "{stop}"),
+            Stop::Unreadable(path) => write!(f, "E1 {}", OneLine(path.as_str())),
+            Stop::Store(fault) => write!(f, "{fault}"),
             Stop::Unbundled { refusal, path } => fmt_unbundled(f, refusal, OneLine(path.as_str())),
             Stop::Chainless => f.write_str("H7"),
             Stop::Alike(table) => write!(f, "H9 {}", OneLine(table.as_str())),
@@ -77,15 +100,18 @@ fn fmt_unbundled<W: fmt::Write>(
     }
 }
 
-impl From<esc_arguments::Stop> for Stop {
-    fn from(stop: esc_arguments::Stop) -> Stop {
-        Stop::Shared(stop)
+impl From<SFault> for Stop {
+    fn from(fault: SFault) -> Stop {
+        Stop::Store(fault)
     }
 }
 
-impl From<SFault> for Stop {
-    fn from(fault: SFault) -> Stop {
-        Stop::Shared(esc_arguments::Stop::Store(fault))
+impl From<StreamFault<SFault>> for Stop {
+    fn from(fault: StreamFault<SFault>) -> Stop {
+        match fault {
+            StreamFault::Source(fault) => Stop::Store(fault),
+            StreamFault::NoMemory => Stop::NO_MEMORY,
+        }
     }
 }
 
@@ -104,6 +130,14 @@ impl From<AllocError> for Stop {
 impl<T: Drop> From<AllocFailed<T>> for Stop {
     fn from(_refused: AllocFailed<T>) -> Stop {
         Stop::NO_MEMORY
+    }
+}
+
+/// What a call at a path returned, or the stop for it: `E1 PATH`, or `S2` where memory was refused.
+pub fn or_stop<T>(rt: &HostRuntime, path: &str, outcome: Result<T, Error>) -> Result<T, Stop> {
+    match outcome {
+        Ok(value) => Ok(value),
+        Err(error) => Err(Stop::at(rt, path, &error)),
     }
 }
 

@@ -1,16 +1,25 @@
-//! Writes a file in one step.
+//! Writes a file in one step, and says why one can't be opened.
 
-use crate::stop::Stop;
-use esc_arguments::or_stop;
+use crate::stop::{Stop, or_stop};
+use esc_store::SFault;
 use std::fs::{self, File};
 use std::io::{Error, ErrorKind, Write};
+
+/// Why the store in a file isn't opened, where the system, and not the store, fails: `E1` if it
+/// doesn't let the file be read and written, else `S1`. Makes no file.
+pub fn unopened_stop(rt: &HostRuntime, path: &str) -> Stop {
+    let opened = File::options().read(true).write(true).open(rt, path);
+    match or_stop(rt, path, opened) {
+        Ok(_) => Stop::Store(SFault::S1),
+        Err(stop) => stop,
+    }
+}
 
 /// Writes a new file: beside its place first, and from there to its place in one step, so that
 /// there is the whole of it or nothing. `E1` where something is at its place.
 pub fn place_file(rt: &HostRuntime, path: &str, bytes: &[u8]) -> Result<(), Stop> {
     let beside = format!(in rt.alloc(); "{path}.part")?;
-    let placed = put_file(rt, beside.as_str(), path, bytes);
-    Ok(or_stop(rt, path, placed)?)
+    or_stop(rt, path, put_file(rt, beside.as_str(), path, bytes))
 }
 
 fn put_file(rt: &HostRuntime, beside: &str, path: &str, bytes: &[u8]) -> Result<(), Error> {
@@ -29,7 +38,7 @@ fn put_file(rt: &HostRuntime, beside: &str, path: &str, bytes: &[u8]) -> Result<
 }
 
 /// Writes a file that was made for it, and closes it.
-pub fn write_new(mut file: File, bytes: &[u8]) -> Result<(), Error> {
+pub(crate) fn write_new(mut file: File, bytes: &[u8]) -> Result<(), Error> {
     file.write_all(bytes)?;
     file.sync_all()
 }

@@ -1,49 +1,94 @@
 //! `registry.sqlite`: the tables of a registry as those of a database.
 
+use crate::folder::NewFolder;
+use crate::layout::Layout;
+use crate::progress::{Progress, Watched};
+use crate::stop::Stop;
+use crate::table_text::text_in;
+use crate::writing_fault::WritingFault;
 use esc_apply::Objects;
 use esc_bundle::NoMemory;
-use esc_handover::{Layout, text_in};
+use esc_store::SFault;
 use esc_tables::{Key, Object, Row};
 use sqlite::types::ValueRef;
-use sqlite::{Alter, Connection, Error, ErrorCode, Statement};
-use std::alloc::{AllocError, AllocFailed, Global};
+use sqlite::{Alter, Connection, Error, ErrorCode, File, FileStore, Statement};
+use std::alloc::Global;
+use std::fs;
 
-/// Why rows were not written to a database.
+/// The name of the database's file.
+const REGISTRY: &str = "registry.sqlite";
+
+/// A database of tables, in a folder, that is being made.
 #[derive(Drop)]
-pub enum FillFault<E> {
-    /// The source of the objects failed, and returned this.
-    Source(E),
-    /// The database failed, or refused a statement.
-    Database(Error),
-    /// Out of memory.
-    NoMemory,
+pub struct Database {
+    connection: Connection<FileStore<File>>,
 }
 
-impl<E> From<Error> for FillFault<E> {
-    fn from(error: Error) -> FillFault<E> {
-        match error {
-            Error::SqliteFailure(ErrorCode::OutOfMemory) => FillFault::NoMemory,
-            error => FillFault::Database(error),
-        }
+impl Database {
+    /// Makes the database of a folder, without tables.
+    pub fn create(folder: &NewFolder<'_>) -> Result<Database, Stop> {
+        let path = folder.path_of(REGISTRY)?;
+        folder.or_stop_writing(database_at(folder.rt(), path.as_str()))
+    }
+
+    /// Adds a table with the rows of these objects.
+    pub fn add_table<O>(
+        &mut self,
+        folder: &NewFolder<'_>,
+        objects: O,
+        layout: &Layout,
+        progress: &mut Progress<'_>,
+    ) -> Result<(), Stop>
+    where
+        O: Objects<Error = SFault> + Drop,
+    {
+        let filled = self.fill(folder.alloc(), objects, layout, progress);
+        folder.or_stop_writing(filled)
+    }
+
+    fn fill<O: Objects + Drop>(
+        &mut self,
+        alloc: Global,
+        objects: O,
+        layout: &Layout,
+        progress: &mut Progress<'_>,
+    ) -> Result<(), WritingFault<O::Error>> {
+        let mut objects = Watched::new(objects, progress, REGISTRY);
+        fill_table(alloc, &mut self.connection, &mut objects, layout)
+    }
+
+    /// Closes the database when it has its tables, and adds its sum. Its log is empty then, and is
+    /// removed.
+    pub fn finish(
+        self,
+        folder: &mut NewFolder<'_>,
+        progress: &mut Progress<'_>,
+    ) -> Result<(), Stop> {
+        folder.or_stop_writing(self.close())?;
+        remove_log(folder)?;
+        progress.tell_written(REGISTRY);
+        folder.add_sum(REGISTRY)
+    }
+
+    fn close(self) -> Result<(), WritingFault<SFault>> {
+        let Database { mut connection } = self;
+        connection.execute("COMMIT", &[])?;
+        connection.close()?;
+        Ok(())
     }
 }
 
-impl<E> From<NoMemory> for FillFault<E> {
-    fn from(_refused: NoMemory) -> FillFault<E> {
-        FillFault::NoMemory
-    }
+// A new database in a file, where a transaction is begun.
+fn database_at(rt: &HostRuntime, path: &str) -> Result<Database, WritingFault<SFault>> {
+    let mut connection = Connection::open(rt, path)?;
+    connection.execute("BEGIN", &[])?;
+    Ok(Database { connection })
 }
 
-impl<E> From<AllocError> for FillFault<E> {
-    fn from(_refused: AllocError) -> FillFault<E> {
-        FillFault::NoMemory
-    }
-}
-
-impl<E, T: Drop> From<AllocFailed<T>> for FillFault<E> {
-    fn from(_refused: AllocFailed<T>) -> FillFault<E> {
-        FillFault::NoMemory
-    }
+fn remove_log(folder: &NewFolder<'_>) -> Result<(), Stop> {
+    let path = folder.path_of(REGISTRY)?;
+    let log = format!(in folder.alloc(); "{path}-wal")?;
+    folder.or_stop(fs::remove_file(folder.rt(), log.as_str()))
 }
 
 // A name between double quotes, which stand twice within.
@@ -163,13 +208,13 @@ impl Filling<'_> {
     }
 }
 
-/// Makes a table, adds its rows, and then makes the index of child rows.
-pub fn fill_table<S: Alter, O: Objects>(
+// Makes a table, adds its rows, and then makes the index of child rows.
+fn fill_table<S: Alter, O: Objects>(
     alloc: Global,
     connection: &mut Connection<S>,
     objects: &mut O,
     layout: &Layout,
-) -> Result<(), FillFault<O::Error>> {
+) -> Result<(), WritingFault<O::Error>> {
     let create = table_text(alloc, layout)?;
     connection.execute(create.as_str(), &[])?;
     let insert = row_text(alloc, layout)?;
@@ -191,8 +236,8 @@ fn add_objects<S: Alter, O: Objects>(
     connection: &mut Connection<S>,
     objects: &mut O,
     filling: Filling<'_>,
-) -> Result<(), FillFault<O::Error>> {
-    while let Some((key, object)) = objects.next().map_err(FillFault::Source)? {
+) -> Result<(), WritingFault<O::Error>> {
+    while let Some((key, object)) = objects.next().map_err(WritingFault::Source)? {
         filling.add_rows(connection, &key, &object)?;
     }
     Ok(())

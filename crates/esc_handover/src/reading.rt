@@ -1,0 +1,57 @@
+//! What is found in objects as they come, while it is told how many were read.
+
+use crate::chain::ChainFacts;
+use crate::layout::{Layout, layouts_from};
+use crate::progress::{Progress, Watched};
+use crate::rebuild::are_listed;
+use crate::table_name::{TableName, table_names_from};
+use esc_apply::Objects;
+use esc_check::{Finding, StreamFault, verify_from};
+use esc_envelope::Kind;
+use std::alloc::Global;
+use std::collections::BTreeMap;
+
+/// The tables of a kind ([`table_names_from`]).
+pub fn read_table_names<O: Objects + Drop>(
+    alloc: Global,
+    objects: O,
+    kind: Kind,
+    progress: &mut Progress<'_>,
+) -> Result<Vec<TableName>, StreamFault<O::Error>> {
+    let mut objects = Watched::new(objects, progress, kind.name());
+    table_names_from(alloc, &mut objects, kind)
+}
+
+/// The tables of a kind with their columns ([`layouts_from`]).
+pub fn read_layouts<O: Objects + Drop>(
+    alloc: Global,
+    objects: O,
+    kind: Kind,
+    tables: Vec<TableName>,
+    progress: &mut Progress<'_>,
+) -> Result<Vec<Layout>, StreamFault<O::Error>> {
+    let mut objects = Watched::new(objects, progress, kind.name());
+    layouts_from(alloc, &mut objects, tables)
+}
+
+/// The findings V1 to V7 ([`verify_from`]).
+pub fn read_findings<O: Objects + Drop>(
+    alloc: Global,
+    objects: O,
+    watermark: i64,
+    counts: &BTreeMap<Kind, u64>,
+    progress: &mut Progress<'_>,
+) -> Result<Vec<Finding>, StreamFault<O::Error>> {
+    let mut objects = Watched::new(objects, progress, "findings");
+    verify_from(alloc, &mut objects, watermark, counts)
+}
+
+/// Whether the objects are those that the deposits of the chain make ([`are_listed`]).
+pub fn are_made_by<O: Objects + Drop>(
+    facts: &ChainFacts,
+    objects: O,
+    progress: &mut Progress<'_>,
+) -> Result<bool, O::Error> {
+    let mut objects = Watched::new(objects, progress, "tables");
+    are_listed(&facts.objects, &mut objects)
+}

@@ -1,0 +1,49 @@
+//! A registry as the bundle that was asked for, or what stops that.
+
+use crate::bundle::bundle_of;
+use crate::refusal::BundleRefusal;
+use crate::stop::Stop;
+use esc_envelope::Kind;
+use esc_tables::{Key, MOST_ROWS, Object};
+use std::alloc::Global;
+use std::collections::BTreeMap;
+
+/// U11: there are over 100,000 rows.
+const TOO_MANY_ROWS: u8 = 11;
+
+// How many objects there are of all kinds.
+fn object_count(objects: &BTreeMap<Kind, u64>) -> u64 {
+    let mut count: u64 = 0;
+    for number in objects.values() {
+        count = count.saturating_add(*number);
+    }
+    count
+}
+
+/// `U11` of a bundle at this path, if there are more objects than it has rows. They needn't be read
+/// for that.
+pub fn check_object_count(
+    alloc: Global,
+    objects: &BTreeMap<Kind, u64>,
+    path: &str,
+) -> Result<(), Stop> {
+    if object_count(objects) > MOST_ROWS as u64 {
+        let refusal = BundleRefusal::Refused(TOO_MANY_ROWS);
+        return Err(Stop::unbundled(alloc, refusal, path));
+    }
+    Ok(())
+}
+
+/// The bundle of these tables ([`bundle_of`]), or the stop of one at this path.
+pub fn bundle_or_stop(
+    alloc: Global,
+    id: &str,
+    watermark: i64,
+    tables: &BTreeMap<Key, Object>,
+    path: &str,
+) -> Result<Vec<u8>, Stop> {
+    match bundle_of(alloc, id, watermark, tables) {
+        Ok(text) => Ok(text),
+        Err(refusal) => Err(Stop::unbundled(alloc, refusal, path)),
+    }
+}

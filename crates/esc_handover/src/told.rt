@@ -1,0 +1,158 @@
+//! What a desk and the bodies of its store say, and what is made of that.
+
+ghost use Rattle.std.specs.Prelude.{◌≡◌, IfOk};
+ghost use Rattle.esc_html.specs.Markup.{IsHtmlPage};
+
+use crate::acceptance::is_accepted;
+use crate::chain::{ChainFacts, read_chain, spoiled_rows};
+use crate::line::lines_of;
+use crate::page::page_of;
+use crate::progress::Progress;
+use crate::seen::Seen;
+use crate::stop::REFUSED;
+use esc_bundle::NoMemory;
+use esc_chain::GapLine;
+use esc_check::Finding;
+use esc_cli::DONE;
+use esc_envelope::{Kind, Place};
+use esc_events::ParkedBody;
+use esc_store::{Reply, SFault, Store};
+use sqlite::Alter;
+use std::alloc::Global;
+use std::collections::BTreeMap;
+
+/// How it is told what was seen of a store.
+#[derive(Clone, Copy)]
+pub enum Form {
+    /// A line for each test.
+    Lines,
+    /// A page, with the receipts too.
+    Page,
+}
+
+/// What was made of a store: a text, and the program's status.
+#[derive(Drop)]
+pub struct Made {
+    pub text: Vec<u8>,
+    pub status: u8,
+}
+
+/// What a desk says of its store, and what the bodies in the store say.
+#[derive(Drop)]
+pub struct Told {
+    /// The moment that is set, if one is.
+    pub moment: Option<i64>,
+    /// The place of the chain's last deposit, if there is a chain.
+    pub end: Option<Place>,
+    /// How many objects of each kind there are.
+    pub objects: Vec<(Kind, u64)>,
+    /// How many objects of a kind the chain's last deposit declares, for the kinds that it does.
+    pub counts: Vec<(Kind, u64)>,
+    /// The findings in the tables.
+    pub findings: Vec<Finding>,
+    /// The held rows.
+    pub held: Vec<usize>,
+    /// The line of each listed place.
+    pub gaps: Vec<GapLine>,
+    pub parked: Vec<ParkedBody>,
+    /// The receipts, for a form that has them.
+    pub receipts: Vec<Reply>,
+    /// The held rows whose body isn't there, or has another SHA-256 than listed.
+    pub spoiled: Vec<usize>,
+    pub facts: ChainFacts,
+    /// Whether the tables are those that the bodies of the chain make.
+    pub is_rebuilt: bool,
+}
+
+impl Told {
+    /// Nothing yet.
+    pub fn new(alloc: Global) -> Told {
+        Told {
+            moment: None,
+            end: None,
+            objects: Vec::new(alloc),
+            counts: Vec::new(alloc),
+            findings: Vec::new(alloc),
+            held: Vec::new(alloc),
+            gaps: Vec::new(alloc),
+            parked: Vec::new(alloc),
+            receipts: Vec::new(alloc),
+            spoiled: Vec::new(alloc),
+            facts: ChainFacts::new(alloc),
+            is_rebuilt: false,
+        }
+    }
+
+    // What the acceptance is about.
+    fn seen(&self) -> Seen<'_> {
+        Seen {
+            moment: self.moment,
+            end: self.end,
+            gaps: &self.gaps,
+            parked: self.parked.len(),
+            findings: &self.findings,
+            objects: &self.objects,
+            counts: &self.counts,
+            tables: &self.facts.tables,
+            orphans: self.facts.orphans,
+            spoiled: &self.spoiled,
+            is_rebuilt: self.is_rebuilt,
+        }
+    }
+}
+
+/// The entries of a map of numbers.
+pub fn entries_of(
+    alloc: Global,
+    numbers: &BTreeMap<Kind, u64>,
+) -> Result<Vec<(Kind, u64)>, NoMemory> {
+    let mut entries = Vec::new(alloc);
+    for (kind, number) in numbers.iter() {
+        entries.push((*kind, *number))?;
+    }
+    Ok(entries)
+}
+
+/// Reads what the bodies of a store say: which of the held rows are spoiled, and what the deposits
+/// of the chain make.
+pub fn read_bodies<S: Alter>(
+    alloc: Global,
+    store: &mut Store<S>,
+    told: &mut Told,
+    progress: &mut Progress<'_>,
+) -> Result<(), SFault> {
+    told.spoiled = spoiled_rows(alloc, store, &told.held, progress)?;
+    read_chain(alloc, store, &mut told.facts, progress)
+}
+
+/// What is made of what was told, in this form.
+pub fn made_of(alloc: Global, told: &Told, form: Form) -> Result<Made, NoMemory>
+    ensures page { form ≡ Form.Page → IfOk result (λ made. IsHtmlPage made.text.items) }
+{
+    let seen = told.seen();
+    match form {
+        Form::Lines => lines_made(alloc, &seen),
+        Form::Page => page_made(alloc, &seen, told),
+    }
+}
+
+// The text of the lines, and the status.
+fn lines_made(alloc: Global, seen: &Seen<'_>) -> Result<Made, NoMemory> {
+    let mut text = String::new(alloc);
+    let lines = lines_of(alloc, seen)?;
+    for line in &lines {
+        let words = format!(in alloc; "{line}\n")?;
+        text.push_str(words.as_str())?;
+    }
+    Ok(Made {
+        text: text.into_bytes(),
+        status: if is_accepted(seen) { DONE } else { REFUSED },
+    })
+}
+
+fn page_made(alloc: Global, seen: &Seen<'_>, told: &Told) -> Result<Made, NoMemory>
+    ensures page { IfOk result (λ made. IsHtmlPage made.text.items) }
+{
+    let text = page_of(alloc, seen, &told.receipts, &told.parked)?;
+    Ok(Made { text, status: DONE })
+}
