@@ -26,7 +26,14 @@ where
 {
     let name = file_name(folder.alloc(), layout)?;
     let file = folder.create_file(name.as_str())?;
-    let written = fill_file(folder.alloc(), file, objects, layout, name.as_str(), progress);
+    let written = fill_file(
+        folder.alloc(),
+        file,
+        objects,
+        layout,
+        name.as_str(),
+        progress,
+    );
     folder.or_stop_writing(written)?;
     progress.tell_written(name.as_str());
     folder.add_sum(name.as_str())
