@@ -26,9 +26,9 @@
 //! little memory. `text_in` gives the text of a field in a row, and `repeated` finds names that are
 //! the same but for case. `digest_of` is the SHA-256 of what a reader gives.
 //!
-//! What `handover` does without its desk is here, too. [`Told`] is what a desk and the bodies of
+//! What `handover` does without its desk is here, too. [`StoreFacts`] is what a desk and the bodies of
 //! its store say: `gaps_of`, `read_findings`, `read_bodies` and `are_made_by` find it, and
-//! `made_of` makes the lines or the page of it. `bundle_or_stop` gives the bundle, and `place_file`
+//! `answer_of` makes the lines or the page of it. `bundle_or_stop` gives the bundle, and `place_file`
 //! writes a file in one step. `check_layouts` says whether tables can be files; then
 //! `write_table_file` and a [`Database`] write them to a [`NewFolder`], with their sums. A
 //! [`Progress`] tells on standard error how far that is, where it takes long. A [`Stop`] says what
@@ -108,12 +108,12 @@ mod registry_bundle;
 mod same;
 mod seen;
 mod stop;
+mod store_facts;
 mod sums;
 mod table_file;
 mod table_name;
 mod table_text;
 mod test;
-mod told;
 mod writing_fault;
 
 pub use acceptance::{is_accepted, passes};
@@ -137,10 +137,10 @@ pub use refusal::BundleRefusal;
 pub use registry_bundle::{bundle_or_stop, check_object_count};
 pub use seen::Seen;
 pub use stop::{REFUSED, Stop, or_stop, tell_stop};
+pub use store_facts::{Answer, Form, StoreFacts, answer_of, entries_of, read_bodies};
 pub use sums::digest_of;
 pub use table_file::write_table_file;
 pub use table_name::{TableName, table_names_from};
 pub use table_text::{text_in, write_table};
 pub use test::Test;
-pub use told::{Form, Made, Told, entries_of, made_of, read_bodies};
 pub use writing_fault::WritingFault;

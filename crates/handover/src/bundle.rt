@@ -3,7 +3,7 @@
 use crate::store_file::{Task, use_store};
 use esc_cli::DONE;
 use esc_desk::Desk;
-use esc_handover::{Made, Stop, bundle_or_stop, check_object_count, place_file};
+use esc_handover::{Answer, Stop, bundle_or_stop, check_object_count, place_file};
 use sqlite::Alter;
 use std::alloc::Global;
 
@@ -34,12 +34,12 @@ pub fn tables_bundle<S: Alter>(
     desk: &mut Desk<S>,
     id: &str,
     path: &str,
-) -> Result<Made, Stop> {
+) -> Result<Answer, Stop> {
     let watermark = end_watermark(alloc, desk)?;
     check_count(alloc, desk, path)?;
     let tables = desk.tables(alloc)?;
     let text = bundle_or_stop(alloc, id, watermark, &tables, path)?;
-    Ok(Made { text, status: DONE })
+    Ok(Answer { text, status: DONE })
 }
 
 // The watermark of the chain's end.

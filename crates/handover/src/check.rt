@@ -2,8 +2,8 @@
 
 use esc_desk::{Desk, SFault};
 use esc_handover::{
-    Form, Made, Progress, Stop, Told, are_made_by, entries_of, gaps_of, made_of, read_bodies,
-    read_findings,
+    Answer, Form, Progress, Stop, StoreFacts, answer_of, are_made_by, entries_of, gaps_of,
+    read_bodies, read_findings,
 };
 use sqlite::Alter;
 use std::alloc::Global;
@@ -14,16 +14,21 @@ pub fn acceptance<S: Alter>(
     desk: Desk<S>,
     form: Form,
     mut progress: Progress<'_>,
-) -> (Desk<S>, Result<Made, Stop>) {
-    let mut told = Told::new(alloc);
-    let (desk, seen) = see(alloc, desk, form, &mut told, &mut progress);
-    (desk, finish(alloc, &told, form, seen))
+) -> (Desk<S>, Result<Answer, Stop>) {
+    let mut facts = StoreFacts::new(alloc);
+    let (desk, seen) = see(alloc, desk, form, &mut facts, &mut progress);
+    (desk, finish(alloc, &facts, form, seen))
 }
 
 // Makes what is asked for, if all of it was seen.
-fn finish(alloc: Global, told: &Told, form: Form, seen: Result<(), Stop>) -> Result<Made, Stop> {
+fn finish(
+    alloc: Global,
+    facts: &StoreFacts,
+    form: Form,
+    seen: Result<(), Stop>,
+) -> Result<Answer, Stop> {
     seen?;
-    Ok(made_of(alloc, told, form)?)
+    Ok(answer_of(alloc, facts, form)?)
 }
 
 // Sees what a desk and the bodies of its store say. The desk is given back.
@@ -31,15 +36,15 @@ fn see<S: Alter>(
     alloc: Global,
     mut desk: Desk<S>,
     form: Form,
-    told: &mut Told,
+    facts: &mut StoreFacts,
     progress: &mut Progress<'_>,
 ) -> (Desk<S>, Result<(), Stop>) {
-    match ask(alloc, &mut desk, form, told, progress) {
+    match ask(alloc, &mut desk, form, facts, progress) {
         Ok(()) => {
             let mut store = desk.into_store();
-            let read = read_bodies(alloc, &mut store, told, progress);
+            let read = read_bodies(alloc, &mut store, facts, progress);
             let mut desk = Desk::open(store);
-            let compared = compare(alloc, &mut desk, told, read, progress);
+            let compared = compare(alloc, &mut desk, facts, read, progress);
             (desk, compared)
         }
         Err(stop) => (desk, Err(stop)),
@@ -51,23 +56,27 @@ fn ask<S: Alter>(
     alloc: Global,
     desk: &mut Desk<S>,
     form: Form,
-    told: &mut Told,
+    facts: &mut StoreFacts,
     progress: &mut Progress<'_>,
 ) -> Result<(), Stop> {
-    told.moment = desk.moment()?;
-    ask_status(alloc, desk, told)?;
-    ask_end(alloc, desk, told, progress)?;
-    ask_rows(alloc, desk, told)?;
-    ask_receipts(alloc, desk, form, told)
+    facts.moment = desk.moment()?;
+    ask_status(alloc, desk, facts)?;
+    ask_end(alloc, desk, facts, progress)?;
+    ask_rows(alloc, desk, facts)?;
+    ask_receipts(alloc, desk, form, facts)
 }
 
-fn ask_status<S: Alter>(alloc: Global, desk: &mut Desk<S>, told: &mut Told) -> Result<(), Stop> {
+fn ask_status<S: Alter>(
+    alloc: Global,
+    desk: &mut Desk<S>,
+    facts: &mut StoreFacts,
+) -> Result<(), Stop> {
     let status = desk.status(alloc)?;
-    told.end = match status.end {
+    facts.end = match status.end {
         Some((place, _resend)) => Some(place),
         None => None,
     };
-    told.objects = entries_of(alloc, &status.objects)?;
+    facts.objects = entries_of(alloc, &status.objects)?;
     Ok(())
 }
 
@@ -76,22 +85,26 @@ fn ask_status<S: Alter>(alloc: Global, desk: &mut Desk<S>, told: &mut Told) -> R
 fn ask_end<S: Alter>(
     alloc: Global,
     desk: &mut Desk<S>,
-    told: &mut Told,
+    facts: &mut StoreFacts,
     progress: &mut Progress<'_>,
 ) -> Result<(), Stop> {
     if let Some(end) = desk.end(alloc)? {
-        told.counts = entries_of(alloc, &end.counts)?;
+        facts.counts = entries_of(alloc, &end.counts)?;
         let walk = desk.walk(alloc, None)?;
-        told.findings = read_findings(alloc, walk, end.watermark, &end.counts, progress)?;
+        facts.findings = read_findings(alloc, walk, end.watermark, &end.counts, progress)?;
     }
     Ok(())
 }
 
-fn ask_rows<S: Alter>(alloc: Global, desk: &mut Desk<S>, told: &mut Told) -> Result<(), Stop> {
-    told.held = desk.held(alloc)?;
-    let moment = told.moment;
-    told.gaps = gaps_of(alloc, desk.manifest(), &told.held, moment)?;
-    told.parked = desk.parked(alloc)?;
+fn ask_rows<S: Alter>(
+    alloc: Global,
+    desk: &mut Desk<S>,
+    facts: &mut StoreFacts,
+) -> Result<(), Stop> {
+    facts.held = desk.held(alloc)?;
+    let moment = facts.moment;
+    facts.gaps = gaps_of(alloc, desk.manifest(), &facts.held, moment)?;
+    facts.parked = desk.parked(alloc)?;
     Ok(())
 }
 
@@ -100,11 +113,11 @@ fn ask_receipts<S: Alter>(
     alloc: Global,
     desk: &mut Desk<S>,
     form: Form,
-    told: &mut Told,
+    facts: &mut StoreFacts,
 ) -> Result<(), Stop> {
     match form {
         Form::Lines => {}
-        Form::Page => told.receipts = desk.receipts(alloc)?,
+        Form::Page => facts.receipts = desk.receipts(alloc)?,
     }
     Ok(())
 }
@@ -113,14 +126,14 @@ fn ask_receipts<S: Alter>(
 fn compare<S: Alter>(
     alloc: Global,
     desk: &mut Desk<S>,
-    told: &mut Told,
+    facts: &mut StoreFacts,
     read: Result<(), SFault>,
     progress: &mut Progress<'_>,
 ) -> Result<(), Stop> {
     read?;
-    if told.facts.are_read {
+    if facts.chain.are_read {
         let walk = desk.walk(alloc, None)?;
-        told.is_rebuilt = are_made_by(&told.facts, walk, progress)?;
+        facts.is_rebuilt = are_made_by(&facts.chain, walk, progress)?;
     }
     Ok(())
 }

@@ -4,7 +4,7 @@ use crate::bundle::tables_bundle;
 use crate::check::acceptance;
 use crate::tables::{Tabling, desk_tables};
 use esc_desk::Desk;
-use esc_handover::{Form, Made, Progress, Stop, unopened_stop};
+use esc_handover::{Answer, Form, Progress, Stop, unopened_stop};
 use esc_recovery::{PathFault, close_desk, open_desk_at};
 use sqlite::{Alter, Unknown};
 use std::alloc::Global;
@@ -29,7 +29,7 @@ pub fn use_store(
     path: &str,
     is_watched: bool,
     task: Task<'_>,
-) -> Result<Made, Stop> {
+) -> Result<Answer, Stop> {
     let mut progress = Progress::new(rt, is_watched);
     progress.tell_opening(path);
     let desk = match open_desk_at(rt, path, Unknown) {
@@ -52,7 +52,7 @@ fn use_desk<S: Alter>(
     mut desk: Desk<S>,
     task: Task<'_>,
     progress: Progress<'_>,
-) -> (Desk<S>, Result<Made, Stop>) {
+) -> (Desk<S>, Result<Answer, Stop>) {
     match task {
         Task::Bundle { id, path } => {
             let made = tables_bundle(alloc, &mut desk, id, path);

@@ -5,7 +5,7 @@ use esc_cli::DONE;
 use esc_desk::Desk;
 use esc_envelope::Kind;
 use esc_handover::{
-    Database, Layout, Made, NewFolder, Progress, Stop, TableName, check_layouts, check_place,
+    Answer, Database, Layout, NewFolder, Progress, Stop, TableName, check_layouts, check_place,
     read_layouts, read_table_names, write_table_file,
 };
 use sqlite::Alter;
@@ -34,13 +34,13 @@ pub fn desk_tables<S: Alter>(
     desk: &mut Desk<S>,
     words: Tabling<'_>,
     mut progress: Progress<'_>,
-) -> Result<Made, Stop> {
+) -> Result<Answer, Stop> {
     let alloc = words.rt.alloc();
     check_chain(alloc, desk)?;
     let layouts = layouts_in(alloc, desk, &mut progress)?;
     check_layouts(alloc, &layouts, words.has_database)?;
     write_folder(desk, words, &layouts, &mut progress)?;
-    Ok(Made {
+    Ok(Answer {
         text: Vec::new(alloc),
         status: DONE,
     })

@@ -1,4 +1,4 @@
-//! What a desk and the bodies of its store say, and what is made of that.
+//! What a desk and the bodies of its store say, and the lines or the page of it.
 
 ghost use Rattle.std.specs.Prelude.{◌≡◌, IfOk};
 ghost use Rattle.esc_html.specs.Markup.{IsHtmlPage};
@@ -21,7 +21,7 @@ use sqlite::Alter;
 use std::alloc::Global;
 use std::collections::BTreeMap;
 
-/// How it is told what was seen of a store.
+/// How what was seen of a store is shown.
 #[derive(Clone, Copy)]
 pub enum Form {
     /// A line for each test.
@@ -30,16 +30,16 @@ pub enum Form {
     Page,
 }
 
-/// What was made of a store: a text, and the program's status.
+/// What a command prints, and the program's status.
 #[derive(Drop)]
-pub struct Made {
+pub struct Answer {
     pub text: Vec<u8>,
     pub status: u8,
 }
 
 /// What a desk says of its store, and what the bodies in the store say.
 #[derive(Drop)]
-pub struct Told {
+pub struct StoreFacts {
     /// The moment that is set, if one is.
     pub moment: Option<i64>,
     /// The place of the chain's last deposit, if there is a chain.
@@ -59,15 +59,15 @@ pub struct Told {
     pub receipts: Vec<Reply>,
     /// The held rows whose body isn't there, or has another SHA-256 than listed.
     pub spoiled: Vec<usize>,
-    pub facts: ChainFacts,
+    pub chain: ChainFacts,
     /// Whether the tables are those that the bodies of the chain make.
     pub is_rebuilt: bool,
 }
 
-impl Told {
+impl StoreFacts {
     /// Nothing yet.
-    pub fn new(alloc: Global) -> Told {
-        Told {
+    pub fn new(alloc: Global) -> StoreFacts {
+        StoreFacts {
             moment: None,
             end: None,
             objects: Vec::new(alloc),
@@ -78,7 +78,7 @@ impl Told {
             parked: Vec::new(alloc),
             receipts: Vec::new(alloc),
             spoiled: Vec::new(alloc),
-            facts: ChainFacts::new(alloc),
+            chain: ChainFacts::new(alloc),
             is_rebuilt: false,
         }
     }
@@ -93,8 +93,8 @@ impl Told {
             findings: &self.findings,
             objects: &self.objects,
             counts: &self.counts,
-            tables: &self.facts.tables,
-            orphans: self.facts.orphans,
+            tables: &self.chain.tables,
+            orphans: self.chain.orphans,
             spoiled: &self.spoiled,
             is_rebuilt: self.is_rebuilt,
         }
@@ -118,41 +118,41 @@ pub fn entries_of(
 pub fn read_bodies<S: Alter>(
     alloc: Global,
     store: &mut Store<S>,
-    told: &mut Told,
+    facts: &mut StoreFacts,
     progress: &mut Progress<'_>,
 ) -> Result<(), SFault> {
-    told.spoiled = spoiled_rows(alloc, store, &told.held, progress)?;
-    read_chain(alloc, store, &mut told.facts, progress)
+    facts.spoiled = spoiled_rows(alloc, store, &facts.held, progress)?;
+    read_chain(alloc, store, &mut facts.chain, progress)
 }
 
-/// What is made of what was told, in this form.
-pub fn made_of(alloc: Global, told: &Told, form: Form) -> Result<Made, NoMemory>
-    ensures page { form ≡ Form.Page → IfOk result (λ made. IsHtmlPage made.text.items) }
+/// The lines or the page of what was seen of a store.
+pub fn answer_of(alloc: Global, facts: &StoreFacts, form: Form) -> Result<Answer, NoMemory>
+    ensures page { form ≡ Form.Page → IfOk result (λ answer. IsHtmlPage answer.text.items) }
 {
-    let seen = told.seen();
+    let seen = facts.seen();
     match form {
-        Form::Lines => lines_made(alloc, &seen),
-        Form::Page => page_made(alloc, &seen, told),
+        Form::Lines => lines_answer(alloc, &seen),
+        Form::Page => page_answer(alloc, &seen, facts),
     }
 }
 
 // The text of the lines, and the status.
-fn lines_made(alloc: Global, seen: &Seen<'_>) -> Result<Made, NoMemory> {
+fn lines_answer(alloc: Global, seen: &Seen<'_>) -> Result<Answer, NoMemory> {
     let mut text = String::new(alloc);
     let lines = lines_of(alloc, seen)?;
     for line in &lines {
         let words = format!(in alloc; "{line}\n")?;
         text.push_str(words.as_str())?;
     }
-    Ok(Made {
+    Ok(Answer {
         text: text.into_bytes(),
         status: if is_accepted(seen) { DONE } else { REFUSED },
     })
 }
 
-fn page_made(alloc: Global, seen: &Seen<'_>, told: &Told) -> Result<Made, NoMemory>
-    ensures page { IfOk result (λ made. IsHtmlPage made.text.items) }
+fn page_answer(alloc: Global, seen: &Seen<'_>, facts: &StoreFacts) -> Result<Answer, NoMemory>
+    ensures page { IfOk result (λ answer. IsHtmlPage answer.text.items) }
 {
-    let text = page_of(alloc, seen, &told.receipts, &told.parked)?;
-    Ok(Made { text, status: DONE })
+    let text = page_of(alloc, seen, &facts.receipts, &facts.parked)?;
+    Ok(Answer { text, status: DONE })
 }
