@@ -40,19 +40,10 @@ def check_sum(path, said):
         raise Refusal(path, f'its checksum is {" or ".join(sorted(found))}, and not {wanted.strip()}')
 
 
-def check_separator(where, separator):
-    if len(separator) != 1 or separator in '"\r\n':
-        raise Refusal(where, f'the separator is not one character: {separator!r}')
-
-
-def is_file_name(name):
-    return name not in ('', '.', '..') and re.search(r'[/\\\0]', name) is None
-
-
 def rows_of(where, folder, definition):
     """The rows of the files of a definition, each with its place."""
     for line, name, said in definition.files:
-        if not is_file_name(name):
+        if name in ('', '.', '..') or re.search(r'[/\\\0]', name):
             raise Refusal(f'{where}:{line}', f'no name of a file: {name!r}')
         path = os.path.join(folder, name)
         try:

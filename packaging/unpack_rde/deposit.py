@@ -1,7 +1,7 @@
 """From what a deposit's document and files have to the rows of the desk's tables."""
 import csv, os, re
 
-from csv_files import check_separator, rows_of
+from csv_files import rows_of
 from faults import Refusal
 from keys import Keys
 from names import Field
@@ -154,7 +154,8 @@ class Deposit:
         """The rows of the files of a definition."""
         table, where = self.names.tables[definition.table], f'{self.path}:{definition.line}'
         self.only_in(lambda what: Refusal(where, what), 'CSV', table.name, definition.is_of_deletes)
-        check_separator(where, definition.separator)
+        if len(definition.separator) != 1 or definition.separator in '"\r\n':
+            raise Refusal(where, f'the separator is not one character: {definition.separator!r}')
         fields = self.fields_of(table, definition)
         columns = self.columns_of(table, definition.is_of_deletes)
         file = self.folder.table(table, definition.is_of_deletes, columns)
