@@ -1,5 +1,5 @@
 """A registry that looks real, made from a seed, and the bundles of its objects: for make_large, and for tests, trials and benchmarks."""
-import datetime, json, random
+import csv, datetime, io, json, random
 
 FIRST = datetime.date(2024, 3, 3)
 NUMBERS = {'registrar': 40, 'contact': 8_000, 'host': 4_000, 'domain': 20_000, 'idn': 6, 'nndn': 200}
@@ -138,12 +138,10 @@ class Registry:
 
 # ---- bundles
 
-def cell(text):
-    return '"' + text.replace('"', '""') + '"' if any(it in text for it in ',"\n') else text
-
-
 def lines(rows):
-    return ''.join(','.join(map(cell, it)) + '\n' for it in rows).encode()
+    text = io.StringIO(newline='')
+    csv.writer(text, lineterminator='\n').writerows(rows)
+    return text.getvalue().encode()
 
 
 def declaration(name, kind, role, fields, file):
