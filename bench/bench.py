@@ -13,7 +13,7 @@ rows, one a statement (`raw.py`).
 Times of a busy machine say little; the ratios within one run say more."""
 import contextlib, os, random, shutil, sqlite3, subprocess, sys, tempfile, time
 
-from running import Program, Use, arrivals_where, ask, made_release
+from running import Program, Use, ask
 from support import TOP, arguments_of, built, program
 from support.files import read
 from support.stores import copy
@@ -24,7 +24,7 @@ SIZES = (12_500, 25_000, 50_000, 100_000)
 def raw(store):
     """What the SQL statements of a store's content take alone. They run in a process of its own: the peak memory of a run begins with
     the size of the process that starts it."""
-    words = [sys.executable, f'{TOP}/bench/raw.py', '--store', store]
+    words = [sys.executable, f'{TOP}/bench/raw.py', store]
     return Use(float(subprocess.run(words, check=True, capture_output=True, text=True).stdout))
 
 
@@ -108,8 +108,9 @@ def chain(release, restore):
     restore.take(store, f'{release}/chain/full')
     clock, use = restore.arrivals(store, f'{release}/chain/diffs')
     yield '4095 tiny Differentials in a chain', use
-    for held, took in arrivals_where(clock).items():
-        yield f'  one of them where {held} rows are held', Use(0, took, use.memory)
+    # (The first row is held before.)
+    for held, count in ((10, 10), (100, 50), (1000, 50), (4000, 50)):
+        yield f'  one of them where {held} rows are held', Use(0, (clock[held - 1 + count] - clock[held - 1]) / count, use.memory)
 
 
 def adopted(release, restore):
@@ -174,7 +175,7 @@ def main():
     arguments.add_argument('--keep', metavar='FOLDER', help='a folder to work in, which is kept')
     given = arguments.parse_args()
     work = given.keep or tempfile.mkdtemp(prefix='restore-bench-')
-    made_release(f'{work}/release')
+    subprocess.run([sys.executable, f'{TOP}/bench/release.py', f'{work}/release'], check=True)
     paths = given.programs or [program(built('restore'))]
     measure(f'{work}/release', [Program(path, f'{work}/{at}') for at, path in enumerate(paths)], given)
     if not given.keep:

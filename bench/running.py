@@ -1,9 +1,8 @@
-"""Runs of the program that are measured: what bench.py and statements.py share."""
+"""Runs of the program that are measured, for bench.py."""
 import http.client, os, subprocess, sys, time
 from dataclasses import dataclass
 
 sys.path.append(f'{sys.path[0]}/../tests')
-from support import TOP
 from support.files import read
 from support.sockets import HOST, free_port
 from support.stores import copy
@@ -103,11 +102,6 @@ class Program:
         return clock, ended()
 
 
-def made_release(folder):
-    """Makes the large release in a folder."""
-    subprocess.run([sys.executable, f'{TOP}/bench/release.py', folder], check=True)
-
-
 def ask(port, method, path, body=None):
     """Sends one request by a connection of its own, and reads the whole response."""
     connection = http.client.HTTPConnection(HOST, port)
@@ -122,9 +116,3 @@ def ask(port, method, path, body=None):
 def spent(process):
     """The processor time of a running process, in milliseconds, by the clock that Linux has for each (clock_getcpuclockid)."""
     return time.clock_gettime((~process.pid << 3) | 2) * 1000
-
-
-def arrivals_where(clock):
-    """Of a clock of arrivals along a chain whose first row is held before: the mean of an arrival where so many rows are held."""
-    windows = {10: 10, 100: 50, 1000: 50, 4000: 50}
-    return {held: (clock[held - 1 + count] - clock[held - 1]) / count for held, count in windows.items()}
