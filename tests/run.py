@@ -12,7 +12,7 @@ there, by its title. The tests in tests/unit/, which unittest finds, are of the 
 
 The cases are played side by side, RT_JOBS of them or one for each processor. Each that ends otherwise is printed as FAILED, with the first
 line that did, what was wanted and what came. The last line is `N passed, M failed`; the status is 0 where M is 0."""
-import importlib, multiprocessing, os, sqlite3, sys, textwrap, traceback, unittest
+import importlib, multiprocessing, os, pathlib, sqlite3, sys, textwrap, traceback, unittest
 from dataclasses import dataclass
 from typing import Callable
 
@@ -37,23 +37,16 @@ class Case:
 # ---- the cases
 
 
-def names_in(folder, ending):
-    """The names of the files in a folder of tests/ that end so, without that."""
-    return sorted(it.removesuffix(ending) for it in os.listdir(f'{TESTS}/{folder}') if it.endswith(ending) and not it.startswith('_'))
-
-
-def failing(why):
-    """What is played of a file that can't be read."""
-    def play(_):
-        raise Failed(why)
-    return play
+def names_in(files):
+    """The names of the files of tests/ that have this form."""
+    return [it.stem for it in sorted(pathlib.Path(TESTS).glob(files))]
 
 
 def cases_of_transcript(name):
     try:
         return [Case(name, it.title, it.play) for it in read_transcripts(f'{TESTS}/transcripts/{name}.txt')]
     except (Misread, UnicodeDecodeError) as error:
-        return [Case(name, 'it is read', failing(str(error)))]
+        sys.exit(f'tests: {name}: {error}')
 
 
 def cases_of_module(name):
@@ -80,8 +73,8 @@ def case_of_test(test):
 
 
 def all_cases():
-    found = [it for name in names_in('transcripts', '.txt') for it in cases_of_transcript(name)]
-    found += [it for name in names_in('cases', '.py') for it in cases_of_module(name)]
+    found = [it for name in names_in('transcripts/*.txt') for it in cases_of_transcript(name)]
+    found += [it for name in names_in('cases/[!_]*.py') for it in cases_of_module(name)]
     return found + [case_of_test(it) for it in tests_in(unittest.defaultTestLoader.discover(f'{TESTS}/unit'))]
 
 

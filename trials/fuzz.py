@@ -4,12 +4,12 @@ refused by its name.
 
 N bundles (2,000) are damaged by `fuzzing/bundles.py` and listed by their SHA-256, so that they are read, and taken in folders of
 100; N manifests (500) are given to `init`; N requests (2,000) are sent over a socket to `serve`, among good ones, in pieces,
-cut or broken off. `tests/support/formats.py` reads the same bytes by the definitions, in plain Python: from it comes, to the byte, what
-the program has to print or respond, and its status; where the outcome is plain from how the input was made that is asked
-too. So each crash, each other status, each other text is wrong, and so is what does not end in time. After each folder and
-each server the C library's checks have to pass and the folder, taken again, has to get the same receipts. Then
-a client of each kind holds its connection (`fuzzing/clients.py`), with a good one behind it, which has to get its response within a
-deadline. At last some bundles as large as a bundle may be are taken one by one, with their time and peak memory.
+cut or broken off. `formats.py` and `messages.py` of `tests/support/` read the same bytes by the definitions, in plain Python: from
+them comes, to the byte, what the program has to print or respond, and its status; where the outcome is plain from how the input was
+made that is asked too. So each crash, each other status, each other text is wrong, and so is what does not end in time. After each
+folder and each server the C library's checks have to pass and the folder, taken again, has to get the same receipts. Then a client
+of each kind holds its connection (`fuzzing/clients.py`), with a good one behind it, which has to get its response within a deadline.
+At last some bundles as large as a bundle may be are taken one by one, with their time and peak memory.
 
 It needs python3 alone, and the program, which `./build` builds. Each wrong input stays in a folder, with how to run it
 again. The last line is `N inputs, wrong K`."""

@@ -8,20 +8,18 @@ asked for, that no script, style or message stands on the console, that the page
 picture overlap, and that each text has a contrast of 4.5 at least to what is behind it, and each mark one of 3 (WCAG 2.2, AA).
 
 The last line is `N passed, M failed`."""
-import base64, json, os, select, shutil, subprocess, sys, tempfile
+import base64, json, os, select, shutil, subprocess, sys
 
 sys.path.append(f'{sys.path[0]}/../tests')
 from cases.page import many_places
-from support import TOP, arguments_of, built
-from support.files import read, write
+from support import arguments_of, built
+from support.files import write
 from support.flawed import draw_release
+from support.releases import SAMPLES
+from support.stage import Stage
+from support.stores import run
 
 WIDTHS, LOOKS = (400, 1600), ('light', 'dark')
-SAMPLES = {
-    'first': ('first/manifest.csv', 'first/deposits'),
-    'release': ('release/manifest.csv', 'release/deposits'),
-    'whole': ('release/manifest.csv', 'release/deposits', 'release/missing'),
-}
 # How long the browser may take for an answer.
 SECONDS = 60
 # The texts and marks of a page whose contrast is too small, each with it.
@@ -124,44 +122,16 @@ class Browser:
         self.child.wait(SECONDS)
 
 
-def run(program, *words, statuses=(0,)):
-    done = subprocess.run([program, *words], stdout=subprocess.DEVNULL, stderr=subprocess.PIPE, text=True)
-    if done.returncode not in statuses:
-        sys.exit(f'page_looks: {program} {" ".join(words)}: status {done.returncode}: {done.stderr}')
-
-
-def rebuild(restore, store, manifests, folders, moment=None):
-    first, *more = manifests
-    run(restore, 'init', '--store', store, '--manifest', first)
-    for it in folders:
-        run(restore, 'take', '--store', store, it, statuses=(0, 1))
-    for it in more:
-        run(restore, 'amend', '--store', store, '--manifest', it)
-    if moment:
-        run(restore, 'as-of', '--store', store, moment)
-
-
-def rebuild_made(restore, store, manifest, bodies, moment=None):
-    os.mkdir(f'{store}-deposits')
-    for at, body in enumerate(bodies):
-        write(f'{store}-deposits/{at}', body)
-    write(f'{store}.csv', manifest)
-    rebuild(restore, store, [f'{store}.csv'], [f'{store}-deposits'], moment)
-
-
-def make_stores(restore, room, large):
-    """Rebuilds the stores, and gives their paths by the names of the pages."""
-    for name, (manifest, *folders) in SAMPLES.items():
-        yield name, f'{room}/{name}.db'
-        rebuild(restore, f'{room}/{name}.db', [f'{TOP}/samples/{manifest}'], [f'{TOP}/samples/{it}' for it in folders])
-    flawed = draw_release(5)
-    yield 'flawed', f'{room}/flawed.db'
-    rebuild_made(restore, f'{room}/flawed.db', flawed.manifest(), flawed.bodies, flawed.moment)
-    yield 'many', f'{room}/many.db'
-    rebuild_made(restore, f'{room}/many.db', *many_places())
+def make_stores(stage, large):
+    """Rebuilds the stores, and gives the names of the pages."""
+    releases = {it.replace(' ', '-'): release for it, release in SAMPLES.items()} | {'flawed': draw_release(5), 'many': many_places()}
+    for name, release in releases.items():
+        release.rebuild(stage, f'{name}.db')
     if large:
-        yield 'large', f'{room}/large.db'
-        rebuild(restore, f'{room}/large.db', [f'{large}/mail/manifest.csv'], [f'{large}/mail/deposits'])
+        mail = os.path.abspath(f'{large}/mail')
+        run(stage, f'init --store large.db --manifest {mail}/manifest.csv')
+        run(stage, f'take --store large.db {mail}/deposits', statuses=(0, 1))
+    return [*releases, *(['large'] if large else [])]
 
 
 def look_at(browser, name, path, out):
@@ -188,14 +158,14 @@ def main():
     if not (chromium := shutil.which('chromium') or shutil.which('google-chrome')):
         sys.exit('page_looks: there is no chromium')
     os.makedirs(given.out, exist_ok=True)
-    with tempfile.TemporaryDirectory(prefix='page-looks-') as room:
-        stores = dict(make_stores(given.restore, room, given.large))
-        browser = Browser(chromium, f'{room}/browser')
-        for name, store in stores.items():
+    with Stage({it: os.path.abspath(getattr(given, it)) for it in ('restore', 'handover')}) as stage:
+        names = make_stores(stage, given.large)
+        browser = Browser(chromium, stage.at('browser'))
+        for name in names:
             page = os.path.abspath(f'{given.out}/{name}.html')
             if os.path.exists(page):
                 os.remove(page)
-            run(given.handover, 'page', '--store', store, page)
+            run(stage, f'page --store {name}.db {page}', 'handover')
             look_at(browser, name, page, given.out)
         browser.close()
     print(f'{counts["passed"]} passed, {counts["failed"]} failed')

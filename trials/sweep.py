@@ -72,7 +72,6 @@ def main():
         sys.exit('sweep: gcc is missing')
     sweep = Sweep(TOP, given)
     try:
-        sweep.build_library()
         if given.harness:
             over_harness(sweep, given.harness)
         else:

@@ -1,8 +1,8 @@
 """A trial of the program: its runs, in a folder of its own, and what was counted."""
-import collections, os, resource, sys, tempfile
+import collections, os, resource, tempfile
 
 from support.files import write
-from support.sockets import HOST, free_port
+from support.sockets import serve
 from support.stage import Failed, Stage
 from support.stores import READINGS, is_whole
 
@@ -34,11 +34,7 @@ class Trial(Stage):
 
     def serve(self, store, count):
         """A desk that serves so many connections, and its port."""
-        port = free_port()
-        child = self.begin(['serve', '--store', store, '--port', f'{port}', '--count', f'{count}'], prepare=self.bounded)
-        if child.stdout.readline() != f'listening {HOST}:{port}\n'.encode():
-            sys.exit(f'{store} is not served')
-        return child, port
+        return serve(self, store, count, prepare=self.bounded)
 
     def wrong(self, what, expected, got, **files):
         """Keeps a wrong input, and how to run it again."""

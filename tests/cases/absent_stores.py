@@ -1,7 +1,6 @@
 """Commands on a store that is not there."""
-import os
-
-from support.stage import Wanted, compare, text_of
+from cases.handovers import names_in
+from support.stage import Wanted, compare_all
 from support.steps import Copy, Folder, Link
 
 # The words of each command that is for a store, around the file.
@@ -9,11 +8,6 @@ COMMANDS = ('take --store {} deposits', 'serve --store {} --port 65535 --count 1
             'amend --store {} --manifest listed.csv', 'as-of --store {} latest', 'as-of --store {} 2024-03-04T00:00:00Z', 'migrate --store {}')
 # The file is not there; a link leads to it; nor is its folder there.
 FILES = ('absent.db', 'link.db', 'nowhere/absent.db')
-
-
-def names_in(folder):
-    """The paths of all that is in a folder, as lines."""
-    return text_of(sorted(os.path.relpath(f'{at}/{name}', folder) for at, *names in os.walk(folder) for name in sum(names, [])))
 
 
 def test_no_store_is_made(stage):
@@ -27,4 +21,4 @@ def test_no_store_is_made(stage):
         for file in FILES:
             line = command.format(file)
             stage.check(line, Wanted(3, '', 'S3\n'))
-            compare(f'$ restore {line}\nfiles', before, names_in(stage.room.name))
+            compare_all(f'$ restore {line}\nfiles', before, names_in(stage.room.name))

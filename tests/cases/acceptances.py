@@ -3,13 +3,12 @@ begins. (The words of the lines are those of transcripts/handing.txt, what they 
 import random
 from collections import defaultdict
 
-from support import formats
-from support.acceptance import beginning, is_accepted, is_bundle, read_record, seen_of, tests_of, word_of
+from support.acceptance import Seen, beginning, is_accepted, is_bundle, tests_of, word_of
 from support.files import read
-from support.first_store import First, record
 from support.flawed import draw_release, misnamed_releases
+from support.formats import KINDS, read_record, record
 from support.stage import Failed, case, compare, text_of
-from support.stores import EMPTY_LOG, change_row, make_store
+from support.stores import EMPTY_LOG, change_row
 
 # The seeds of the releases. The last ones are rare: in these the day of the chain's end has a later place, a revision is missing below the
 # one that is used, a place is missing on the day of the end, and a deposit before the last one has orphans.
@@ -17,142 +16,99 @@ SEEDS = (*range(26), 305, 129, 68, 28)
 TESTS = ('end', 'resends', 'gaps', 'parked', 'findings', 'orphans', 'counts', 'fields', 'names', 'bodies', 'tables')
 
 
-# ---- a store
+# ---- what goes bad in a store: in the file, and in what the model keeps
 
 
-def make(stage, store, release):
-    make_store(stage, store, release.manifest(), release.bodies, release.moment)
+def changed_body(change):
+    """Changes a held body, mostly one of the chain."""
+    def spoil(stage, store, desk, chance):
+        row = chance.choice(desk.steps if chance.random() < 0.7 else sorted(desk.held))
+        desk.held[row] = change(desk.held[row])
+        change_row(stage, store, 'UPDATE held SET body = ? WHERE row = ?', (desk.held[row], row))
+    return spoil
 
 
-def kept_of(release):
-    moment = release.moment and formats.moment(release.moment)
-    return First(release.manifest(), [(f'{at}', body) for at, body in enumerate(release.bodies)], moment)
+def change_object(stage, store, desk, chance):
+    """The last cell of an object has another text."""
+    kind, key = chance.choice(sorted(desk.objects))
+    *before, (table, [*others, (field, text)]) = read_record(desk.objects[kind, key])
+    desk.objects[kind, key] = record([*before, (table, [*others, (field, text + 'x')])])
+    change_row(stage, store, 'UPDATE object SET record = ? WHERE kind = ? AND key = ?', (desk.objects[kind, key], KINDS.index(kind), key))
 
 
-# ---- what goes bad in it: in the file, and in what the model keeps
+def delete_object(stage, store, desk, chance):
+    kind, key = chance.choice(sorted(desk.objects))
+    del desk.objects[kind, key]
+    change_row(stage, store, 'DELETE FROM object WHERE kind = ? AND key = ?', (KINDS.index(kind), key))
 
 
-def write_body(stage, store, kept, row, body):
-    kept.held[row] = body
-    change_row(stage, store, 'UPDATE held SET body = ? WHERE row = ?', (body, row))
+def add_object(stage, store, desk, chance):
+    kind, key = chance.choice(sorted(desk.objects))
+    new, made = b'new-' + key, desk.objects[kind, key]
+    desk.objects[kind, new] = made
+    change_row(stage, store, 'INSERT INTO object (kind, key, record) VALUES (?, ?, ?)', (KINDS.index(kind), new, made))
 
 
-def some_row(kept, chance):
-    """A row whose body is held: mostly one of the chain."""
-    return chance.choice(kept.steps if chance.random() < 0.7 else sorted(kept.held))
-
-
-def change_body(stage, store, kept, chance):
-    """A name in a held body is another one."""
-    row = some_row(kept, chance)
-    write_body(stage, store, kept, row, kept.held[row].replace(b'.example', b'.exbmple', 1))
-
-
-def cut_body(stage, store, kept, chance):
-    """A held body ends too early."""
-    row = some_row(kept, chance)
-    write_body(stage, store, kept, row, kept.held[row][:-1])
-
-
-def split_field(stage, store, kept, chance):
-    """A row of a held body has one field more."""
-    row = some_row(kept, chance)
-    write_body(stage, store, kept, row, kept.held[row].replace(b'.example', b',example', 1))
-
-
-def changed(rows):
-    """Rows of which the last cell has another text."""
-    *before, (table, cells) = rows
-    *others, (field, text) = cells
-    return [*before, (table, [*others, (field, text + b'x')])]
-
-
-def change_object(stage, store, kept, chance):
-    key = chance.choice(sorted(kept.objects))
-    kept.objects[key] = record(changed(read_record(kept.objects[key])))
-    change_row(stage, store, 'UPDATE object SET record = ? WHERE kind = ? AND key = ?',
-                (kept.objects[key], formats.KINDS.index(key[0]), key[1]))
-
-
-def delete_object(stage, store, kept, chance):
-    key = chance.choice(sorted(kept.objects))
-    del kept.objects[key]
-    change_row(stage, store, 'DELETE FROM object WHERE kind = ? AND key = ?', (formats.KINDS.index(key[0]), key[1]))
-
-
-def add_object(stage, store, kept, chance):
-    kind, key = chance.choice(sorted(kept.objects))
-    kept.objects[kind, b'new-' + key] = kept.objects[kind, key]
-    change_row(stage, store, 'INSERT INTO object (kind, key, record) VALUES (?, ?, ?)',
-                (formats.KINDS.index(kind), b'new-' + key, kept.objects[kind, key]))
-
-
-SPOILINGS = (change_body, cut_body, split_field, change_object, delete_object, add_object)
+# A name in a held body is another one; it ends too early; a row of it has one field more; and so on.
+SPOILINGS = {
+    'another name': changed_body(lambda body: body.replace(b'.example', b'.exbmple', 1)),
+    'an early end': changed_body(lambda body: body[:-1]),
+    'one field more': changed_body(lambda body: body.replace(b'.example', b',example', 1)),
+    'another object': change_object,
+    'an object less': delete_object,
+    'an object more': add_object,
+}
 
 
 # ---- the lines
 
 
-def wanted_of(kept):
-    """The tests with whether they pass and what is said; or none where the body of the chain's last deposit is no bundle."""
-    if kept.steps and not is_bundle(kept.held[kept.steps[-1]]):
-        return None
-    return list(tests_of(seen_of(kept)))
-
-
-def is_line(line, test):
-    """Whether a line is that of a test: just this where it passes, else it goes on with what to do."""
-    _, passes, _ = test
-    return line == beginning(*test) if passes else line.startswith(beginning(*test))
-
-
 def compare_lines(tests, out):
+    """Compares the line of each test: just as it is where it passes, else it goes on with what to do."""
     lines = out.decode().splitlines()
     compare('number of lines', f'{len(tests)}', f'{len(lines)}')
-    wrong = [f'wanted {beginning(*test)} ..\ngot    {line}' for test, line in zip(tests, lines) if not is_line(line, test)]
+    wrong = [f'wanted {wanted} ..\ngot    {line}' for (_, passes, _), wanted, line in zip(tests, (beginning(*it) for it in tests), lines)
+             if not (line == wanted if passes else line.startswith(wanted))]
     if wrong:
         raise Failed('\n'.join(wrong))
 
 
-def check_store(stage, store, kept, seen):
-    """Compares what is said of a store, which stays as it is, and notes the word of each test."""
-    before, tests = read(stage.at(store)), wanted_of(kept)
+def check_store(stage, store, desk, seen):
+    """Compares what is said of a store, which stays as it is, and notes the word of each test. Nothing but S1 is said where the body of the
+    chain's last deposit is no bundle."""
+    before, is_read = read(stage.at(store)), not desk.steps or is_bundle(desk.held[desk.steps[-1]])
+    tests = list(tests_of(Seen(desk))) if is_read else []
     got = stage.end(stage.begin(['check', '--store', store], 'handover'))
-    compare('standard error', 'S1\n' if tests is None else '', got.err.decode())
-    compare_lines(tests or [], got.out)
-    compare('status', '3' if tests is None else '0' if is_accepted(tests) else '1', f'{got.status}')
+    compare('standard error', '' if is_read else 'S1\n', got.err.decode())
+    compare_lines(tests, got.out)
+    compare('status', '3' if not is_read else '0' if is_accepted(tests) else '1', f'{got.status}')
     if read(stage.at(store)) != before or len(read(stage.at(f'{store}-wal'))) > EMPTY_LOG:
         raise Failed('the store is changed')
-    for name, passes, _ in tests or []:
+    for name, passes, _ in tests:
         seen[name].add(word_of(name, passes))
-
-
-def check_release(stage, seed, seen):
-    release, store = draw_release(seed), f'{seed}.db'
-    make(stage, store, release)
-    kept = kept_of(release)
-    check_store(stage, store, kept, seen)
-    if kept.objects:
-        spoil = SPOILINGS[seed % len(SPOILINGS)]
-        spoil(stage, store, kept, random.Random(seed))
-        with case(spoil.__name__):
-            check_store(stage, store, kept, seen)
 
 
 def test_wrong_names(stage):
     """What is said of a Full whose fields or tables have other names, or aren't there."""
     for at, (name, release) in enumerate(misnamed_releases()):
-        make(stage, f'{at}.db', release)
+        release.rebuild(stage, f'{at}.db')
         with case(name):
-            check_store(stage, f'{at}.db', kept_of(release), defaultdict(set))
+            check_store(stage, f'{at}.db', release.desk(), defaultdict(set))
 
 
 def test_random_releases(stage):
     """What is said of random releases, and of their stores once these went bad."""
     seen = defaultdict(set)
     for seed in SEEDS:
+        release, store = draw_release(seed), f'{seed}.db'
+        release.rebuild(stage, store)
+        desk, (name, spoil) = release.desk(), list(SPOILINGS.items())[seed % len(SPOILINGS)]
         with case(f'seed {seed}'):
-            check_release(stage, seed, seen)
+            check_store(stage, store, desk, seen)
+            if desk.objects:
+                spoil(stage, store, desk, random.Random(seed))
+                with case(name):
+                    check_store(stage, store, desk, seen)
     # (The releases are such that each test passes in some of them, and not in others.)
     compare('words', text_of(f'{it} {"told" if it == "gaps" else "wrong"} ok' for it in TESTS),
             text_of(' '.join([it, *sorted(seen[it], reverse=True)]) for it in TESTS))

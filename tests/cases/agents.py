@@ -1,70 +1,64 @@
 """From an agent's deposits to the registry: `unpack_rde`, `pack` and `restore` one after the other."""
-import csv, io, json, os, random, shutil, subprocess, sys
+import csv, io, json, os, random, subprocess, sys
 
+from cases.handovers import clear
 from support import TOP
-from support.documents import document
-from support.escrow import KEYS, as_written, some_objects, told
+from support.documents import KEYS, document
+from support.escrow import as_written, some_objects, told
+from support.files import read
+from support.formats import KINDS
 from support.stage import Failed, Wanted, case
+from support.stores import run
 
-UNPACK = [sys.executable, f'{TOP}/packaging/unpack_rde']
-KINDS = ('registrar', 'contact', 'host', 'domain', 'idn', 'nndn')
 # Kinds whose keys are told apart without regard to case.
 LOWERED = ('host', 'domain')
+FULL = {'id': 'F1', 'type': 'FULL', 'watermark': '2024-03-03T00:00:00Z'}
 
 
-def run(stage, *words):
-    """Runs a command in the case's folder, where the programs are known by their names, and gives what it prints."""
-    # (Line ends in texts are kept as they are.)
-    ran = subprocess.run(words, cwd=stage.room.name, capture_output=True)
-    if ran.returncode or ran.stderr:
-        raise Failed(f'$ {" ".join(words)}\nstatus {ran.returncode}\n{ran.stderr.decode()}')
-    return ran.stdout.decode()
-
-
-def read_text(stage, path):
-    with open(stage.at(path), encoding='utf-8') as file:
-        return file.read()
-
-
-def check_same(what, wanted, found):
+def check_same(wanted, found):
     for key in wanted.keys() | found.keys():
         if wanted.get(key) != found.get(key):
-            raise Failed(f'{what}: {key}: wanted {wanted.get(key)}, got {found.get(key)}')
+            raise Failed(f'{key}: wanted {wanted.get(key)}, got {found.get(key)}')
 
 
-def exported(stage, kind):
-    """The objects of a kind, by kind and key, as `export` prints them."""
+def exported(stage):
+    """The objects of a store, by kind and key, as `export` prints them."""
     rows = {}
-    text = run(stage, stage.programs['restore'], 'export', '--store', 'desk.db', kind)
-    for kind, key, table, row, field, value in list(csv.reader(io.StringIO(text, newline=''), strict=True))[1:]:
-        rows.setdefault((kind, key), {}).setdefault((table, row), {})[field] = value
+    for kind in KINDS:
+        text = io.StringIO(run(stage, f'export --store desk.db {kind}').decode(), newline='')
+        for _, key, table, row, field, value in list(csv.reader(text, strict=True))[1:]:
+            rows.setdefault((kind, key), {}).setdefault((table, row), {})[field] = value
     return {key: told((table, cells) for (table, _), cells in its.items()) for key, its in rows.items()}
 
 
+def rebuild(stage, *bundles):
+    """Rebuilds a store from bundles in the folder of these."""
+    stage.write('manifest.csv', run(stage, ' '.join(['manifest', *(f'bundles/{it}' for it in bundles)]), 'pack'))
+    run(stage, 'init --store desk.db --manifest manifest.csv')
+    run(stage, 'take --store desk.db bundles')
+
+
 def restored(stage, *deposits):
-    """The objects that are in a store after these deposits, each a name and its bundle's description folder."""
+    """The objects that are in a store after these deposits, each the folder of its description."""
     os.mkdir(stage.at('bundles'))
     for name in deposits:
-        run(stage, stage.programs['pack'], 'bundle', '--envelope', f'{name}/envelope.json', name, f'bundles/{name}')
-    manifest = run(stage, stage.programs['pack'], 'manifest', *(f'bundles/{it}' for it in deposits))
-    stage.write('manifest.csv', manifest.encode())
-    run(stage, stage.programs['restore'], 'init', '--store', 'desk.db', '--manifest', 'manifest.csv')
-    run(stage, stage.programs['restore'], 'take', '--store', 'desk.db', 'bundles')
-    found = {}
-    for kind in KINDS:
-        found.update(exported(stage, kind))
-    return found
+        run(stage, f'bundle --envelope {name}/envelope.json {name} bundles/{name}', 'pack')
+    rebuild(stage, *deposits)
+    return exported(stage)
 
 
 def lowered(objects):
     return {(kind, key.lower() if kind in LOWERED else key): rows for (kind, key), rows in as_written(objects).items()}
 
 
-def unpacked(stage, name, model, objects, header, deletes=None, **more):
-    """Writes a deposit in a model, and unpacks it."""
+def unpacked(stage, header, model, objects, deletes=None, words=(), **more):
+    """Writes a deposit in a model, and unpacks it into a folder of its id."""
+    name = header['id']
     os.mkdir(stage.at(f'{name}-files'))
     path = document(stage.at(f'{name}-files'), f'{name}.xml', header, objects, deletes or {}, {}, model, **more)
-    run(stage, *UNPACK, path, name)
+    ran = subprocess.run([sys.executable, f'{TOP}/packaging/unpack_rde', *words, path, name], cwd=stage.room.name, capture_output=True)
+    if ran.returncode or ran.stderr:
+        raise Failed(f'unpack_rde {name}: status {ran.returncode}: {ran.stderr}')
 
 
 def test_models(stage):
@@ -72,32 +66,28 @@ def test_models(stage):
     for seed in range(4):
         objects = some_objects(random.Random(f'restored {seed}'))
         for model in ('XML', 'CSV'):
-            unpacked(stage, 'F1', model, objects, {'id': 'F1', 'type': 'FULL', 'watermark': '2024-03-03T00:00:00Z'})
-            check_same(f'seed {seed}, {model}', lowered(objects), restored(stage, 'F1'))
-            for name in os.listdir(stage.room.name):
-                shutil.rmtree(stage.at(name)) if os.path.isdir(stage.at(name)) else os.remove(stage.at(name))
+            with case(f'seed {seed}, {model}'):
+                unpacked(stage, FULL, model, objects)
+                check_same(lowered(objects), restored(stage, 'F1'))
+            clear(stage)
 
 
 def test_changes(stage):
     """A Differential of files, on a Full of XML, changes and deletes objects."""
-    maker = random.Random('changes')
-    first = some_objects(maker, most=9)
+    first = some_objects(random.Random('changes'), most=9)
     hosts = {rows[0][1]['name']: rows[0][1]['roid'] for rows in first if rows[0][0] == 'host'}
     # Of each kind the first object is deleted, and the second one is replaced by one of the same key.
     kinds = {kind: [it for it in first if it[0][0] == kind] for kind in KINDS}
     deletes = {kind: [its[0][0][1][KEYS[kind]]] for kind, its in kinds.items() if its}
     changed = [[(table, {**cells, 'uName': 'new'} if table in ('domain', 'nndn') else cells) for table, cells in its[1]]
                for kind, its in kinds.items() if len(its) > 1]
-    unpacked(stage, 'F1', 'XML', first, {'id': 'F1', 'type': 'FULL', 'watermark': '2024-03-03T00:00:00Z'})
-    os.mkdir(stage.at('D2-files'))
-    path = document(stage.at('D2-files'), 'D2.xml', {'id': 'D2', 'type': 'DIFF', 'watermark': '2024-03-04T02:00:00+02:00', 'prevId': 'F1'},
-                    changed, deletes, {}, 'CSV', roids=hosts)
-    run(stage, *UNPACK, '--known', 'F1', path, 'D2')
+    unpacked(stage, FULL, 'XML', first)
+    unpacked(stage, {'id': 'D2', 'type': 'DIFF', 'watermark': '2024-03-04T02:00:00+02:00', 'prevId': 'F1'}, 'CSV', changed, deletes,
+             ['--known', 'F1'], roids=hosts)
     wanted = {**lowered(first), **lowered(changed)}
-    for kind, keys in deletes.items():
-        for key in keys:
-            del wanted[kind, key.lower() if kind in LOWERED else key]
-    check_same('after the Differential', wanted, restored(stage, 'F1', 'D2'))
+    for kind, (key,) in deletes.items():
+        del wanted[kind, key.lower() if kind in LOWERED else key]
+    check_same(wanted, restored(stage, 'F1', 'D2'))
 
 
 # The table, its fields, a heading of its file, and whether that names the fields.
@@ -158,12 +148,12 @@ def test_headings(stage):
                     'file': 't.csv', 'heading': True}
         row = ','.join('x' * len(names))
         stage.write('files/t.csv', f'{heading}\n{row}\n'.encode())
-        stage.write('envelope.json', json.dumps({'id': 'F1', 'type': 'FULL', 'watermark': '2024-03-03T00:00:00Z', 'contents': [declared]}).encode())
+        stage.write('envelope.json', json.dumps({**FULL, 'contents': [declared]}).encode())
         with case(f'{table}: {heading}'):
             told = 'unknown field "fClID" of table domain: the desk looks for clID\n' if is_named and 'fClID' in names else ''
             stage.check(f'bundle --envelope envelope.json files n{at}', Wanted(err=told) if is_named else Wanted(1, '', 'H1 files/t.csv\n'),
                         program='pack')
-            if is_named and not read_text(stage, f'n{at}').endswith(f't.csv {len(row) + 1}\n{row}\n\nend\n'):
+            if is_named and not read(stage.at(f'n{at}')).endswith(f't.csv {len(row) + 1}\n{row}\n\nend\n'.encode()):
                 raise Failed('its bundle has other rows')
 
 
@@ -178,7 +168,5 @@ def test_findings(stage):
     stage.write('envelope.json', described.encode())
     os.mkdir(stage.at('bundles'))
     stage.check('bundle --envelope envelope.json files bundles/F1', Wanted(), program='pack')
-    stage.write('manifest.csv', run(stage, stage.programs['pack'], 'manifest', 'bundles/F1').encode())
-    run(stage, stage.programs['restore'], 'init', '--store', 'desk.db', '--manifest', 'manifest.csv')
-    run(stage, stage.programs['restore'], 'take', '--store', 'desk.db', 'bundles')
+    rebuild(stage, 'F1')
     stage.check('report --store desk.db links', Wanted(0, FINDINGS))

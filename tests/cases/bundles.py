@@ -4,45 +4,27 @@ from support.stage import compare
 from support.verdicts import check_faults, check_held
 from support.worked_rows import C1
 
-# What stands in place of the second section and the end, and the fault. A deposit is read once its frame was: U9 is none of the frame.
-BACKS = (
-    # A name in other letters, and a length that is no number.
-    (b'C.csv 6\nC1,R1\n\nend\n', 'U2'),
-    (b'c.csv 06\nC1,R1\n\nend\n', 'U1'),
-    (b'C.csv 06\nC1,R1\n\nend\n', 'U1'),
-    (b'c.csv +6\nC1,R1\n\nend\n', 'U1'),
-    (b'c.csv  6\nC1,R1\n\nend\n', 'U1'),
-    (b'c.csv 6 \nC1,R1\n\nend\n', 'U1'),
-    (b'c.csv 6\r\nC1,R1\n\nend\n', 'U1'),
-    (b'c.csv 0x6\nC1,R1\n\nend\n', 'U1'),
+# What stands in place of the second section and the end, by the fault. A deposit is read once its frame was: U9 is none of the frame.
+BACKS = {
+    'U1': [
+        # A length that is no number, also under a name in other letters.
+        b'c.csv 06\nC1,R1\n\nend\n', b'C.csv 06\nC1,R1\n\nend\n', b'c.csv +6\nC1,R1\n\nend\n', b'c.csv  6\nC1,R1\n\nend\n',
+        b'c.csv 6 \nC1,R1\n\nend\n', b'c.csv 6\r\nC1,R1\n\nend\n', b'c.csv 0x6\nC1,R1\n\nend\n',
+        # A section that ends before its length, and one that ends after it; and a byte after the end.
+        b'c.csv 7\nC1,R1\n\nend\n', b'c.csv 5\nC1,R1\n\nend\n', b'c.csv 16777216\nC1,R1\n\nend\n', b'c.csv 6\nC1,R1\n\nend\n\n'],
+    'U2': [b'C.csv 6\nC1,R1\n\nend\n'],
+    'U3': [b'c.csv 6\nC1,R1\n\nc.csv 6\nC1,R1\n\nend\n'],
     # Lengths that in 32 or in 64 bits would be 6.
-    (b'c.csv 4294967302\nC1,R1\n\nend\n', 'U4'),
-    (b'c.csv 18446744073709551622\nC1,R1\n\nend\n', 'U4'),
-    (b'c.csv 99999999999999999999\nC1,R1\n\nend\n', 'U4'),
-    # A section that ends before its length, and one that ends after it.
-    (b'c.csv 7\nC1,R1\n\nend\n', 'U1'),
-    (b'c.csv 5\nC1,R1\n\nend\n', 'U1'),
-    (b'c.csv 16777216\nC1,R1\n\nend\n', 'U1'),
-    # A section twice, and a byte after the end.
-    (b'c.csv 6\nC1,R1\n\nc.csv 6\nC1,R1\n\nend\n', 'U3'),
-    (b'c.csv 6\nC1,R1\n\nend\n\n', 'U1'),
-    # A quote that is not closed makes one field of the row, which should have two.
-    (b'c.csv 7\n"C1,R1\n\nend\n', 'U9'),
-    # Three fields.
-    (b'c.csv 8\nC1,R1,x\n\nend\n', 'U9'),
-)
-# What stands below the first line, and the fault.
-REST = (
-    (b'envelope.json 16777217\n', 'U4'),
-    (b'c.csv 0\n\nend\n', 'U1'),
-    (b'c.csv 16777217\n', 'U4'),
-    (b'end\n', 'U1'),
-)
+    'U4': [b'c.csv 4294967302\nC1,R1\n\nend\n', b'c.csv 18446744073709551622\nC1,R1\n\nend\n',
+           b'c.csv 99999999999999999999\nC1,R1\n\nend\n'],
+    # A quote that is not closed makes one field of the row, which should have two; and three fields.
+    'U9': [b'c.csv 7\n"C1,R1\n\nend\n', b'c.csv 8\nC1,R1,x\n\nend\n'],
+}
+# What stands below the first line, by the fault.
+REST = {'U1': [b'c.csv 0\n\nend\n', b'end\n'], 'U4': [b'envelope.json 16777217\n', b'c.csv 16777217\n']}
 # As many empty sections as a bundle has, what follows them, and the fault. The empty envelope is none.
 EMPTY = FIRST_LINE + b'envelope.json 0\n\n' + b''.join(b's%d 0\n\n' % at for at in range(1, 64))
-AFTER_MOST = ((b'end\n', 'U5'), (b's64 0\n\nend\n', 'U4'), (b's63 0\n\nend\n', 'U3'))
-# How many bytes of one letter, and the fault.
-LONG = ((16_777_216, 'U1'), (16_777_217, 'U4'))
+AFTER_MOST = {'U5': b'end\n', 'U4': b's64 0\n\nend\n', 'U3': b's63 0\n\nend\n'}
 
 # Nine sections below an envelope, of bytes that look like lines of a bundle or are no text.
 NINE = (b'a 4\nend\n\nb.csv 10\nc.csv 1\nx\n\nc-d 1\n\n\ne_f 2\n\n\n\n0 1\n\0\n1.2 2\n\xff\xfe\n'
@@ -62,9 +44,8 @@ READ = (
 
 def test_frames_of_other_forms(stage):
     """Frames of other forms are refused."""
-    cases = [(back, FRONT + back, fault) for back, fault in BACKS]
-    cases += [(rest, FIRST_LINE + rest, fault) for rest, fault in REST]
-    check_faults(stage, cases)
+    check_faults(stage, [(it, front + it, fault) for front, told in ((FRONT, BACKS), (FIRST_LINE, REST)) for fault, texts in told.items()
+                         for it in texts])
 
 
 def test_each_beginning_of_a_bundle(stage):
@@ -76,7 +57,7 @@ def test_each_beginning_of_a_bundle(stage):
 
 def test_as_many_sections_as_there_may_be(stage):
     """Sixty-four sections, and no more."""
-    check_faults(stage, [(f'64 sections and {after}', EMPTY + after, fault) for after, fault in AFTER_MOST])
+    check_faults(stage, [(f'64 sections and {after}', EMPTY + after, fault) for fault, after in AFTER_MOST.items()])
     files = {'s1': ('contact', 'parent', ('id',))} | {f's{at}': ('contact', 'child', ('id', 'text')) for at in range(2, 64)}
     rows = {file: f'C1,{file}\n' if role == 'child' else 'C1\n' for file, (_, role, _) in files.items()}
     body = bundle_of(envelope_of(files), b''.join(section(file, row.encode()) for file, row in rows.items()))
@@ -87,7 +68,7 @@ def test_as_many_sections_as_there_may_be(stage):
 
 def test_the_longest_body(stage):
     """The longest body, and a longer one."""
-    check_faults(stage, [(f'{count} letters', b'e' * count, fault) for count, fault in LONG])
+    check_faults(stage, [(f'{count} letters', b'e' * count, fault) for count, fault in ((16_777_216, 'U1'), (16_777_217, 'U4'))])
 
 
 def test_sections_that_look_like_lines_of_a_bundle(stage):

@@ -99,17 +99,8 @@ DELETES = (
     (BOTH, (WITH_NS1,)),
 )
 
-# Contacts: how many letters come before the number of each, how many there are, whether the deposit deletes a domain too, and the fault.
-SIZES = (
-    (254, 1, False, None),
-    (254, 1, True, None),
-    (255, 1, False, 'U10'),
-    (255, 1, True, 'U10'),
-    (0, 100_000, False, None),
-    (0, 100_000, True, 'U11'),
-    (0, 100_001, False, 'U11'),
-    (0, 100_001, True, 'U11'),
-)
+# Contacts: how many letters come before the number of each, how many there are, and the faults: alone, and where a domain is deleted too.
+SIZES = ((254, 1, None, None), (255, 1, 'U10', 'U10'), (0, 100_000, None, 'U11'), (0, 100_001, 'U11', 'U11'))
 
 
 def test_deposits_that_are_held(stage):
@@ -156,19 +147,16 @@ def test_envelopes_alone(stage):
             compare(f'end with {body}', end, end_with(stage, desk, body))
 
 
-def check_size(stage, letters, count, deletes_too, fault):
-    """Compares what is said of a Full of contacts, whose keys are so many letters and a number."""
+def check_size(stage, letters, count, *faults):
+    """Compares what is said of a Full of contacts, whose keys are so many letters and a number, alone and with a deleted domain."""
     keys = ['x' * letters + str(at) for at in range(count)]
     files = section('c.csv', ''.join(f'{it},R1\n' for it in keys).encode())
     name = f'{count} contacts of {letters} letters and a number'
-    if deletes_too:
-        name, body = f'{name}, and a deleted domain', Tables('contact', 'deleted', files + b'gone.csv 10\na.example\n\n').body()
-    else:
-        body = Tables('contact', '', files).body()
-    if fault:
-        check_faults(stage, [(name, body, fault)])
-    else:
-        check_held(stage, name, body, [f'contact {it}: contact id={it} clID=R1' for it in sorted(keys)])
+    for tables, fault in zip((Tables('contact', '', files), Tables('contact', 'deleted', files + b'gone.csv 10\na.example\n\n')), faults):
+        if fault:
+            check_faults(stage, [(name, tables.body(), fault)])
+        else:
+            check_held(stage, name, tables.body(), [f'contact {it}: contact id={it} clID=R1' for it in sorted(keys)])
 
 
 def test_keys_and_rows_have_limits(stage):

@@ -65,63 +65,27 @@ READ = (
     Read(contents(table()) + deletes(table(file='"g"')), ('host f: h a=f',)),
     Read(deletes(table(), table(name='"i"', file='"g"'))),
 )
-# Members, and the fault.
-REFUSED = (
-    (',"id":null', 'U6'),
-    (',"id":7', 'U6'),
-    (',"id":""', 'U6'),
-    (',"id":"a b"', 'U6'),
-    (',"type":null', 'U6'),
-    (',"type":"full"', 'U6'),
-    (',"type":[]', 'U6'),
-    (',"watermark":null', 'U6'),
-    (',"watermark":1709424000', 'U6'),
-    (',"watermark":"2024-03-03"', 'U6'),
-    (',"prevId":"a b"', 'U6'),
-    (',"prevId":1', 'U6'),
-    (',"resend":1000000', 'U6'),
-    (',"resend":1.0', 'U6'),
-    (',"resend":1e0', 'U6'),
-    (',"resend":-0', 'U6'),
-    (',"resend":"1"', 'U6'),
-    (',"resend":01', 'U5'),
-    (',"counts":null', 'U6'),
-    (',"counts":[]', 'U6'),
-    (',"counts":{"domain":18446744073709551616}', 'U6'),
-    (',"counts":{"domain":null}', 'U6'),
-    (',"counts":{"domain":1,"domain":-1}', 'U6'),
-    (',"contents":null', 'U6'),
-    (',"contents":{}', 'U6'),
-    (',"deletes":null', 'U6'),
-    (contents('1'), 'U7'),
-    (contents('{}'), 'U7'),
-    (contents('1') + ',"deletes":1', 'U6'),
-    (contents(table(name=None)), 'U7'),
-    (contents(table(name='"a.b"')), 'U7'),
-    (contents(table(kind='"hosts"')), 'U7'),
-    (contents(table(role='null')), 'U7'),
-    (contents(table(key='"b"')), 'U7'),
-    (contents(table(fields='[]')), 'U7'),
-    (contents(table(fields='["a","a"]')), 'U7'),
-    (contents(table(fields='["a","b c"]')), 'U7'),
-    (contents(table(fields='["a",1]')), 'U7'),
-    (contents(table(file=None)), 'U7'),
-    (contents(table(), table(role='"child"', file='"g"')), 'U7'),
-    (contents(table(), table(name='"i"', file='"g"')), 'U7'),
-    (deletes(table(role='"child"', file='"g"')), 'U7'),
-    (deletes(table(), table(kind='"idn"', file='"g"')), 'U7'),
-)
-# Texts without a correct header, and the fault.
-NO_HEADERS = (
-    (b'', 'U5'),
-    (b'{} {}', 'U5'),
-    (b'"\xff"', 'U5'),
-    (b'\xef\xbb\xbf{}', 'U5'),
-    (b'[]', 'U6'),
-    (b'{"type":"FULL","watermark":"2024-03-03T00:00:00Z"}', 'U6'),
-    (b'{"id":"F1","watermark":"2024-03-03T00:00:00Z"}', 'U6'),
-    (b'{"id":"F1","type":"FULL"}', 'U6'),
-)
+# Members, by the fault.
+REFUSED = {
+    'U5': [',"resend":01'],
+    'U6': [',"id":null', ',"id":7', ',"id":""', ',"id":"a b"', ',"type":null', ',"type":"full"', ',"type":[]', ',"watermark":null',
+           ',"watermark":1709424000', ',"watermark":"2024-03-03"', ',"prevId":"a b"', ',"prevId":1', ',"resend":1000000', ',"resend":1.0',
+           ',"resend":1e0', ',"resend":-0', ',"resend":"1"', ',"counts":null', ',"counts":[]', ',"counts":{"domain":18446744073709551616}',
+           ',"counts":{"domain":null}', ',"counts":{"domain":1,"domain":-1}', ',"contents":null', ',"contents":{}', ',"deletes":null',
+           contents('1') + ',"deletes":1'],
+    'U7': [contents('1'), contents('{}'),
+           *(contents(table(**it)) for it in (
+               {'name': None}, {'name': '"a.b"'}, {'kind': '"hosts"'}, {'role': 'null'}, {'key': '"b"'}, {'fields': '[]'},
+               {'fields': '["a","a"]'}, {'fields': '["a","b c"]'}, {'fields': '["a",1]'}, {'file': None})),
+           contents(table(), table(role='"child"', file='"g"')), contents(table(), table(name='"i"', file='"g"')),
+           deletes(table(role='"child"', file='"g"')), deletes(table(), table(kind='"idn"', file='"g"'))],
+}
+# Texts without a correct header, by the fault.
+NO_HEADERS = {
+    'U5': [b'', b'{} {}', b'"\xff"', b'\xef\xbb\xbf{}'],
+    'U6': [b'[]', b'{"type":"FULL","watermark":"2024-03-03T00:00:00Z"}', b'{"id":"F1","watermark":"2024-03-03T00:00:00Z"}',
+           b'{"id":"F1","type":"FULL"}'],
+}
 
 
 def body_of(members, row=None):
@@ -158,8 +122,8 @@ def test_members_that_are_read(stage):
 
 def test_members_that_are_refused(stage):
     """Members of other forms, and texts that are no envelope, are refused."""
-    cases = [(f'an envelope with {members}', body_of(members), fault) for members, fault in REFUSED]
-    check_faults(stage, cases + [(f'the envelope {text}', bundle_of(text), fault) for text, fault in NO_HEADERS])
+    check_faults(stage, [(f'an envelope with {it}', body_of(it), fault) for fault, members in REFUSED.items() for it in members]
+                 + [(f'the envelope {it}', bundle_of(it), fault) for fault, texts in NO_HEADERS.items() for it in texts])
 
 
 def test_the_fields_of_a_table(stage):

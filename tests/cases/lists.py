@@ -2,14 +2,16 @@
 
 Some desks are given the events one by one, others all of them in one call. Some stores are of version 1: each is migrated, and then
 the events come, many of them arrivals that version 1 answered."""
-from support.first_store import First
+import contextlib
+
+from support.first_store import first_rows, first_script
+from support.formats import Refused, manifest
 from support.harness import Harness
-from support.model import begin, fault_of, latest_chain, parked_lines, state, take, work, work_text
-from support.stage import Failed, text_of
-from support.steps import first_script
-from support.universe import (
-    Amendment, Arrival, Chance, Closing, History, Moment, draw_arrival, draw_bodies, draw_event, draw_first, draw_history, draw_rows,
-    event_text, manifest_text, moment_text)
+from support.model import Desk
+from support.reports import report
+from support.stage import case, text_of
+from support.telling import answer, state
+from support.universe import Chance, History, draw_arrival, draw_bodies, draw_event, draw_first, draw_history, draw_rows, manifest_text
 
 # How many lists a case plays, each of a seed.
 LISTS = 25
@@ -19,20 +21,16 @@ EVENTS, RUN_EVENTS, LATER_EVENTS = 18, 24, 16
 
 # ---- lists over stores of version 1
 
+
 def draw_manifest(chance, rows):
     """Rows that make a manifest: one that is listed first, and some more."""
     listed = [draw_first(chance, rows)]
     for _ in range(chance.below(6)):
         row = chance.low_one_of(rows)
-        listed += [] if fault_of([*listed, row]) else [row]
+        with contextlib.suppress(Refused):
+            manifest(manifest_text([*listed, row]))
+            listed.append(row)
     return listed
-
-
-def draw_early(chance, bodies):
-    events = []
-    for _ in range(chance.below(8) + 3):
-        events.append(draw_arrival(chance, bodies, events))
-    return events
 
 
 def draw_migrated(seed, closes):
@@ -40,83 +38,54 @@ def draw_migrated(seed, closes):
     chance = Chance(seed)
     bodies = draw_bodies(chance)
     rows = draw_rows(chance, bodies)
-    first, early = draw_manifest(chance, rows), draw_early(chance, bodies)
-    events = [*early]
+    history = History(bodies, draw_manifest(chance, rows))
+    for _ in range(chance.below(8) + 3):
+        history.early.append(draw_arrival(chance, bodies, history.early))
     for _ in range(LATER_EVENTS):
-        events.append(chance.one_of(early) if chance.is_one_in(3) else draw_event(chance, bodies, rows, events, closes))
-    return History(tuple(bodies), tuple(first), tuple(early), tuple(events[len(early):]))
+        again = chance.is_one_in(3)
+        history.events.append(chance.one_of(history.early) if again else draw_event(chance, bodies, rows, history, closes))
+    return history
 
 
 # ---- desks that play them
 
+
 class Play:
-    """A desk that plays a list, and the model's book. The events are noted, so that a failure shows the list."""
+    """A desk that plays a list, and the model."""
 
-    def __init__(self, stage, desk, history, told):
-        self.stage, self.desk, self.book, self.told = stage, desk, begin(history), told
-        for body in history.bodies:
-            stage.write(f'body{body.index}', body.bytes)
-
-    def start(self, history):
-        """Opens a desk over a new store of the first rows, or over one of version 1, which is migrated."""
-        if history.early:
-            kept = First(manifest_text(history.first).encode(), [(f'n{it.number}', it.body.bytes) for it in history.early])
-            self.stage.write('first.sql', first_script(kept.rows()).encode())
-            self.desk.check('script first.sql', '')
-            self.desk.check('migrate', 'migrated\n')
+    def __init__(self, stage, desk, history):
+        self.stage, self.desk = stage, desk
+        for name, content in history.files.items():
+            stage.write(name, content)
+        arrivals = [(number, history.files[body]) for _, number, body in map(str.split, history.early)]
+        self.model = Desk(history.files['first.csv'], early=arrivals)
+        if arrivals:
+            stage.write('first.sql', first_script(first_rows(history.files['first.csv'], arrivals)).encode())
+            desk.check('script first.sql', '')
+            desk.check('migrate', 'migrated\n')
         else:
-            self.stage.write('first.csv', manifest_text(history.first).encode())
-            self.desk.check('create first.csv', 'created\n')
+            desk.check('create first.csv', 'created\n')
 
     def check_state(self):
-        for question, lines in state(self.book).items():
-            self.desk.check(question, text_of(lines))
+        for question, wanted in state(self.model).items():
+            self.desk.check(question, wanted)
 
-    def line_of(self, at, event):
-        """Notes an event, and gives the line by which the desk is told of it."""
-        self.told.append(event_text(event))
-        match event:
-            case Arrival(number, body):
-                return f'comes n{number} body{body.index}'
-            case Amendment(rows):
-                self.stage.write(f'rows{at}.csv', manifest_text(rows).encode())
-                return f'amend rows{at}.csv'
-            case Moment(half):
-                return f'as-of {moment_text(half)}'
-        return 'close'
-
-    def take(self, event):
-        """The model's answer to an event, and the work if it is taken in."""
-        answer, new = take(self.book, event)
-        done = work(latest_chain(self.book), latest_chain(new)) if new else None
-        self.book = new or self.book
-        return answer, done
-
-    def close(self, line):
-        self.check_state()
-        self.desk.check(line, '')
-        self.desk.check('open', 'opened\n')
-        self.check_state()
-
-    def do(self, line, event):
-        answer, done = self.take(event)
-        self.desk.check(line, f'{answer}; {work_text(done)}\n' if done else f'{answer}\n')
-        self.desk.check('parked', text_of(parked_lines(self.book)))
-
-    def one_by_one(self, events):
-        for at, event in enumerate(events):
-            line = self.line_of(at, event)
-            if isinstance(event, Closing):
-                self.close(line)
+    def one_by_one(self, lines):
+        for line in lines:
+            if line == 'close':
+                self.check_state()
+                self.desk.check(line, '')
+                self.desk.check('open', 'opened\n')
+                self.check_state()
             else:
-                self.do(line, event)
+                self.desk.check(line, answer(self.stage, self.model, line).whole())
+                self.desk.check('parked', report('parked', self.model.parked_rows()))
         self.check_state()
 
-    def in_one_call(self, events):
-        lines = [self.line_of(at, event) for at, event in enumerate(events)]
-        taken = [self.take(event) for event in events]
-        self.desk.check(f'run {len(events)}', text_of(answer for answer, _ in taken), *lines)
-        self.desk.check('writes', text_of([sum(done.writes for _, done in taken if done)]))
+    def in_one_call(self, lines):
+        answers = [answer(self.stage, self.model, it) for it in lines]
+        self.desk.check(f'run {len(lines)}', text_of(it.text for it in answers), *lines)
+        self.desk.check('writes', text_of([sum(it.writes for it in answers)]))
         self.check_state()
 
 
@@ -124,14 +93,8 @@ def play_all(stage, first, draw, play):
     """Plays the lists of some seeds, each over a desk of its own."""
     for seed in range(first, first + LISTS):
         history = draw(seed)
-        told = [f'the list of seed {seed}, which begins with {manifest_text(history.first)}', *map(event_text, history.early)]
-        try:
-            with Harness(stage) as desk:
-                it = Play(stage, desk, history, told)
-                it.start(history)
-                play(it, history.events)
-        except Failed as failure:
-            raise Failed(f'{"".join(told)}{failure}') from None
+        with case(f'the list of seed {seed}:\n{history.shown()}'), Harness(stage) as desk:
+            play(Play(stage, desk, history), history.events)
 
 
 def one_by_one(first, draw, *of):

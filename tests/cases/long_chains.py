@@ -3,10 +3,9 @@ what its deposits say, one after the other."""
 import datetime
 from dataclasses import dataclass
 
-from support.bundles import sealed, table
-from support.formats import KINDS
-from support.releases import Header, manifest
-from support.stage import Wanted, text_of
+from support.bundles import Header, Table, csv_text, deposit, manifest
+from support.reports import report, status
+from support.stage import Wanted
 from support.steps import Folder
 
 # How many deposits are taken by one run: each is synced to the disk, and a run may not take long.
@@ -31,11 +30,8 @@ class Deposit:
         return Header(f'N{self.day}', *before, self.resend)
 
     def body(self):
-        it = self.header()
-        deletes, contents = (table('host', 'host', 'parent', fields, file) for fields, file in ((FIELDS[:1], 'd'), (FIELDS, 'c')))
-        envelope = {'id': it.id, 'type': it.type, 'watermark': it.watermark, 'prevId': it.prev, 'resend': it.resend, 'deletes': [deletes],
-                    'contents': [contents]}
-        return sealed(envelope, [('d', text_of(self.deletes).encode()), ('c', text_of(map(','.join, self.contents.items())).encode())])
+        contents = Table('host', 'host', 'parent', FIELDS, csv_text(self.contents.items()))
+        return deposit(self.header(), [contents], [Table('host', 'host', 'parent', FIELDS[:1], csv_text([it] for it in self.deletes))])
 
 
 def deposit_of(day):
@@ -61,13 +57,12 @@ def check_desk(stage, chain, held, awaited):
     """Compares what is told of a desk with this chain, where so many deposits came, and this revision of the one on the Full is awaited."""
     found, headers = tables(chain), [it.header() for it in chain]
     end = headers[-1]
-    numbers = {'listed': len(chain) + 1, 'held': held, 'receipts': held, 'chain': len(chain),
-               'end': f'{end.watermark} {end.type} {end.resend}', **dict.fromkeys(KINDS, 0), 'host': len(found)}
+    told = status(len(chain) + 1, held, held, len(chain), f'{end.watermark} {end.type} {end.resend}', host=len(found))
     gaps = [f'{it.watermark},{it.type},{it.resend},chain,,{awaited if at == 1 else ""}' for at, it in enumerate(headers)]
     cells = [f'host,{name},host,0,{field},{value}' for name in sorted(found) for field, value in zip(FIELDS, (name, found[name]))]
-    stage.check('report --store a.db status', Wanted(0, text_of(f'{name} {number}' for name, number in numbers.items())))
-    stage.check('report --store a.db gaps', Wanted(0, text_of(['watermark,type,used,state,blocker,awaited', *gaps])))
-    stage.check('export --store a.db host', Wanted(0, text_of(['kind,key,table,row,field,value', *cells])))
+    stage.check('report --store a.db status', Wanted(0, told))
+    stage.check('report --store a.db gaps', Wanted(0, report('gaps', gaps)))
+    stage.check('export --store a.db host', Wanted(0, report('export', cells)))
 
 
 def take(stage, folder, deposits, receipt):
@@ -77,7 +72,7 @@ def take(stage, folder, deposits, receipt):
     for at, it in enumerate(deposits, receipt):
         stage.write(f'{folder}/n{at:04}', it.body())
         told.append(f'{at},n{at:04},A1,,N{it.day},{it.resend},new,0')
-    stage.check(f'take --store a.db {folder}', Wanted(0, text_of(['receipt,number,verdict,fault,id,resend,copy,orphans', *told])))
+    stage.check(f'take --store a.db {folder}', Wanted(0, report('receipts', told)))
 
 
 def check_chain(stage, steps):

@@ -1,17 +1,17 @@
 """Stores that the C library makes, with nothing of the program: one of the texts of the tables alone, and stores of version 1, which are
 migrated. What is told of them then, and their rows, are those of a store that `restore` made and that took the same arrivals."""
-import contextlib, os, sqlite3
+import contextlib, functools, os, sqlite3
 from dataclasses import dataclass
 
 from support import TOP
-from support.bundles import HEADING, row_of
+from support.bundles import Header, Table, csv_text, deposit, manifest
 from support.files import read, write
-from support.first_store import TABLES, First, write_store
-from support.releases import Header, Table, bundle
+from support.first_store import TABLES, first_rows, write_store
+from support.releases import DEPOSITS, MISSING, folder, sample
 from support.stage import Failed
 from support.stores import contents, copy, is_whole, opened, readings, rows
 
-SAMPLES = f'{TOP}/samples'
+FIRST = f'{TOP}/samples/first'
 NEW_TABLES = {'parked': 'digest BLOB PRIMARY KEY, body BLOB NOT NULL',
               'moment': 'id INTEGER PRIMARY KEY CHECK (id = 1), watermark INTEGER NOT NULL'}
 S3 = (3, '', 'S3\n')
@@ -25,31 +25,27 @@ def check(what, wanted, found):
         raise Failed(f'{what}:\nwanted {wanted!r:.600}\ngot    {found!r:.600}')
 
 
-class Program:
-    """`restore` in the folder of a case."""
+def run(stage, command, store, *words):
+    """The status of a run, its standard output and its standard error."""
+    got = stage.end(stage.begin([command, '--store', store, *words]))
+    return got.status, got.out.decode(), got.err.decode()
 
-    def __init__(self, stage):
-        self.stage = stage
 
-    def run(self, command, store, *words):
-        """Its status, its standard output and its standard error."""
-        got = self.stage.end(self.stage.begin([command, '--store', store, *words]))
-        return got.status, got.out.decode(), got.err.decode()
+def readings_of(stage, store):
+    return readings(lambda command, _, *words: run(stage, command, *words), store)
 
-    def readings(self, store):
-        return readings(lambda command, _, *words: self.run(command, *words), store)
 
-    def rows(self, store):
-        """The rows of a store's tables, after the C library's checks of the file."""
-        check(f'the checks of {store}', True, is_whole(self.stage.at(store)))
-        return rows(self.stage.at(store))
+def rows_of(stage, store):
+    """The rows of a store's tables, after the C library's checks of the file."""
+    check(f'the checks of {store}', True, is_whole(stage.at(store)))
+    return rows(stage.at(store))
 
 
 # ---- a store of the texts of the tables
 
 def write_plain(stage, store, tables):
     """Makes a store of the first sample's manifest, with its tables in this order, in small letters."""
-    listed = First(read(f'{SAMPLES}/first/manifest.csv'), []).rows()['listed']
+    listed = first_rows(read(f'{FIRST}/manifest.csv'), [])['listed']
     with contextlib.closing(sqlite3.connect(stage.at(store))) as database, database:
         for name, columns in tables.items():
             database.execute(f'create table {name} ({columns.lower()})')
@@ -59,19 +55,19 @@ def write_plain(stage, store, tables):
 
 def test_plain_store(stage):
     """A store that is made of the texts of the tables alone is one; with the tables in another order it is none."""
-    program, tables = Program(stage), TABLES | NEW_TABLES
+    tables = TABLES | NEW_TABLES
     write_plain(stage, 'plain.db', tables)
-    program.run('init', 'own.db', '--manifest', f'{SAMPLES}/first/manifest.csv')
+    run(stage, 'init', 'own.db', '--manifest', f'{FIRST}/manifest.csv')
     for what in ('taken', 'taken again'):
-        taken = program.run('take', 'own.db', f'{SAMPLES}/first/deposits')
+        taken = run(stage, 'take', 'own.db', f'{FIRST}/deposits')
         check('status', 0, taken[0])
-        check(what, taken, program.run('take', 'plain.db', f'{SAMPLES}/first/deposits'))
-    check('reports and exports', program.readings('own.db'), program.readings('plain.db'))
-    check('rows', program.rows('own.db'), program.rows('plain.db'))
+        check(what, taken, run(stage, 'take', 'plain.db', f'{FIRST}/deposits'))
+    check('reports and exports', readings_of(stage, 'own.db'), readings_of(stage, 'plain.db'))
+    check('rows', rows_of(stage, 'own.db'), rows_of(stage, 'plain.db'))
     write_plain(stage, 'turned.db', {'listed': tables['listed'], **tables})
-    before = program.rows('turned.db')
-    check('another order', S3, program.run('report', 'turned.db', 'status'))
-    check('its rows', before, program.rows('turned.db'))
+    before = rows_of(stage, 'turned.db')
+    check('another order', S3, run(stage, 'report', 'turned.db', 'status'))
+    check('its rows', before, rows_of(stage, 'turned.db'))
 
 
 # ---- stores of version 1
@@ -110,65 +106,58 @@ def texts_of(stage, store):
         return [it for it, in database.execute("SELECT sql FROM sqlite_master WHERE type = 'table' ORDER BY rowid")]
 
 
-def check_migration(stage, program, kept):
-    """Of a store of version 1 nothing changes but the version, and two tables that are empty. Any other command refuses it, and so does a
-    second migration."""
-    write_store(stage.at('a.db'), kept.rows())
-    whole, before = contents(stage.at('a.db')), program.rows('a.db')
-    check('the rows of version 1', {table: sorted(it, key=repr) for table, it in kept.rows().items()}, before)
+def check_migration(stage, kept):
+    """Of a store of version 1, with these rows, nothing changes but the version, and two tables that are empty. Any other command refuses
+    it, and so does a second migration."""
+    write_store(stage.at('a.db'), kept)
+    whole, before = contents(stage.at('a.db')), rows_of(stage, 'a.db')
+    check('the rows of version 1', {table: sorted(it, key=repr) for table, it in kept.items()}, before)
     for command, *words in OTHERS:
-        check(f'{command} of version 1', S3, program.run(command, 'a.db', *words))
+        check(f'{command} of version 1', S3, run(stage, command, 'a.db', *words))
     check('the file after refusals', whole[0], contents(stage.at('a.db'))[0])
-    check('migrate', (0, 'migrated\n', ''), program.run('migrate', 'a.db'))
-    check('the rows once migrated', before | {'info': [(1, 2)], 'parked': [], 'moment': []}, program.rows('a.db'))
+    check('migrate', (0, 'migrated\n', ''), run(stage, 'migrate', 'a.db'))
+    check('the rows once migrated', before | {'info': [(1, 2)], 'parked': [], 'moment': []}, rows_of(stage, 'a.db'))
     whole = contents(stage.at('a.db'))[0]
-    check('migrate again', S3, program.run('migrate', 'a.db'))
+    check('migrate again', S3, run(stage, 'migrate', 'a.db'))
     check('the file after it', whole, contents(stage.at('a.db'))[0])
 
 
-def check_same(stage, program, store, other):
+def check_same(stage, store, other):
     """Compares reports, exports, tables and rows of a migrated store with those of another one."""
-    check('reports and exports', as_later(program.readings(other)), as_later(program.readings(store)))
+    check('reports and exports', as_later(readings_of(stage, other)), as_later(readings_of(stage, store)))
     check('texts of tables', texts_of(stage, other), texts_of(stage, store))
-    check('rows', rows_as_later(program.rows(other)), rows_as_later(program.rows(store)))
+    check('rows', rows_as_later(rows_of(stage, other)), rows_as_later(rows_of(stage, store)))
 
 
-def go_on(stage, program, steps):
+def go_on(stage, steps):
     """Takes the arrivals again, amends, and takes what comes later, on a migrated store and on the other one."""
     for start, store in (('a.db', 'b.db'), ('fresh.db', 'c.db')):
         copy(stage.at(start), stage.at(store))
     for step in [*steps, ('take', 'taken')]:
-        ends = [as_later({step: program.run(step[0], it, *step[1:])}) for it in ('c.db', 'b.db')]
+        ends = [as_later({step: run(stage, step[0], it, *step[1:])}) for it in ('c.db', 'b.db')]
         check(f'{step}', *ends)
-    check_same(stage, program, 'b.db', 'c.db')
-    check('later arrivals', *(program.run('take', it, 'later') for it in ('c.db', 'b.db')))
-    check_same(stage, program, 'b.db', 'c.db')
+    check_same(stage, 'b.db', 'c.db')
+    check('later arrivals', *(run(stage, 'take', it, 'later') for it in ('c.db', 'b.db')))
+    check_same(stage, 'b.db', 'c.db')
 
 
 def check_release(stage, release):
     """Migrates a store that version 1 made of a release. Then it is as one that took the same arrivals, but for the bodies that no row
     listed; and once these come again, before or after their rows, it is the same."""
-    program, kept = Program(stage), First(release.manifest, release.arrivals)
+    kept = first_rows(release.manifest, release.arrivals)
     release.put(stage)
-    check_migration(stage, program, kept)
-    check('init', (0, f'listed {len(kept.listed)}\n', ''), program.run('init', 'fresh.db', '--manifest', 'manifest.csv'))
-    program.run('take', 'fresh.db', 'taken')
-    wanted = program.readings('fresh.db') | {'report parked': (0, 'sha256,bytes\n', '')}
-    check('reports once migrated', as_later(wanted), as_later(program.readings('a.db')))
+    check_migration(stage, kept)
+    check('init', (0, f'listed {len(kept["listed"])}\n', ''), run(stage, 'init', 'fresh.db', '--manifest', 'manifest.csv'))
+    run(stage, 'take', 'fresh.db', 'taken')
+    wanted = readings_of(stage, 'fresh.db') | {'report parked': (0, 'sha256,bytes\n', '')}
+    check('reports once migrated', as_later(wanted), as_later(readings_of(stage, 'a.db')))
     amendments = [('amend', '--manifest', f'part{at}.csv') for at in range(len(release.parts))]
-    go_on(stage, program, [('take', 'taken'), *amendments])
+    go_on(stage, [('take', 'taken'), *amendments])
     if amendments:
-        go_on(stage, program, amendments)
+        go_on(stage, amendments)
 
 
 # ---- releases
-
-def sample(path):
-    return read(f'{SAMPLES}/{path}')
-
-
-def folder(path):
-    return [(name, sample(f'{path}/{name}')) for name in sorted(os.listdir(f'{SAMPLES}/{path}'))]
 
 
 def header(id, type, day, prev='', resend=0):
@@ -177,13 +166,8 @@ def header(id, type, day, prev='', resend=0):
 
 def of_domains(it, domains, statuses):
     """A deposit of domains with a child table."""
-    return bundle(it, [Table('domainStatuses', 'domain', 'child', ('domainName', 'status'), statuses),
-                       Table('domain', 'domain', 'parent', ('name', 'clID'), domains)])
-
-
-def manifest(*rows):
-    said = (f'{it.id},{it.type},{it.watermark},{it.prev},{it.resend}' for it, _ in rows)
-    return (HEADING + ''.join(map(row_of, said, (body for _, body in rows)))).encode()
+    return deposit(it, [Table('domainStatuses', 'domain', 'child', ('domainName', 'status'), csv_text(statuses)),
+                        Table('domain', 'domain', 'parent', ('name', 'clID'), csv_text(domains))])
 
 
 def each_verdict():
@@ -197,18 +181,17 @@ def each_verdict():
     cut, broken, none = full[:-5], second.replace(b'c.example,R2', b'c.example R2'), b'neither a bundle'
     bodies = (full, cut, other, second, broken, b'abc', full, second, fourth, none, other, cut, b'')
     return Release(
-        manifest((f1, full), (header('F1', 'FULL', 1, resend=1), cut), (header('D3', 'DIFF', 3, 'F1'), other)),
+        manifest([(f1, full), (header('F1', 'FULL', 1, resend=1), cut), (header('D3', 'DIFF', 3, 'F1'), other)]),
         [(chr(ord('a') + at), it) for at, it in enumerate(bodies)], (('n', second), ('o', fourth)),
-        (manifest((d2, second), (header('D2', 'DIFF', 2, 'F1', 1), broken)),
-         manifest((d4, fourth), (header('D5', 'DIFF', 5, 'D4'), none))))
+        (manifest([(d2, second), (header('D2', 'DIFF', 2, 'F1', 1), broken)]),
+         manifest([(d4, fourth), (header('D5', 'DIFF', 5, 'D4'), none)])))
 
 
 RELEASES = {
-    'the first sample': lambda: Release(sample('first/manifest.csv'), folder('first/deposits')),
-    'no arrivals': lambda: Release(sample('first/manifest.csv'), [], folder('first/deposits')),
-    'the second sample': lambda: Release(sample('release/manifest.csv'), folder('release/deposits'), folder('release/missing')),
-    'a manifest in parts': lambda: Release(sample('parts/first.csv'), folder('release/deposits'), folder('release/missing'),
-                                           (sample('parts/second.csv'),)),
-    'each verdict': each_verdict,
+    'the first sample': Release(sample('first/manifest.csv'), folder('first/deposits')),
+    'no arrivals': Release(sample('first/manifest.csv'), [], folder('first/deposits')),
+    'the second sample': Release(sample('release/manifest.csv'), DEPOSITS, MISSING),
+    'a manifest in parts': Release(sample('parts/first.csv'), DEPOSITS, MISSING, (sample('parts/second.csv'),)),
+    'each verdict': each_verdict(),
 }
-CASES = {f'A store of version 1, of {name}, is migrated': lambda stage, made=made: check_release(stage, made()) for name, made in RELEASES.items()}
+CASES = {f'A store of version 1, of {name}, is migrated': functools.partial(check_release, release=it) for name, it in RELEASES.items()}

@@ -14,124 +14,43 @@ FIRST_LINES = (
 )
 # Worked manifests, each fault alone, and the least of two: for each case what is said of it, and its rows: the first five fields, and the
 # digest as a number. Where that is `-`, the row has no further field.
-TEXTS = '''M12 row 2
-F1,FULL,2024-03-03T00:00:00Z,, 1
-D2,DIFF,2024-03-03T00:00:00Z,F1, 2
-
-M10 row 2
-F1,FULL,2024-03-03T00:00:00Z,, 1
-F1,FULL,2024-03-03T00:00:00Z,,0 2
-
-M4 row 2
-F1,FULL,2024-03-03T00:00:00Z,,,xy -
-a b,DIFF,2024-03-04T00:00:00Z,F1, 2
-
-listed 0
-
-M2 row 1
-F1,FULL,2024-03-03T00:00:00Z,,0 -
-
-M2 row 1
-F1,FULL,2024-03-03T00:00:00Z,,0,, 1
-
-M4 row 1
-,FULL,2024-03-03T00:00:00Z,,0 1
-
-M4 row 1
-Fä,FULL,2024-03-03T00:00:00Z,,0 1
-
-M4 row 1
-F1,FULL,2024-03-03T00:00:00Z,a b,0 1
-
-M5 row 1
-F1,full,2024-03-03T00:00:00Z,,0 1
-
-M6 row 1
-F1,FULL,2024-02-30T00:00:00Z,,0 1
-
-M6 row 1
-F1,FULL,2262-01-01T00:00:00Z,,0 1
-
-M7 row 1
-F1,DIFF,2024-03-03T00:00:00Z,,0 1
-
-M8 row 1
-F1,FULL,2024-03-03T00:00:00Z,,0000000 1
-
-M8 row 1
-F1,FULL,2024-03-03T00:00:00Z,,+1 1
-
-M9 row 1
-F1,FULL,2024-03-03T00:00:00Z,,0,0g -
-
-M12 row 1
-F1,DIFF,2024-03-03T00:00:00Z,F1,0 1
-
-listed 1
-F1,DIFF,2024-03-03T00:00:00Z,F2,0 1
-
-listed 1
-F1,FULL,2024-03-03T00:00:00Z,,999999 1
-
-M8 row 1
-F1,FULL,2024-03-03T00:00:00Z,,1000000 1
-
-listed 2
-F1,FULL,2024-03-03T00:00:00Z,,999998 1
-F1,FULL,2024-03-03T00:00:00Z,,999999 2
-
-M11 row 2
-F1,FULL,2024-03-03T00:00:00Z,,0 1
-F1,INCR,2024-03-03T00:00:00Z,,0 2
-
-M13 row 2
-F1,FULL,2024-03-03T00:00:00Z,,0 1
-F2,FULL,2024-03-04T00:00:00Z,,0 1
-
-M10 row 2
-F1,FULL,2024-03-03T00:00:00Z,,0 1
-F2,FULL,2024-03-03T00:00:00.0Z,, 2
-
-M12 row 1
-D1,DIFF,2024-03-03T00:00:00Z,F2,0 1
-F2,FULL,2024-03-03T00:00:00Z,,0 2
-
-M4 row 2
-F1,full,2024-03-03T00:00:00Z,,0 1
-F 2,FULL,2024-03-03T00:00:00Z,,0 1
-
-M5 row 2
-F1,FULL,2024-03-03,,0 1
-F1,,2024-03-03T00:00:00Z,,0 1
-
-M6 row 2
-F1,DIFF,2024-03-03T00:00:00Z,,0 1
-F1,FULL,2024-03-03,,0 1
-
-M7 row 2
-F1,FULL,2024-03-03T00:00:00Z,,x 1
-F1,DIFF,2024-03-03T00:00:00Z,,0 1
-
-M8 row 2
-F1,FULL,2024-03-03T00:00:00Z,,0,1 -
-F1,FULL,2024-03-03T00:00:00Z,,x 1
-
-M9 row 2
-F1,FULL,2024-03-03T00:00:00Z,,0 1
-F1,FULL,2024-03-03T00:00:00Z,,0,1 -
-
-M10 row 2
-F1,FULL,2024-03-03T00:00:00Z,,0 1
-F1,FULL,2024-03-03T00:00:00Z,,0 1
-
-M11 row 2
-F1,FULL,2024-03-03T00:00:00Z,,0 1
-F1,DIFF,2024-03-03T00:00:00Z,F1,0 1
-
-M12 row 2
-F1,FULL,2024-03-03T00:00:00Z,,0 1
-D2,DIFF,2024-03-03T00:00:00Z,F1,0 1
-'''
+FULL = 'F1,FULL,2024-03-03T00:00:00Z,,'
+TEXTS = (
+    ('M12 row 2', f'{FULL} 1', 'D2,DIFF,2024-03-03T00:00:00Z,F1, 2'),
+    ('M10 row 2', f'{FULL} 1', f'{FULL}0 2'),
+    ('M4 row 2', f'{FULL},xy -', 'a b,DIFF,2024-03-04T00:00:00Z,F1, 2'),
+    ('listed 0',),
+    ('M2 row 1', f'{FULL}0 -'),
+    ('M2 row 1', f'{FULL}0,, 1'),
+    ('M4 row 1', ',FULL,2024-03-03T00:00:00Z,,0 1'),
+    ('M4 row 1', 'Fä,FULL,2024-03-03T00:00:00Z,,0 1'),
+    ('M4 row 1', 'F1,FULL,2024-03-03T00:00:00Z,a b,0 1'),
+    ('M5 row 1', 'F1,full,2024-03-03T00:00:00Z,,0 1'),
+    ('M6 row 1', 'F1,FULL,2024-02-30T00:00:00Z,,0 1'),
+    ('M6 row 1', 'F1,FULL,2262-01-01T00:00:00Z,,0 1'),
+    ('M7 row 1', 'F1,DIFF,2024-03-03T00:00:00Z,,0 1'),
+    ('M8 row 1', f'{FULL}0000000 1'),
+    ('M8 row 1', f'{FULL}+1 1'),
+    ('M9 row 1', f'{FULL}0,0g -'),
+    ('M12 row 1', 'F1,DIFF,2024-03-03T00:00:00Z,F1,0 1'),
+    ('listed 1', 'F1,DIFF,2024-03-03T00:00:00Z,F2,0 1'),
+    ('listed 1', f'{FULL}999999 1'),
+    ('M8 row 1', f'{FULL}1000000 1'),
+    ('listed 2', f'{FULL}999998 1', f'{FULL}999999 2'),
+    ('M11 row 2', f'{FULL}0 1', 'F1,INCR,2024-03-03T00:00:00Z,,0 2'),
+    ('M13 row 2', f'{FULL}0 1', 'F2,FULL,2024-03-04T00:00:00Z,,0 1'),
+    ('M10 row 2', f'{FULL}0 1', 'F2,FULL,2024-03-03T00:00:00.0Z,, 2'),
+    ('M12 row 1', 'D1,DIFF,2024-03-03T00:00:00Z,F2,0 1', 'F2,FULL,2024-03-03T00:00:00Z,,0 2'),
+    ('M4 row 2', 'F1,full,2024-03-03T00:00:00Z,,0 1', 'F 2,FULL,2024-03-03T00:00:00Z,,0 1'),
+    ('M5 row 2', 'F1,FULL,2024-03-03,,0 1', 'F1,,2024-03-03T00:00:00Z,,0 1'),
+    ('M6 row 2', 'F1,DIFF,2024-03-03T00:00:00Z,,0 1', 'F1,FULL,2024-03-03,,0 1'),
+    ('M7 row 2', f'{FULL}x 1', 'F1,DIFF,2024-03-03T00:00:00Z,,0 1'),
+    ('M8 row 2', f'{FULL}0,1 -', f'{FULL}x 1'),
+    ('M9 row 2', f'{FULL}0 1', f'{FULL}0,1 -'),
+    ('M10 row 2', f'{FULL}0 1', f'{FULL}0 1'),
+    ('M11 row 2', f'{FULL}0 1', 'F1,DIFF,2024-03-03T00:00:00Z,F1,0 1'),
+    ('M12 row 2', f'{FULL}0 1', 'D2,DIFF,2024-03-03T00:00:00Z,F1,0 1'),
+)
 # A manifest whose rows have the published digests of the empty text and of `abc` (FIPS 180-4), and one more.
 WORKED = '''id,type,watermark,prevId,resend,sha256
 F1,FULL,2024-03-03T00:00:00Z,X9,007,e3b0c44298fc1c149afbf4c8996fb92427ae41e4649b934ca495991b7852b855
@@ -147,7 +66,7 @@ F3 2 1709596800000000000 none 999999 x000000000000000000000000000000000000000000
 ARRIVALS = ((b'abc', '1,n1,A3,U1,D2,0,,'), (b'abd', '2,n2,A5,,,,,'), (b'', '3,n3,A3,U1,F1,7,,'))
 
 # Rows of two manifests, without their digests as numbers.
-F1 = ('F1,FULL,2024-03-03T00:00:00Z,,', 1)
+F1 = (FULL, 1)
 F1_IN_OTHER_WORDS = ('F1,FULL,2024-03-03T00:00:00.0Z,,000', 1)
 D2 = ('D2,DIFF,2024-03-04T00:00:00Z,F1,', 2)
 D2_AGAIN = ('D2,DIFF,2024-03-04T00:00:00Z,F1,1', 3)
@@ -187,8 +106,7 @@ def test_the_first_line(stage):
 
 def test_the_least_fault_of_a_text(stage):
     """The least fault of a text."""
-    for case_of_rows in TEXTS.removesuffix('\n').split('\n\n'):
-        said, *rows = case_of_rows.split('\n')
+    for said, *rows in TEXTS:
         compare(f'what is said of {rows}', said, said_of(stage, text_of_rows(it.rsplit(' ', 1) for it in rows)))
 
 

@@ -5,13 +5,14 @@ import contextlib, os, resource, shutil, signal, socket, stat, threading
 from support import TOP
 from support.files import read, write
 from support.messages import put
-from support.outputs import NarrowPipe
-from support.sockets import HOST, free_port
-from support.stage import Failed, Wanted, faults, pieces_of
+from support.outputs import run_held_up
+from support.reports import report
+from support.sockets import response_to, serve
+from support.stage import Failed, Wanted, faults
 from support.stores import copy, is_whole, rows
 
 MANIFEST, DEPOSITS = f'{TOP}/samples/release/manifest.csv', f'{TOP}/samples/release/deposits'
-HEADING = 'receipt,number,verdict,fault,id,resend,copy,orphans\n'
+HEADING, FIRST = report('receipts'), report('receipts', ['1,n1,A1,,F1,0,new,0'])
 LISTED, EMPTY, S1, S3 = Wanted(0, 'listed 7\n'), Wanted(0, HEADING), Wanted(3, '', 'S1\n'), Wanted(3, '', 'S3\n')
 WHOLE = Wanted(0, HEADING + ''.join(f'{at},n{at},A1,,{it},new,0\n' for at, it in enumerate(('F1,0', 'D2,0', 'D3,0', 'I4,0', 'D6,0', 'D3,1'), 1)))
 RECEIPTS = ('report', '--store', 'a.db', 'receipts')
@@ -19,8 +20,8 @@ TAKE = ('take', '--store', 'a.db')
 GIGABYTE, NOBODY = 2**30, 65534
 
 
-def refused(path):
-    return Wanted(3, '', f'E1 {path or "(an empty path)"}\n')
+def refused(path, out=''):
+    return Wanted(3, out, f'E1 {path or "(an empty path)"}\n')
 
 
 def manifest_fault(fault):
@@ -206,25 +207,14 @@ def test_logs(stage):
         check_whole(stage, f'log {at}', before)
 
 
-def serve(stage, store):
-    """A desk over a store, and its port."""
-    port = free_port()
-    child = stage.begin(['serve', '--store', store, '--port', f'{port}', '--count', '9'])
-    if next(pieces_of(child.stdout), b'') != f'listening {HOST}:{port}\n'.encode():
-        raise Failed(f'{store} is not served')
-    return child, port
-
-
 def test_a_store_by_a_link(stage):
     """A store that is named by a link is locked by either name, and has by either what was answered before a kill."""
     make_store(stage)
     os.symlink('a.db', stage.at('link.db'))
     check(stage, ('take', '--store', 'link.db', DEPOSITS), WHOLE)
-    child, port = serve(stage, 'link.db')
+    child, port = serve(stage, 'link.db', 9)
     check(stage, RECEIPTS, S1)
-    with socket.create_connection((HOST, port), 10) as client:
-        client.sendall(put('killed', 3, 'abc').encode())
-        client.recv(65_536)
+    response_to(port, put('killed', b'abc'))
     child.kill()
     child.wait()
     for store in ('link.db', 'a.db'):
@@ -266,18 +256,7 @@ def replaced(make):
 
 # How a file of a folder changes once the folder is listed, and what comes of it.
 CHANGES = ((os.remove, None), (replaced(os.mkdir), None), (replaced(linked(MANIFEST)), None), (replaced(linked('/dev/zero')), None),
-           (replaced(os.mkfifo), None), (sparse(17 * 10**6), Wanted(1, '', 'E2 z\n')))
-
-
-@contextlib.contextmanager
-def held_up(stage, *words):
-    """A run that prints its heading, and then waits until the block ends. Its pipe has no room before."""
-    with NarrowPipe(len(HEADING)) as pipe:
-        child = stage.begin(words, out=pipe.writer, prepare=bounded())
-        pipe.writer.close()
-        pipe.wait_until_full(child)
-        yield child
-        b''.join(pieces_of(pipe.reader))
+           (replaced(os.mkfifo), None), (sparse(17 * 10**6), Wanted(1, FIRST, 'E2 z\n')))
 
 
 def test_files_that_change(stage):
@@ -287,10 +266,11 @@ def test_files_that_change(stage):
         folder = f'folder{at}'
         for name in ('n1', 'z'):
             write(stage.at(f'{folder}/{name}'), read(f'{DEPOSITS}/n1'))
-        with held_up(stage, *TAKE, folder) as child:
-            change(stage.at(f'{folder}/z'))
-        stage.compare(f'take {folder}', wanted or refused(f'{folder}/z'), stage.end(child))
-        check(stage, RECEIPTS, Wanted(0, f'{HEADING}1,n1,A1,,F1,0,new,0\n'))
+        line = ' '.join((*TAKE, folder))
+        # (It is listed once the heading is printed, and there is no room for more until the file has changed.)
+        got = run_held_up(stage, line, len(HEADING), lambda: change(stage.at(f'{folder}/z')), prepare=bounded())
+        stage.compare(line, wanted or refused(f'{folder}/z', FIRST), got)
+        check(stage, RECEIPTS, Wanted(0, FIRST))
 
 
 def test_a_file_that_is_rewritten(stage):
@@ -312,9 +292,9 @@ def test_the_store_in_its_folder(stage):
     os.mkdir(stage.at('own'))
     make_store(stage, taken=False, store='own/a.db')
     shutil.copy(f'{DEPOSITS}/n1', stage.at('own/a'))
-    with held_up(stage, 'take', '--store', 'own/a.db', 'own') as child:
-        check(stage, ('report', '--store', 'own/a.db', 'status'), S1)
-    stage.compare('take own', Wanted(1), stage.end(child))
+    status = ('report', '--store', 'own/a.db', 'status')
+    got = run_held_up(stage, 'take --store own/a.db own', len(HEADING), lambda: check(stage, status, S1))
+    stage.compare('take own', Wanted(1, part='1,a,A1,,F1,0,new,0\n2,a.db,A5,'), got)
     check_whole(stage, 'the store in its folder', store='own/a.db')
 
 

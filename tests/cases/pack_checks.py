@@ -1,26 +1,20 @@
-"""What `pack check` says of a folder's files, by a plain model of its lines (tests/support/spots.py has where a body is no deposit), and by
-what `restore take` says of the same folder."""
-import datetime, hashlib, json, os, random, re
+"""What `pack check` says of a folder's files, by a plain model of its lines (tests/support/formats.py has where a body is no deposit), and
+by what `restore take` says of the same folder."""
+import contextlib, hashlib, json, os, random, re
 
 from cases import bundles, deposits, envelopes
-from support import formats, spots
-from support.bodies import bytes_of, line_of
-from support.bundles import ENVELOPE, FIRST_LINE, FRONT, HEADING, SAMPLE, bundle_of, row_of, section
-from support.outputs import NarrowPipe
-from support.stage import Got, Wanted, case, compare, pieces_of, text_of
+from support import formats
+from support.bodies import BODIES, bytes_of, line_of
+from support.bundles import ENVELOPE, FIRST_LINE, FRONT, HEADING, SAMPLE, bundle_of, row_of, sealed, section
+from support.formats import Refused, found_in, moment_text
+from support.outputs import run_held_up
+from support.reports import report
+from support.stage import Got, Wanted, case, compare_all, text_of
 
 LINE = 'check --manifest manifest.csv files'
 NAMES = ('F1', 'D2', 'D2Resent', 'D3', 'I4', 'F5', 'D6')
 # The worked bodies as `check` names them.
-SAID = {
-    'F1': 'F1 FULL 2024-03-03T00:00:00Z resend 0',
-    'D2': 'D2 DIFF 2024-03-04T00:00:00Z resend 0',
-    'D2Resent': 'D2 DIFF 2024-03-04T00:00:00Z resend 1',
-    'D3': 'D3 DIFF 2024-03-05T00:00:00Z resend 0',
-    'I4': 'I4 INCR 2024-03-06T00:00:00Z resend 0',
-    'F5': 'F5 FULL 2024-03-10T00:00:00Z resend 0',
-    'D6': 'D6 DIFF 2024-03-11T00:00:00Z resend 0',
-}
+SAID = {it: '{0.id} {0.type} {0.watermark} resend {0.resend}'.format(BODIES[it].listed) for it in NAMES}
 # A Differential, rows that differ from what it says, and how that is told.
 D6 = bundle_of(b'{"id":"D6","type":"DIFF","prevId":"F5","resend":2,"watermark":"2024-03-11T00:00:00Z"}')
 DIFFERING = (
@@ -73,27 +67,20 @@ def bodies_refused():
     """Bodies that are no deposit, of the cases for each refusal."""
     yield from (it.body() for it, _ in deposits.REFUSED)
     yield from (body for body, _ in deposits.UNREADABLE)
-    yield from (FRONT + back for back, _ in bundles.BACKS)
-    yield from (FIRST_LINE + rest for rest, _ in bundles.REST)
-    yield from (bundles.EMPTY + back for back, _ in bundles.AFTER_MOST)
-    yield from (envelopes.body_of(members) for members, _ in envelopes.REFUSED)
-    yield from (bundle_of(text) for text, _ in (*envelopes.NO_HEADERS, *NO_JSON))
+    yield from (FRONT + it for it in sum(bundles.BACKS.values(), []))
+    yield from (FIRST_LINE + it for it in sum(bundles.REST.values(), []))
+    yield from (bundles.EMPTY + it for it in bundles.AFTER_MOST.values())
+    yield from (envelopes.body_of(it) for it in sum(envelopes.REFUSED.values(), []))
+    yield from map(bundle_of, [*sum(envelopes.NO_HEADERS.values(), []), *(text for text, _ in NO_JSON)])
     yield from MORE
 
 
 # ---- the model
 
 
-def moment_text(nanoseconds):
-    seconds, fraction = divmod(nanoseconds, 10**9)
-    point = f'.{fraction:09}'.rstrip('0') if fraction else ''
-    return f'{datetime.datetime(1970, 1, 1) + datetime.timedelta(seconds=seconds):%Y-%m-%dT%H:%M:%S}{point}Z'
-
-
-def values_of(header):
+def values_of(name, place, prev, resend):
     """What a header says, each value by its name, as a text."""
-    name, (watermark, kind), prev, resend = header
-    return {'id': name, 'type': kind, 'watermark': moment_text(watermark), 'resend': f'{resend}', 'prevId': prev or '(none)'}
+    return {'id': name, 'type': place[1], 'watermark': moment_text(place[0]), 'resend': f'{resend}', 'prevId': prev or '(none)'}
 
 
 def said(values):
@@ -102,10 +89,10 @@ def said(values):
 
 def found(body, listed, is_again):
     """What is found of a body, by what its row says, or None."""
-    where = f'listed as {said(listed)}' if listed else 'not listed'
-    if fault := spots.fault(body):
-        return f'A3 U{fault[0]}, {where}: {fault[1]}' if listed else f'A5, {where}, U{fault[0]}: {fault[1]}'
-    told = values_of(formats.deposit(body)[0])
+    where, read = f'listed as {said(listed)}' if listed else 'not listed', found_in(body)
+    if isinstance(read, Refused):
+        return f'A3 U{read.code}, {where}: {read.where}' if listed else f'A5, {where}, U{read.code}: {read.where}'
+    told = values_of(read.name, read.place, read.prev, read.resend)
     if not listed:
         return f'A5, {where}, says {said(told)}'
     compared = [it for it in listed if it != 'prevId' or listed['type'] == 'DIFF']
@@ -117,7 +104,7 @@ def found(body, listed, is_again):
 
 def lines_of(manifest, files):
     """The lines for files, the bytes of each by its name, and for the rows without a file."""
-    rows = {digest: values_of(header) for *header, digest in formats.manifest(manifest)}
+    rows = {digest: values_of(*header) for *header, digest in formats.manifest(manifest)}
     seen, lines = set(), []
     for name in sorted(files, key=str.encode):
         digest = hashlib.sha256(files[name]).hexdigest()
@@ -139,29 +126,26 @@ def set_up(stage, rows, files):
         stage.write(f'files/{name}', body)
 
 
-def unplaced(text):
-    """Lines in which no text that is no JSON has a place: the model doesn't know that."""
-    return re.sub(', line [0-9]+ column [0-9]+: no JSON', ': no JSON', text)
+def check_lines(stage, rows, files, wanted, status=1):
+    """Compares what is said of a folder with lines."""
+    set_up(stage, rows, files)
+    stage.check(LINE, Wanted(status, text_of(wanted)), program='pack')
 
 
 def check_folder(stage, rows, files):
-    """Compares what is said of a folder with the model, and gives its lines."""
+    """Compares what is said of a folder with the model, and gives its lines. (The model doesn't know where a text is no JSON.)"""
     set_up(stage, rows, files)
     wanted = lines_of((HEADING + ''.join(rows)).encode(), files)
     got = stage.end(stage.begin(LINE.split(), 'pack'))
     is_right = all(': A1' in it or it.startswith('no file: ') for it in wanted)
-    stage.compare(LINE, Wanted(0 if is_right else 1, text_of(wanted)), Got(got.status, unplaced(got.out.decode()).encode(), got.err), 'pack')
+    unplaced = re.sub(', line [0-9]+ column [0-9]+: no JSON', ': no JSON', got.out.decode()).encode()
+    stage.compare(LINE, Wanted(0 if is_right else 1, text_of(wanted)), Got(got.status, unplaced, got.err), 'pack')
     return wanted
 
 
 def check_taken(stage, lines):
     """Compares the lines with what a new store says of the folder that is taken."""
-    wanted = []
-    for line in lines:
-        number, _, told = line.partition(': ')
-        verdict, fault = re.match('(A[1-5](?: again)?)(?: (U[0-9]+))?', told).groups() if number != 'no file' else (None, None)
-        if verdict:
-            wanted.append(f'{number} {verdict}{f" {fault}" if fault else ""}')
+    wanted = [f'{it[1]} {it[2]}' for line in lines if (it := re.match('(.*?): (A[1-5](?: again)?(?: U[0-9]+)?)', line))]
     for name in os.listdir(stage.at('.')):
         if name.startswith('a.db'):
             os.remove(stage.at(name))
@@ -170,8 +154,8 @@ def check_taken(stage, lines):
     came = []
     for line in got.out.decode().splitlines()[1:]:
         _, number, verdict, fault, _, _, copy, _ = line.split(',')
-        came.append(' '.join(it for it in (number, verdict, 'again' if copy == 'again' else '', fault) if it))
-    compare('what is taken', text_of(wanted), text_of(came))
+        came.append(' '.join(filter(None, (number, verdict, 'again' if copy == 'again' else '', fault))))
+    compare_all('what is taken', wanted, came)
 
 
 # ---- the cases
@@ -182,17 +166,16 @@ def test_worked_releases(stage):
     rows = [line_of(it) for it in NAMES]
     files = {f'n{at}': bytes_of(it) for at, it in enumerate(NAMES)}
     lines = [f'n{at}: A1, listed as {SAID[it]}' for at, it in enumerate(NAMES)]
+    some = {it: files[it] for it in files if it not in ('n1', 'n4')}
     for name, given, wanted in (
             ('all files', files, lines),
-            ('without two of them', {it: files[it] for it in files if it not in ('n1', 'n4')},
-             [*(it for it in lines if it[:2] not in ('n1', 'n4')), f'no file: {SAID["D2"]}', f'no file: {SAID["I4"]}']),
+            ('without two of them', some, [*(it for it in lines if it[:2] in some), f'no file: {SAID["D2"]}', f'no file: {SAID["I4"]}']),
             ('one of them twice', files | {'N0': files['n3']},
              [f'N0: A1, listed as {SAID["D3"]}', *lines[:3], f'n3: A1 again, listed as {SAID["D3"]}', *lines[4:]]),
             ('an empty folder', {}, [f'no file: {SAID[it]}' for it in NAMES])):
         with case(name):
-            set_up(stage, rows, given)
-            stage.check(LINE, Wanted(0, text_of(wanted)), program='pack')
-            compare('model', text_of(wanted), text_of(lines_of((HEADING + ''.join(rows)).encode(), given)))
+            check_lines(stage, rows, given, wanted, 0)
+            compare_all('model', wanted, lines_of((HEADING + ''.join(rows)).encode(), given))
 
 
 def test_a_folder_one_level_too_high(stage):
@@ -214,16 +197,13 @@ def test_deposits_that_differ_from_their_rows(stage):
     """Each value in which a deposit differs from its row."""
     for row, listed, told in DIFFERING:
         with case(row):
-            set_up(stage, [row_of(row, D6)], {'n1': D6})
-            stage.check(LINE, Wanted(1, f'n1: A4, listed as {listed}: {told}\n'), program='pack')
+            check_lines(stage, [row_of(row, D6)], {'n1': D6}, [f'n1: A4, listed as {listed}: {told}'])
     with case('without a prevId'):
-        set_up(stage, [row_of('D6,DIFF,2024-03-11T00:00:00Z,F5,', NO_PREV)], {'n1': NO_PREV})
-        wanted = f'n1: A4, listed as {SAID["D6"]}: prevId is (none), listed F5\n'
-        stage.check(LINE, Wanted(1, wanted), program='pack')
+        check_lines(stage, [row_of('D6,DIFF,2024-03-11T00:00:00Z,F5,', NO_PREV)], {'n1': NO_PREV},
+                    [f'n1: A4, listed as {SAID["D6"]}: prevId is (none), listed F5'])
     with case('not listed'):
-        set_up(stage, [line_of('F5')], {'n1': D6})
-        wanted = f'n1: A5, not listed, says D6 DIFF 2024-03-11T00:00:00Z resend 2\nno file: {SAID["F5"]}\n'
-        stage.check(LINE, Wanted(1, wanted), program='pack')
+        check_lines(stage, [line_of('F5')], {'n1': D6},
+                    ['n1: A5, not listed, says D6 DIFF 2024-03-11T00:00:00Z resend 2', f'no file: {SAID["F5"]}'])
 
 
 def listed_apart(bodies):
@@ -234,16 +214,15 @@ def listed_apart(bodies):
 def test_where_bodies_are_no_deposit(stage):
     """Where bodies are wrong, each refusal, listed and not listed."""
     bodies = list(dict.fromkeys(bodies_refused()))
-    codes = {spots.fault(it)[0] for it in bodies}
-    compare('refusals', ' '.join(map(str, range(1, 12))), ' '.join(map(str, sorted(codes))))
+    compare_all('refusals', range(1, 12), sorted({found_in(it).code for it in bodies}))
     files = {f'n{at:03}': body for at, body in enumerate(bodies)}
     check_taken(stage, check_folder(stage, listed_apart(bodies), files))
     check_folder(stage, [line_of('F1')], files)
     for text, place in NO_JSON:
         with case(f'{text}'):
-            set_up(stage, listed_apart([bundle_of(text)]), {'n1': bundle_of(text)})
-            wanted = f'n1: A3 U5, listed as B0 FULL 2024-03-03T00:00:00Z resend 0: section 1 envelope.json, {place}: no JSON\n'
-            stage.check(LINE, Wanted(1, wanted), program='pack')
+            body = bundle_of(text)
+            check_lines(stage, listed_apart([body]), {'n1': body},
+                        [f'n1: A3 U5, listed as B0 FULL 2024-03-03T00:00:00Z resend 0: section 1 envelope.json, {place}: no JSON'])
 
 
 def test_files_that_are_not_looked_at(stage):
@@ -262,8 +241,7 @@ def test_files_that_are_not_looked_at(stage):
     stage.check(LINE, Wanted(1, out, text_of(told)), program='pack')
     # `restore take` tells the same.
     stage.check('init --store a.db --manifest manifest.csv', Wanted(0, 'listed 1\n'))
-    receipts = 'receipt,number,verdict,fault,id,resend,copy,orphans\n1,n1,A1,,F1,0,new,0\n'
-    stage.check('take --store a.db files', Wanted(1, receipts, text_of(told)))
+    stage.check('take --store a.db files', Wanted(1, report('receipts', ['1,n1,A1,,F1,0,new,0']), text_of(told)))
 
 
 def test_manifests_and_folders_that_are_refused(stage):
@@ -284,14 +262,8 @@ def test_a_file_that_can_not_be_read(stage):
     set_up(stage, [line_of(it) for it in ('F1', 'F5', 'I4')], {'n1': bytes_of('F1'), 'n2': bytes_of('F5'), 'n3': bytes_of('I4')})
     lines = [f'n1: A1, listed as {SAID["F1"]}\n', f'n2: A1, listed as {SAID["F5"]}\n']
     # The third file is removed once the line of the first one is written. There is no room for that of the second one until then.
-    with NarrowPipe(len(lines[0])) as pipe:
-        child = stage.begin(LINE.split(), 'pack', out=pipe.writer)
-        pipe.writer.close()
-        pipe.wait_until_full(child)
-        os.remove(stage.at('files/n3'))
-        out = b''.join(pieces_of(pipe.reader))[pipe.filled:]
-    got = stage.end(child)
-    stage.compare(LINE, Wanted(3, ''.join(lines), 'E1 files/n3\n'), Got(got.status, out, got.err), 'pack')
+    got = run_held_up(stage, LINE, len(lines[0]), lambda: os.remove(stage.at('files/n3')), 'pack')
+    stage.compare(LINE, Wanted(3, ''.join(lines), 'E1 files/n3\n'), got, 'pack')
 
 
 # ---- at random
@@ -315,7 +287,7 @@ def changed(chance, body):
     else:
         holder[name] = chance.choice((None, '', 'x', 'F1', 'DIFF', 1, -1, [], {}, ['id', 'id'], 'c.csv', 'id', 'child', 'contact',
                                       '2024-03-04T00:00:00Z'))
-    return bundle_of(json.dumps(value).encode(), b''.join(section(it.decode(), content) for it, content in files))
+    return sealed(json.dumps(value).encode(), files)
 
 
 def rewritten(chance, body):
@@ -327,16 +299,14 @@ def rewritten(chance, body):
     name, content = files[at]
     row = chance.choice((b'', b',\n', b'a,b,c,d\n', b'\xff\n', b'x' * 256 + b',\n', b'"\n', b'"a\nb",c\n', b'\xef\xbb\xbfa\n', b'\r\na\r\n'))
     files[at] = name, chance.choice((row + content, content + row, row))
-    return bundle_of(text, b''.join(section(it.decode(), content) for it, content in files))
+    return sealed(text, files)
 
 
 def some_body(chance):
     body = bytes_of(chance.choice(NAMES))
     for change in chance.sample((damaged, changed, rewritten), chance.choice((0, 1, 1, 1, 2))):
-        try:
+        with contextlib.suppress(Refused, IndexError, ValueError):
             body = change(chance, body)
-        except (formats.Refused, IndexError, ValueError):
-            pass
     return body
 
 

@@ -1,7 +1,8 @@
 """Bundles that `pack` makes of an agent's files and of their description, and what it refuses."""
 import json, os
 
-from support.bundles import ENVELOPE, FILES, FIRST_LINE, bundle_of, envelope_of, section
+from support.bundles import ENVELOPE, FILES, FIRST_LINE, Header, bundle_of, compact, deposit, envelope_of, section
+from support.files import read
 from support.stage import Wanted, case, compare
 
 LINE = 'bundle --envelope envelope.json files out'
@@ -54,38 +55,27 @@ DESCRIBED = (
 # of days, on one day in that of DIFF and FULL, and at one place in that of resends.
 UNLISTED = (
     # Without a prevId. It is the first row, and M7 is less than M10.
-    ('M7 n2 row 1', (('F1', 'FULL', 3, None, 0), ('D2', 'DIFF', 2, None, 0))),
-    ('M7 n1 row 1', (('D1', 'DIFF', 3, None, 0), ('D1', 'DIFF', 3, None, 0))),
+    ('M7 n2 row 1', (('F1', 'FULL', 3, '', 0), ('D2', 'DIFF', 2, '', 0))),
+    ('M7 n1 row 1', (('D1', 'DIFF', 3, '', 0), ('D1', 'DIFF', 3, '', 0))),
     # One place and resend. At one place and resend the rows are in the order of the words.
-    ('M10 n3 row 3 against n1', (('F5', 'FULL', 5, None, 0), ('F3', 'FULL', 3, None, 0), ('X5', 'FULL', 5, None, 0))),
-    ('M10 n3 row 3 against n1', (('F1', 'FULL', 3, None, 1), ('F1', 'FULL', 3, None, 0), ('F1', 'FULL', 3, None, 1))),
-    ('M10 n4 row 4 against n2', (('F1', 'FULL', 4, None, 1), ('F1', 'FULL', 4, None, 2), ('F1', 'FULL', 3, None, 2), ('F1', 'FULL', 4, None, 2))),
+    ('M10 n3 row 3 against n1', (('F5', 'FULL', 5, '', 0), ('F3', 'FULL', 3, '', 0), ('X5', 'FULL', 5, '', 0))),
+    ('M10 n3 row 3 against n1', (('F1', 'FULL', 3, '', 1), ('F1', 'FULL', 3, '', 0), ('F1', 'FULL', 3, '', 1))),
+    ('M10 n4 row 4 against n2', (('F1', 'FULL', 4, '', 1), ('F1', 'FULL', 4, '', 2), ('F1', 'FULL', 3, '', 2), ('F1', 'FULL', 4, '', 2))),
     # One id in two places.
-    ('M11 n1 row 2 against n2', (('F1', 'FULL', 4, None, 0), ('F1', 'FULL', 3, None, 0))),
-    ('M11 n1 row 3 against n3', (('F1', 'FULL', 5, None, 0), ('F2', 'FULL', 4, None, 0), ('F1', 'FULL', 3, None, 0))),
-    ('M11 n1 row 3 against n2', (('F1', 'FULL', 3, None, 1), ('F1', 'INCR', 3, None, 0), ('F1', 'INCR', 3, None, 1))),
+    ('M11 n1 row 2 against n2', (('F1', 'FULL', 4, '', 0), ('F1', 'FULL', 3, '', 0))),
+    ('M11 n1 row 3 against n3', (('F1', 'FULL', 5, '', 0), ('F2', 'FULL', 4, '', 0), ('F1', 'FULL', 3, '', 0))),
+    ('M11 n1 row 3 against n2', (('F1', 'FULL', 3, '', 1), ('F1', 'INCR', 3, '', 0), ('F1', 'INCR', 3, '', 1))),
     # A base that isn't earlier: a later one, one of the same day, and the Differential itself.
-    ('M12 n1 row 1 against n2', (('D2', 'DIFF', 3, 'F3', 0), ('F3', 'FULL', 4, None, 0))),
-    ('M12 n2 row 1 against n1', (('F1', 'FULL', 3, None, 0), ('D2', 'DIFF', 3, 'F1', 0))),
-    ('M12 n3 row 2 against n1', (('F4', 'FULL', 4, None, 1), ('F1', 'FULL', 2, None, 0), ('D3', 'DIFF', 3, 'F4', 0))),
+    ('M12 n1 row 1 against n2', (('D2', 'DIFF', 3, 'F3', 0), ('F3', 'FULL', 4, '', 0))),
+    ('M12 n2 row 1 against n1', (('F1', 'FULL', 3, '', 0), ('D2', 'DIFF', 3, 'F1', 0))),
+    ('M12 n3 row 2 against n1', (('F4', 'FULL', 4, '', 1), ('F1', 'FULL', 2, '', 0), ('D3', 'DIFF', 3, 'F4', 0))),
     ('M12 n1 row 1', (('D1', 'DIFF', 3, 'D1', 0),)),
 )
 # How many rows a manifest has at most.
 MOST_ROWS = 4_096
 # Names of the files of a table, of which one is a path, or is there twice. All of them lead to a file but the empty one and the folders.
-OUTSIDE = (
-    ('',),
-    ('.',),
-    ('..',),
-    ('../envelope.json',),
-    ('./c.csv',),
-    ('/c.csv',),
-    ('a/c.csv',),
-    ('a/../c.csv',),
-    ('c.csv', 'a/c.csv'),
-    ('c.csv', 'c.csv'),
-    ('c.csv', 'd.csv', 'c.csv'),
-)
+OUTSIDE = (('',), ('.',), ('..',), ('../envelope.json',), ('./c.csv',), ('/c.csv',), ('a/c.csv',), ('a/../c.csv',), ('c.csv', 'a/c.csv'),
+           ('c.csv', 'c.csv'), ('c.csv', 'd.csv', 'c.csv'))
 # Names of files that look like these.
 INSIDE = ('...', '..c.csv', '.c', 'c.', '~', '\\c.csv')
 # Names of files, and how they are printed: on one line. Control characters are escaped as Rust writes them, and so are the backslashes of
@@ -99,24 +89,13 @@ NAMES = (
 )
 # Each table that is known: what the names of its files begin with, its kind, and its own name, which is another one for a child table.
 TABLES = (
-    ('registrar', 'registrar', 'registrar'),
-    ('contact', 'contact', 'contact'),
-    ('contactPostal', 'contact', 'contactPostal'),
-    ('contactStatuses', 'contact', 'contactStatuses'),
-    ('contactTransfer', 'contact', 'contactTransfer'),
-    ('contactDisclose', 'contact', 'contactDisclose'),
-    ('host', 'host', 'host'),
-    ('hostAddresses', 'host', 'hostAddresses'),
-    ('hostStatuses', 'host', 'hostStatuses'),
-    ('domain', 'domain', 'domain'),
-    ('domainContacts', 'domain', 'domainContacts'),
-    ('domainNameServers', 'domain', 'domainNs'),
-    ('domainNameServersAddresses', 'domain', 'domainHostAttr'),
-    ('domainStatuses', 'domain', 'domainStatuses'),
-    ('domainTransfer', 'domain', 'domainTransfer'),
-    ('dnssec', 'domain', 'secDNS'),
-    ('idnLanguage', 'idn', 'idn'),
-    ('NNDN', 'nndn', 'nndn'),
+    ('registrar', 'registrar', 'registrar'), ('contact', 'contact', 'contact'), ('contactPostal', 'contact', 'contactPostal'),
+    ('contactStatuses', 'contact', 'contactStatuses'), ('contactTransfer', 'contact', 'contactTransfer'),
+    ('contactDisclose', 'contact', 'contactDisclose'), ('host', 'host', 'host'), ('hostAddresses', 'host', 'hostAddresses'),
+    ('hostStatuses', 'host', 'hostStatuses'), ('domain', 'domain', 'domain'), ('domainContacts', 'domain', 'domainContacts'),
+    ('domainNameServers', 'domain', 'domainNs'), ('domainNameServersAddresses', 'domain', 'domainHostAttr'),
+    ('domainStatuses', 'domain', 'domainStatuses'), ('domainTransfer', 'domain', 'domainTransfer'), ('dnssec', 'domain', 'secDNS'),
+    ('idnLanguage', 'idn', 'idn'), ('NNDN', 'nndn', 'nndn'),
 )
 # Those of deletes, each a parent table.
 DELETES = tuple((f'{stem}-delete', kind, name) for stem, kind, name in TABLES if name == kind)
@@ -135,13 +114,6 @@ def description_of(has_heading, names):
     return ENVELOPE.replace(b'"file":"c.csv"', f'"file":"c.csv","from":{json.dumps([*names])},"heading":{json.dumps(has_heading)}'.encode())
 
 
-def check_written(stage, body):
-    """Compares the bundle that was written, and removes it."""
-    with open(stage.at('out'), 'rb') as file:
-        compare('bundle', body.decode(), file.read().decode(errors='backslashreplace'))
-    os.remove(stage.at('out'))
-
-
 def check_bundle(stage, name, description, files, wanted):
     """Compares what follows the description in its bundle, or the refusal. Where it is refused nothing is written."""
     stage.write('envelope.json', description)
@@ -153,7 +125,9 @@ def check_bundle(stage, name, description, files, wanted):
         left = sorted(set(os.listdir(stage.at('.'))) - {'envelope.json', 'files'})
         compare('what is written', '' if is_refused else 'out', ' '.join(left))
         if not is_refused:
-            check_written(stage, FIRST_LINE + section('envelope.json', description) + wanted)
+            body = FIRST_LINE + section('envelope.json', description) + wanted
+            compare('bundle', body.decode(), read(stage.at('out')).decode(errors='backslashreplace'))
+            os.remove(stage.at('out'))
 
 
 def test_bundles_of_files(stage):
@@ -207,57 +181,43 @@ def test_names_on_one_line(stage):
         check_bundle(stage, f'{name!r}, with no heading', description_of(True, [name]), {name: b'C1,R1\n'}, f'H1 files/{told}')
         check_bundle(stage, f'{name!r}, with marks', description_of(False, [name]), {name: MARKED}, f'H2 files/{told}')
         check_bundle(stage, f'{name!r}, with a short row', description_of(False, [name]), {name: b'C1\n'}, f'U9 files/{told} row 1')
-        with case(f'{name!r}, as a bundle'):
-            wanted = Wanted(1, '', f'U1 files/{told}\n')
-            stage.check(f'manifest files/{name!r}', wanted, ['manifest', f'files/{name}'], program='pack')
-        with case(f'{name!r}, as a bundle that is listed twice'):
+        with case(f'{name!r}, as a bundle, and as one that is listed twice'):
+            stage.check('manifest', Wanted(1, '', f'U1 files/{told}\n'), ['manifest', f'files/{name}'], 'pack')
             stage.write(f'files/{name}', bundle_of(HEADER))
             wanted = Wanted(1, '', f'M10 files/{told} row 2 against files/{told}\n')
-            stage.check(f'manifest files/{name!r} files/{name!r}', wanted, ['manifest', *[f'files/{name}'] * 2], program='pack')
-
-
-def deposit_of(name, kind, day, prev, resend):
-    """A bundle without tables."""
-    header = {'id': name, 'type': kind, 'watermark': f'2024-03-{day:02}T00:00:00Z', 'prevId': prev, 'resend': resend}
-    return bundle_of(json.dumps(header).encode())
+            stage.check('manifest', wanted, ['manifest', *[f'files/{name}'] * 2], 'pack')
 
 
 def test_bundles_that_no_manifest_lists(stage):
     """The bundles whose rows contradict each other, and more than a manifest has rows."""
     for told, deposits in UNLISTED:
         names = [f'n{at}' for at in range(1, len(deposits) + 1)]
-        for name, deposit in zip(names, deposits):
-            stage.write(name, deposit_of(*deposit))
+        for file, (name, kind, day, prev, resend) in zip(names, deposits):
+            stage.write(file, deposit(Header(name, kind, f'2024-03-{day:02}T00:00:00Z', prev, resend)))
         with case(f'{deposits}'):
             stage.check(f'manifest {" ".join(names)}', Wanted(1, '', f'{told}\n'), program='pack')
     with case('one bundle too many'):
         stage.check('manifest n1 n1 ..', Wanted(1, '', 'M1 row 0\n'), ['manifest', *['n1'] * (MOST_ROWS + 1)], program='pack')
 
 
-def files_of(stem):
-    """The names of two files of a table, in byte order."""
-    return [f'{stem}-1.csv', f'{stem}.csv']
-
-
-def others_of(stem):
-    """The names of files that begin with the stem of a table of deletes, and with no dash or dot after it."""
-    return [stem, f'{stem}d.csv', f'{stem}s-1.csv']
+def files_of(*stems):
+    """The names of two files of each table, with a dash and with a dot after what they begin with: in byte order."""
+    return [f'{stem}{end}' for stem in stems for end in ('-1.csv', '.csv')]
 
 
 def proposed(tables, front=''):
     """What is proposed for these tables; `front` is what the names of their sections begin with."""
-    return ',\n'.join(json.dumps({
+    return ',\n'.join(compact({
         'name': name, 'kind': kind, 'role': 'parent' if name == kind else 'child', 'key': KEYS[kind], 'file': f'{front}{name.lower()}.csv',
-        'heading': True, 'fields': FIELDS, 'from': files_of(stem)}, separators=(',', ':')) for stem, kind, name in tables)
+        'heading': True, 'fields': FIELDS, 'from': files_of(stem)}).decode() for stem, kind, name in tables)
 
 
 def test_descriptions_of_all_tables(stage):
-    """The description of files of all tables that are known, and of none whose names are close to those of deletes.
-
-    There are two of each table, with a dash and a dot after what their names begin with."""
+    """The description of files of all tables that are known, and of none whose names are close to those of deletes."""
     os.mkdir(stage.at('files'))
-    others = sorted(name for stem, _, _ in DELETES for name in others_of(stem))
-    for name in (*others, *(name for stem, _, _ in TABLES + DELETES for name in files_of(stem))):
+    # Names that begin with that of a table of deletes, with no dash or dot after it.
+    others = sorted(f'{stem}{end}' for stem, _, _ in DELETES for end in ('', 'd.csv', 's-1.csv'))
+    for name in others + files_of(*(stem for stem, _, _ in TABLES + DELETES)):
         stage.write(f'files/{name}', ','.join(FIELDS).encode())
     front = '{"id":"ID","type":"FULL","watermark":"1970-01-01T00:00:00Z",\n'
     wanted = f'{front}"contents":[{proposed(TABLES)}],\n"deletes":[{proposed(DELETES, "deleted-")}]}}\n'

@@ -1,54 +1,21 @@
 """Reports and exports of stores with a row that no store writes, with an index that lies, and with a log that was not copied: what they read of
 the tables alone, and what is tested first for a desk."""
-import contextlib, socket, sqlite3
+import contextlib, sqlite3
 from dataclasses import dataclass
 
-from support.clients import put
+from support.files import read
 from support.formats import KINDS
+from support.messages import put
 from support.reports import report
-from support.sockets import HOST, free_port, received
-from support.stage import SECONDS, Failed, Wanted, case, pieces_of, text_of
+from support.sockets import response_to, serve
+from support.stage import Failed, Wanted, case, compare
 from support.steps import Copy, FirstStore, Folder, Text
-from support.stores import EMPTY_LOG, change_row, contents, copy, is_whole, run
+from support.stores import EMPTY_LOG, REPORTS, change_row, contents, copy, is_whole, run
 
-MOMENT = '2024-03-11T00:00:00Z'
 # The deposits that come, under the numbers 1 to 4; then a body that no row lists.
 BUNDLES = ('f1', 'd2', 'd3', 'd2-resent')
-SHA_OF_ABC = 'ba7816bf8f01cfea414140de5dae2223b00361a396177a9cb410ff61f20015ad'
-NOT_THERE = ('2024-03-06T00:00:00Z,INCR,,missing,,0', '2024-03-10T00:00:00Z,FULL,,missing,,0', '2024-03-11T00:00:00Z,DIFF,,missing,,0')
-
-
-def domains(*names):
-    return report('export', (f'domain,{name},domain,0,{field},{value}' for name in names
-                             for field, value in (('name', name), ('clID', 'R1'), ('registrant', 'C1'))))
-
-
-def status(*numbers):
-    names = ('listed', 'held', 'receipts', 'chain', 'end', 'registrar', 'contact', 'host', 'domain', 'idn', 'nndn')
-    return text_of(f'{name} {number}' for name, number in zip(names, numbers, strict=True))
-
-
-# What is told once all have come, and the moment is set; and once the first one has.
-ALL = {
-    'status': status(7, 4, 5, 3, '2024-03-05T00:00:00Z DIFF 0', 1, 1, 0, 2, 0, 0),
-    'gaps': report('gaps', ('2024-03-03T00:00:00Z,FULL,0,chain,,', '2024-03-04T00:00:00Z,DIFF,1,chain,,', '2024-03-05T00:00:00Z,DIFF,0,chain,,',
-                            *NOT_THERE)),
-    'receipts': report('receipts', ('1,1,A1,,F1,0,new,0', '2,2,A1,,D2,0,new,0', '3,3,A1,,D3,0,new,0', '4,4,A1,,D2,1,new,0', '5,5,A5,,,,,')),
-    'parked': report('parked', (f'{SHA_OF_ABC},3',)),
-    'moment': f'{MOMENT}\n',
-    'links': report('links'),
-    'domain': domains('b.example', 'c.example'),
-}
-FIRST = {
-    'status': status(7, 1, 1, 1, '2024-03-03T00:00:00Z FULL 0', 1, 1, 0, 1, 0, 0),
-    'gaps': report('gaps', ('2024-03-03T00:00:00Z,FULL,0,chain,,', '2024-03-04T00:00:00Z,DIFF,,missing,,1', '2024-03-05T00:00:00Z,DIFF,,missing,,0',
-                            *NOT_THERE)),
-    'receipts': report('receipts', ('1,1,A1,,F1,0,new,0',)),
-    'parked': report('parked'),
-    'moment': 'latest\n',
-    'links': report('links'),
-    'domain': domains('a.example'),
-}
+# The reports, and an export.
+READ = (*REPORTS, 'domain')
 S1, S3 = Wanted(3, '', 'S1\n'), Wanted(3, '', 'S3\n')
 NO_RECEIPTS = Wanted(0, report('receipts'))
 
@@ -63,13 +30,19 @@ def put_files(stage):
 
 
 def put_store(stage):
+    """A store that took them all, and has a moment. Gives what is told of it."""
     put_files(stage)
     run(stage, 'take --store a.db deposits', statuses=(1,))
-    run(stage, f'as-of --store a.db {MOMENT}')
+    run(stage, 'as-of --store a.db 2024-03-11T00:00:00Z')
+    return told_of(stage, 'a.db')
 
 
 def command_of(store, what):
     return f'{"export" if what in KINDS else "report"} --store {store} {what}'
+
+
+def told_of(stage, store):
+    return {it: run(stage, command_of(store, it)).decode() for it in READ}
 
 
 def check_reports(stage, store, told, refused=()):
@@ -104,8 +77,8 @@ FOREIGN = {
     'a number that is no text': Foreign("UPDATE receipt SET number = X'31' WHERE receipt = 1", ('receipts',)),
     'a count of orphans that is a text': Foreign("UPDATE receipt SET orphans = 'none' WHERE receipt = 1", ('receipts',)),
     'a receipt of no listed row': Foreign('UPDATE receipt SET row = 7 WHERE receipt = 2', ('receipts',), True),
-    'a type': Foreign('UPDATE listed SET type = 9 WHERE row = 1', tuple(ALL), True),
-    'a short digest': Foreign("UPDATE listed SET digest = X'00' WHERE row = 1", tuple(ALL), True),
+    'a type': Foreign('UPDATE listed SET type = 9 WHERE row = 1', READ, True),
+    'a short digest': Foreign("UPDATE listed SET digest = X'00' WHERE row = 1", READ, True),
     'a step of no held row': Foreign("UPDATE step SET row = 'one' WHERE pos = 1", ('status', 'links'), True),
     'a key that is a text': Foreign("UPDATE object SET key = 'b.example' WHERE key = CAST('b.example' AS BLOB)", ('links', 'domain')),
     'a record that is none': Foreign("UPDATE object SET record = X'00' WHERE key = CAST('b.example' AS BLOB)", ('links', 'domain')),
@@ -117,14 +90,13 @@ FOREIGN = {
 
 def test_foreign_rows(stage):
     """A row that no store writes is `S1` to each report and export that reads it, which prints nothing, and to no other."""
-    put_store(stage)
+    told = put_store(stage)
     Folder('nothing').do(stage)
-    check_reports(stage, 'a.db', ALL)
     for name, foreign in FOREIGN.items():
         with case(name):
             copy(stage.at('a.db'), stage.at('b.db'))
             change_row(stage, 'b.db', foreign.statement, ())
-            check_reports(stage, 'b.db', ALL, foreign.refused)
+            check_reports(stage, 'b.db', told, foreign.refused)
             if foreign.has_no_desk:
                 check_refused(stage, 'b.db')
             else:
@@ -161,11 +133,11 @@ def make_index_lie(path):
 
 def test_lying_index(stage):
     """An index that has another number than its table is `S1` to each command that has a desk. No report or export reads it."""
-    put_store(stage)
+    told = put_store(stage)
     make_index_lie(stage.at('a.db'))
     if is_whole(stage.at('a.db')):
         raise Failed('the index does not lie')
-    check_reports(stage, 'a.db', ALL)
+    check_reports(stage, 'a.db', told)
     check_refused(stage, 'a.db')
 
 
@@ -174,13 +146,8 @@ def test_lying_index(stage):
 
 def copy_in_use(stage, store):
     """Copies the two files of a store while a desk on a port has taken the first deposit."""
-    port = free_port()
-    child = stage.begin(f'serve --store a.db --port {port} --count 2'.split())
-    if next(pieces_of(child.stdout), b'') != f'listening {HOST}:{port}\n'.encode():
-        raise Failed('a.db is not served')
-    with socket.create_connection((HOST, port), SECONDS) as client, open(stage.at('deposits/1'), 'rb') as body:
-        client.sendall(put('1', body.read()))
-        received(client)
+    child, port = serve(stage, 'a.db', 2)
+    response_to(port, put('1', read(stage.at('deposits/1'))))
     copy(stage.at('a.db'), stage.at(store))
     stage.check('report --store a.db status', S1)
     child.kill()
@@ -192,16 +159,14 @@ def test_log_that_was_not_copied(stage):
     put_files(stage)
     Folder('nothing').do(stage)
     copy_in_use(stage, 'stopped.db')
-    before = contents(stage.at('stopped.db'))
-    if len(before[1]) <= EMPTY_LOG:
-        raise Failed('the log is empty')
-    check_reports(stage, 'stopped.db', FIRST)
-    if contents(stage.at('stopped.db')) != before:
-        raise Failed('a file is changed')
+    before, told = contents(stage.at('stopped.db')), told_of(stage, 'stopped.db')
+    if len(before[1]) <= EMPTY_LOG or contents(stage.at('stopped.db')) != before:
+        raise Failed('the log is empty, or a file is changed')
+    compare('receipts', report('receipts', ['1,1,A1,,F1,0,new,0']), told['receipts'])
     stage.check('take --store stopped.db nothing', NO_RECEIPTS)
     if len(contents(stage.at('stopped.db'))[1]) > EMPTY_LOG:
         raise Failed('the log is not copied')
-    check_reports(stage, 'stopped.db', FIRST)
+    check_reports(stage, 'stopped.db', told)
 
 
 # ---- a store of version 1
@@ -210,5 +175,5 @@ def test_log_that_was_not_copied(stage):
 def test_first_version(stage):
     """A store of version 1 is `S3` to each report and export."""
     FirstStore('a.db', 'first.csv', (('n1', 'f1.bundle'),)).do(stage)
-    for what in ALL:
+    for what in READ:
         stage.check(command_of('a.db', what), S3)

@@ -1,13 +1,21 @@
-"""Requests and their responses, whole and in pieces; and requests that are cut, too long, or lie of their lengths."""
+"""Requests and their responses, whole and in pieces; requests that are cut, too long, or lie of their lengths; and requests around an
+amendment and a moment."""
+import functools, hashlib
 from dataclasses import dataclass, replace
 
+from support.bodies import bytes_of
 from support.clients import (
-    AMPLE, HELD, OTHER, RECEIPTS, SAMPLE, SERVED, WRITE_FAULT, Wire, export, gaps, get, links, list_sample, new_desk, parked,
-    receipts, refusal, status)
+    AMPLE, BAD_REQUEST, GET_ONLY, HELD, LENGTH_REQUIRED, NOT_FOUND, OTHER, PUT_ONLY, RECEIPTS, SAMPLE, SERVED, TOO_LARGE, WRITE_FAULT,
+    RequestDesk, Wire, list_sample, new_desk, replied, table)
+from support.events import check
+from support.messages import get, put, response
+from support.reports import status
+from support.steps import FirstScript, Manifest
 
 GET_STATUS = get('/status')
-NOTHING_TAKEN = status(1, 0, 0, 0, 'none', 0, 0, 0, 0, 0, 0)
-OTHER_PARKED, OTHER_RECEIPT = parked(1, 'n2'), '1,n2,A5,,,,,'
+NOTHING_TAKEN = response(200, status(1, 0, 0, 0, 'none'))
+OTHER_RECEIPT = '1,n2,A5,,,,,'
+OTHER_PARKED = replied(OTHER_RECEIPT)
 
 
 @dataclass(frozen=True)
@@ -15,7 +23,7 @@ class Exchange:
     """Requests that come before, a request, its response, the receipts that there are then; and what comes of it."""
     before: tuple
     wire: Wire
-    response: str
+    response: bytes
     receipts: tuple
     came: str = SERVED
 
@@ -29,7 +37,7 @@ ANSWERS = (
     # So it is where the response did not go out.
     Exchange((Wire(OTHER, writable=100),), Wire(OTHER), OTHER_PARKED, (OTHER_RECEIPT,)),
     Exchange((), Wire(GET_STATUS), NOTHING_TAKEN, ()),
-    Exchange((Wire(SAMPLE), Wire(OTHER)), Wire(get('/receipts?all')), receipts(*RECEIPTS), RECEIPTS),
+    Exchange((Wire(SAMPLE), Wire(OTHER)), Wire(get('/receipts?all')), table('receipts', *RECEIPTS), RECEIPTS),
     # No more is read than the answer needs: all of a request without a body, and nothing after a body.
     Exchange((), Wire(GET_STATUS, readable=24), NOTHING_TAKEN, ()),
     Exchange((), Wire(OTHER, readable=51), OTHER_PARKED, (OTHER_RECEIPT,)),
@@ -37,17 +45,10 @@ ANSWERS = (
     Exchange((), Wire(OTHER, is_stuck=True), OTHER_PARKED, (OTHER_RECEIPT,), WRITE_FAULT),
 )
 
-BAD_REQUEST = refusal('400 Bad Request', 'bad request')
-NOT_FOUND = refusal('404 Not Found', 'not found')
-LENGTH_REQUIRED = refusal('411 Length Required', 'length required')
-TOO_LARGE = refusal('413 Content Too Large', 'too large')
-PUT_ONLY = refusal('405 Method Not Allowed', 'method not allowed', 'Allow: PUT\r\n')
-GET_ONLY = refusal('405 Method Not Allowed', 'method not allowed', 'Allow: GET\r\n')
 PUT = b'PUT /arrivals/n1 HTTP/1.1\r\n'
-
 # Requests that are refused, and their responses.
 REFUSED = (
-    (b'PUT /arrivals/a%20b HTTP/1.1\r\nContent-Length: 3\r\n\r\nabc', refusal('400 Bad Request', 'N1')),
+    (b'PUT /arrivals/a%20b HTTP/1.1\r\nContent-Length: 3\r\n\r\nabc', response(400, 'N1\n')),
     (PUT + b'Content-Length: 4\r\n\r\nabc', BAD_REQUEST),
     (PUT + b'Content-Length: 3\r\nContent-Length: 3\r\n\r\nabc', BAD_REQUEST),
     (PUT + b'Content-Length: 3\r\nX: 1\r\ncontent-length: 4\r\n\r\nabc', BAD_REQUEST),
@@ -70,43 +71,51 @@ REFUSED = (
 
 # The paths of reports on a desk that holds the sample, and their responses.
 REPORTS = (
-    ('/status?x=1', status(1, 1, 1, 1, '2024-03-03T00:00:00Z FULL 0', 0, 1, 0, 0, 0, 0)),
-    ('/gaps', gaps('2024-03-03T00:00:00Z,FULL,0,chain,,')),
-    ('/links', links('V1,contact,C1,clID,R1,registrar')),
-    ('/export/contact', export('contact,C1,contact,0,id,C1', 'contact,C1,contact,0,clID,R1')),
-    ('/receipts', receipts(*RECEIPTS[:1])),
+    ('/status?x=1', response(200, status(1, 1, 1, 1, '2024-03-03T00:00:00Z FULL 0', contact=1))),
+    ('/gaps', table('gaps', '2024-03-03T00:00:00Z,FULL,0,chain,,')),
+    ('/links', table('links', 'V1,contact,C1,clID,R1,registrar')),
+    ('/export/contact', table('export', 'contact,C1,contact,0,id,C1', 'contact,C1,contact,0,clID,R1')),
+    ('/receipts', table('receipts', *RECEIPTS[:1])),
 )
 
 
-def check_exchange(stage, exchange, piece):
-    with new_desk(stage) as desk:
-        for wire in exchange.before:
-            desk.serve(wire)
-        desk.check_served(replace(exchange.wire, piece=piece), exchange.response, came=exchange.came)
-        desk.check_receipts(*exchange.receipts)
+def head(lines=0, size=8_192, end=b'\r\n\r\n'):
+    """A request for the receipts of so many bytes, with so many short header lines before a long one, and this end."""
+    front = b'GET /receipts HTTP/1.1\r\n' + lines * b'A: 1\r\n' + b'X: '
+    return front.ljust(size - len(end), b'x') + end
 
 
-def test_answers(stage):
-    """Requests are answered, whole and in pieces."""
+# Heads of as many bytes and lines as there may be, of one more, and without an end; and their responses.
+HEADS = (
+    (head(), table('receipts')),
+    (head(size=8_193), BAD_REQUEST),
+    (head(lines=31), table('receipts')),
+    (head(lines=32, size=400), BAD_REQUEST),
+    (head(end=b''), BAD_REQUEST),
+    (head(size=8_193, end=b''), BAD_REQUEST),
+)
+
+
+def check_exchanges(stage, exchanges, pieces):
+    """Each of these with a new desk, in pieces of so many bytes."""
     list_sample(stage)
-    for exchange in ANSWERS:
-        for piece in (1, 7, AMPLE):
-            check_exchange(stage, exchange, piece)
+    for it in exchanges:
+        for piece in pieces:
+            with new_desk(stage) as desk:
+                for wire in it.before:
+                    desk.serve(wire)
+                desk.check_served(replace(it.wire, piece=piece), it.response, came=it.came)
+                desk.check_receipts(*it.receipts)
 
 
-def test_refusals(stage):
-    """Requests are refused in their order."""
-    list_sample(stage)
-    for request, response in REFUSED:
-        for piece in (1, AMPLE):
-            check_exchange(stage, Exchange((), Wire(request), response, ()), piece)
-
-
-def test_reports(stage):
-    """Reports are told."""
-    list_sample(stage)
-    for path, response in REPORTS:
-        check_exchange(stage, Exchange((Wire(SAMPLE),), Wire(get(path)), response, RECEIPTS[:1]), AMPLE)
+# What is asked for, and the pieces in which it comes.
+ASKED = {
+    'Requests are answered, whole and in pieces': (ANSWERS, (1, 7, AMPLE)),
+    'Requests are refused in their order': ([Exchange((), Wire(it), response, ()) for it, response in REFUSED], (1, AMPLE)),
+    'A head has a limit': ([Exchange((), Wire(it), response, ()) for it, response in HEADS], (1, AMPLE)),
+    'Reports are told': ([Exchange((Wire(SAMPLE),), Wire(get(it)), response, RECEIPTS[:1]) for it, response in REPORTS], (AMPLE,)),
+}
+CASES = {title: functools.partial(check_exchanges, exchanges=exchanges, pieces=pieces) for title, (exchanges, pieces) in ASKED.items()}
 
 
 def test_beginnings(stage):
@@ -121,32 +130,31 @@ def test_beginnings(stage):
         desk.check_receipts(*RECEIPTS[:1])
 
 
-@dataclass(frozen=True)
-class Head:
-    """A request for the receipts: how many short header lines it has before a long one, how many bytes, and what it ends with."""
-    lines: int = 0
-    size: int = 8_192
-    end: bytes = b'\r\n\r\n'
-
-    def bytes(self):
-        front = b'GET /receipts HTTP/1.1\r\n' + self.lines * b'A: 1\r\n' + b'X: '
-        return front.ljust(self.size - len(self.end), b'x') + self.end
-
-
-# Heads of as many bytes and lines as there may be, of one more, and without an end; and their responses.
-HEADS = (
-    (Head(), receipts()),
-    (Head(size=8_193), BAD_REQUEST),
-    (Head(lines=31), receipts()),
-    (Head(lines=32, size=400), BAD_REQUEST),
-    (Head(end=b''), BAD_REQUEST),
-    (Head(size=8_193, end=b''), BAD_REQUEST),
-)
-
-
-def test_heads(stage):
-    """A head has a limit."""
-    list_sample(stage)
-    for head, response in HEADS:
-        for piece in (1, AMPLE):
-            check_exchange(stage, Exchange((), Wire(head.bytes()), response, ()), piece)
+def test_an_amendment(stage):
+    """Requests to a desk over a migrated store, around an amendment and a moment."""
+    Manifest('first.csv', ('F1',)).do(stage)
+    Manifest('amended.csv', ('F1', 'D2')).do(stage)
+    FirstScript('first.sql', 'first.csv', (('1', 'F1'), ('2', 'D2'))).do(stage)
+    d2 = bytes_of('D2')
+    # Version 1 didn't keep D2, and its reply stays. As it comes again it is parked, and held once it is listed.
+    lost, d2_parked = '2,2,A2,,,,,', table('parked', f'{hashlib.sha256(d2).hexdigest()},{len(d2)}')
+    before = ((put('2', d2), replied(lost)), (get('/parked'), d2_parked),
+              (get('/gaps'), table('gaps', '2024-03-03T00:00:00Z,FULL,0,chain,,')))
+    after = (
+        (get('/parked'), table('parked')),
+        (get('/gaps'), table('gaps', '2024-03-03T00:00:00Z,FULL,0,chain,,', '2024-03-04T00:00:00Z,DIFF,0,standing,,')),
+        (get('/status'), response(200, status(2, 2, 2, 1, '2024-03-03T00:00:00Z FULL 0', registrar=1, contact=1, domain=1))),
+        (get('/moment'), response(200, '2024-03-03T00:00:00Z\n')),
+        (put('2', d2), replied(lost)),
+        (put('3', d2), replied('3,3,A1,,D2,0,new,0')),
+        (get('/receipts'), table('receipts', '1,1,A1,,F1,0,new,0', lost, '3,3,A1,,D2,0,new,0')),
+    )
+    with RequestDesk(stage) as desk:
+        check(desk, 'script first.sql', '')
+        check(desk, 'migrate', 'migrated\n')
+        for request, wanted in before:
+            desk.check_served(Wire(request), wanted)
+        check(desk, 'amend amended.csv', 'added 1\n')
+        check(desk, 'as-of 2024-03-03T00:00:00Z', 'as of 2024-03-03T00:00:00Z\n')
+        for request, wanted in after:
+            desk.check_served(Wire(request), wanted)

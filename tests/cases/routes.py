@@ -1,20 +1,20 @@
 """Each route of a desk where one thing fails in the middle: a read, a write or the flush, or a call of either file. The same request
 again has the response of a desk that nothing happened to."""
+import functools
 from dataclasses import dataclass
 
-from support.clients import (
-    AMPLE, HELD, READ_FAULT, RECEIPTS, SAMPLE, WRITE_FAULT, RequestDesk, Wire, export, gaps, get, links, list_sample, moment,
-    new_desk, parked, parked_bodies, receipts, refusal, status)
+from support.clients import AMPLE, HELD, READ_FAULT, RECEIPTS, SAMPLE, WRITE_FAULT, RequestDesk, Wire, list_sample, new_desk, replied, table
 from support.events import check
-from support.reports import report
-from support.stage import Failed
+from support.messages import get, response
+from support.reports import report, status
+from support.stage import Failed, case
 
 
 @dataclass(frozen=True)
 class Route:
     """A request, its response, and how many receipts there are before it, and after it."""
     request: bytes
-    response: str
+    response: bytes
     before: int = 2
     after: int = 2
 
@@ -22,23 +22,23 @@ class Route:
 # Requests to a desk one after the other. Two that read the same page stand apart.
 ROUTES = (
     Route(SAMPLE, HELD, 0, 1),
-    Route(get('/export/registrar'), export(), 1, 1),
+    Route(get('/export/registrar'), table('export'), 1, 1),
     # The second receipt: a request before that was refused has none.
-    Route(b'PUT /arrivals/n2 HTTP/1.0\r\nContent-Length: 3\r\n\r\nabc', parked(2, 'n2'), 1, 2),
-    Route(get('/export/contact'), export('contact,C1,contact,0,id,C1', 'contact,C1,contact,0,clID,R1')),
+    Route(b'PUT /arrivals/n2 HTTP/1.0\r\nContent-Length: 3\r\n\r\nabc', replied(RECEIPTS[1]), 1, 2),
+    Route(get('/export/contact'), table('export', 'contact,C1,contact,0,id,C1', 'contact,C1,contact,0,clID,R1')),
     # A repeat.
     Route(SAMPLE, HELD),
-    Route(get('/export/host'), export()),
-    Route(get('/receipts'), receipts(*RECEIPTS)),
-    Route(get('/export/domain'), export()),
-    Route(get('/gaps'), gaps('2024-03-03T00:00:00Z,FULL,0,chain,,')),
-    Route(get('/export/idn'), export()),
-    Route(get('/receipts'), receipts(*RECEIPTS)),
-    Route(get('/export/nndn'), export()),
-    Route(get('/links'), links('V1,contact,C1,clID,R1,registrar')),
-    Route(get('/parked'), parked_bodies('ba7816bf8f01cfea414140de5dae2223b00361a396177a9cb410ff61f20015ad,3')),
-    Route(get('/moment'), moment('latest')),
-    Route(get('/status'), status(1, 1, 2, 1, '2024-03-03T00:00:00Z FULL 0', 0, 1, 0, 0, 0, 0)),
+    Route(get('/export/host'), table('export')),
+    Route(get('/receipts'), table('receipts', *RECEIPTS)),
+    Route(get('/export/domain'), table('export')),
+    Route(get('/gaps'), table('gaps', '2024-03-03T00:00:00Z,FULL,0,chain,,')),
+    Route(get('/export/idn'), table('export')),
+    Route(get('/receipts'), table('receipts', *RECEIPTS)),
+    Route(get('/export/nndn'), table('export')),
+    Route(get('/links'), table('links', 'V1,contact,C1,clID,R1,registrar')),
+    Route(get('/parked'), table('parked', 'ba7816bf8f01cfea414140de5dae2223b00361a396177a9cb410ff61f20015ad,3')),
+    Route(get('/moment'), response(200, 'latest\n')),
+    Route(get('/status'), response(200, status(1, 1, 2, 1, '2024-03-03T00:00:00Z FULL 0', contact=1))),
 )
 
 
@@ -48,7 +48,7 @@ ROUTES = (
 def check_reads(desk, route, piece):
     """Sends a request of which a read fails after so many bytes, for each number of them."""
     for count in range(len(route.request)):
-        desk.check_served(Wire(route.request, piece, readable=count), '', came=READ_FAULT)
+        desk.check_served(Wire(route.request, piece, readable=count), b'', came=READ_FAULT)
         desk.check_receipts(*RECEIPTS[:route.before])
 
 
@@ -72,19 +72,13 @@ def check_streams(stage, piece):
             desk.check_receipts(*RECEIPTS[:route.after])
 
 
-def test_streams_of_single_bytes(stage):
-    """Each read and write of one byte fails, over the routes."""
-    check_streams(stage, 1)
-
-
-def test_streams_of_many_bytes(stage):
-    """Each read and write of many bytes fails, over the routes."""
-    check_streams(stage, AMPLE)
+CASES = {f'Each read and write of {what} fails, over the routes': functools.partial(check_streams, piece=piece)
+         for what, piece in (('one byte', 1), ('many bytes', AMPLE))}
 
 
 # ---- the files
 
-UNAVAILABLE = refusal('503 Service Unavailable', 'S1')
+UNAVAILABLE = response(503, 'S1\n')
 # What needs another page asks the disk for it, and the log is copied into the database file now and then: it may have 8 pages, and one
 # page that was read is kept.
 ONE_PAGE = 'room 8 1'
@@ -97,7 +91,7 @@ MOST_CALLS = 5_000
 
 def is_answered(desk, route):
     """Sends a request: whether it has its response, or else 503."""
-    return desk.check_served(Wire(route.request), route.response, UNAVAILABLE) == route.response
+    return desk.check_served(Wire(route.request), route.response, UNAVAILABLE)
 
 
 def refusals_of(desk, route):
@@ -146,11 +140,9 @@ def has_failed(stage, file, calls, most):
 def check_calls(stage, file, most):
     """Each call of a file fails, up to a run of which none does."""
     for calls in range(MOST_CALLS):
-        try:
+        with case(f'of the {file} the call after {calls} fails'):
             if not has_failed(stage, file, calls, most):
                 break
-        except Failed as failure:
-            raise Failed(f'of the {file} the call after {calls} fails:\n{failure}') from None
     if calls in (0, MOST_CALLS - 1):
         raise Failed(f'of the {file} {calls} calls failed')
 

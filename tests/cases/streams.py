@@ -1,12 +1,12 @@
 """Standard output and standard error that fail, and a file that is removed while its folder is taken."""
 import os
 
-from support.outputs import NarrowPipe, check_narrow
-from support.stage import Got, Wanted, pieces_of
+from support.outputs import check_narrow, run_held_up
+from support.reports import report
+from support.stage import Wanted
 from support.steps import Copy, Folder, Text
 
-HEADING = 'receipt,number,verdict,fault,id,resend,copy,orphans\n'
-FIRST = f'{HEADING}1,n1,A1,,F1,0,new,0\n'
+HEADING, FIRST = report('receipts'), report('receipts', ['1,n1,A1,,F1,0,new,0'])
 INIT = 'init --store a.db --manifest listed.csv'
 TAKE = 'take --store a.db deposits'
 RECEIPTS = 'report --store a.db receipts'
@@ -38,12 +38,7 @@ def test_whoever_reads_leaves(stage):
     """Whoever reads standard output leaves after the heading."""
     set_up(stage, n1='f1.bundle', n2='f5.bundle')
     stage.check(INIT, Wanted(0, 'listed 2\n'))
-    with NarrowPipe(len(HEADING)) as pipe:
-        child = stage.begin(TAKE.split(), out=pipe.writer)
-        pipe.writer.close()
-        pipe.wait_until_full(child)
-        pipe.reader.close()
-        stage.compare(TAKE, Wanted(3, '', 'E1 -\n'), stage.end(child))
+    stage.compare(TAKE, Wanted(3, '', 'E1 -\n'), run_held_up(stage, TAKE, len(HEADING), lambda: False))
     stage.check(RECEIPTS, Wanted(0, FIRST))
 
 
@@ -64,13 +59,7 @@ def test_a_file_that_goes(stage):
     set_up(stage, n1='f1.bundle', n2='f1.bundle', n3='f5.bundle')
     stage.check(INIT, Wanted(0, 'listed 2\n'))
     # The second file is removed once the heading is written. There is no room for the row of the first one until then.
-    with NarrowPipe(len(HEADING)) as pipe:
-        child = stage.begin(TAKE.split(), out=pipe.writer)
-        pipe.writer.close()
-        pipe.wait_until_full(child)
-        os.remove(stage.at('deposits/n2'))
-        out = b''.join(pieces_of(pipe.reader))[pipe.filled:]
-    got = stage.end(child)
-    stage.compare(TAKE, Wanted(3, FIRST, 'E1 deposits/n2\n'), Got(got.status, out, got.err))
+    got = run_held_up(stage, TAKE, len(HEADING), lambda: os.remove(stage.at('deposits/n2')))
+    stage.compare(TAKE, Wanted(3, FIRST, 'E1 deposits/n2\n'), got)
     stage.check(RECEIPTS, Wanted(0, FIRST))
     stage.check(TAKE, Wanted(0, f'{FIRST}2,n3,A1,,F5,0,new,0\n'))

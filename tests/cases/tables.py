@@ -1,22 +1,20 @@
 """`handover tables`: the files and the database of registries, read by Python's csv, hashlib and sqlite3, against a plain model of what is held;
-and where they are not made."""
-import contextlib, csv, hashlib, io, os, resource, shutil, signal, sqlite3
+and where they are not made. (handovers.py has what all commands refuse.)"""
+import contextlib, csv, functools, hashlib, io, os, resource, shutil, signal, sqlite3
 from dataclasses import dataclass
 
-from cases.handovers import (CHILD, CONTACT, D2, F1, FIRST, HEADING, HOST, OTHERS, SAMPLES, Table, body_of, check_no_store, check_refused,
-                             limit_files, names_in, played_apart, store_of)
-from support import formats
-from support.acceptance import read_record
-from support.bundles import row_of
+from cases.handovers import (
+    CHILD, FIRST, HOST, TABLES, check_refused, children, contacts, hosts, limit_files, names_in, played_apart, release_of, store_of)
+from support.bundles import HEADING, Table
 from support.files import read
-from support.first_store import First, record
-from support.flawed import Agent
-from support.formats import KINDS
-from support.stage import Failed, Wanted, case, compare
+from support.flawed import some_release
+from support.formats import KINDS, read_record, record
+from support.releases import SAMPLES, Release
+from support.stage import Failed, case, compare, compare_all
 from support.steps import Folder, Link, Text
-from support.stores import change_row, make_store, run
+from support.stores import change_row, run
 
-TABLES, BOTH = 'tables --store a.db out', 'tables --store a.db --sqlite out'
+BOTH = 'tables --store a.db --sqlite out'
 
 
 # ---- what the files are to be
@@ -43,7 +41,7 @@ def sheets_of(objects):
     for kind in KINDS:
         parents, children = [], {}
         for (_, key), it in sorted(it for it in objects.items() if it[0][0] == kind):
-            (_, cells), *others = decoded(read_record(it))
+            (_, cells), *others = read_record(it)
             parents.append((key.decode(), cells))
             for table, cells in others:
                 children.setdefault(table, []).append((key.decode(), cells))
@@ -51,22 +49,7 @@ def sheets_of(objects):
     return sheets
 
 
-def decoded(rows):
-    return [(table.decode(), [(field.decode(), text.decode()) for field, text in cells]) for table, cells in rows]
-
-
 # ---- what they are
-
-
-def check_csv(stage, name, sheet):
-    records = list(csv.reader(io.StringIO(read(stage.at(f'out/{name}.csv')).decode(), newline='')))
-    wanted = [['key', *sheet.columns], *([text or '' for text in row] for row in sheet.rows)]
-    compare(f'{name}.csv', '\n'.join(map(repr, wanted)), '\n'.join(map(repr, records)))
-
-
-def check_sums(stage, names):
-    lines = [f'{hashlib.sha256(read(stage.at(f"out/{it}"))).hexdigest()}  {it}\n' for it in names]
-    compare('sha256sums', ''.join(lines), read(stage.at('out/sha256sums')).decode())
 
 
 def quoted(name):
@@ -75,9 +58,8 @@ def quoted(name):
 
 def check_database_table(database, name, sheet):
     columns = [(it[1], it[2], it[5]) for it in database.execute(f'PRAGMA table_info({quoted(name)})')]
-    compare(f'columns of {name}', repr([('key', 'TEXT', int(sheet.is_parent)), *((it, 'TEXT', 0) for it in sheet.columns)]), repr(columns))
-    rows = database.execute(f'SELECT * FROM {quoted(name)} ORDER BY rowid').fetchall()
-    compare(f'rows of {name}', '\n'.join(map(repr, sheet.rows)), '\n'.join(map(repr, rows)))
+    compare_all(f'columns of {name}', [('key', 'TEXT', int(sheet.is_parent)), *((it, 'TEXT', 0) for it in sheet.columns)], columns)
+    compare_all(f'rows of {name}', sheet.rows, database.execute(f'SELECT * FROM {quoted(name)} ORDER BY rowid'))
     plan = database.execute(f'EXPLAIN QUERY PLAN SELECT * FROM {quoted(name)} WHERE key = ?', ('',)).fetchall()[0][3]
     if not plan.startswith((f'SEARCH {name} USING INDEX', f'SEARCH {name} USING COVERING INDEX')):
         raise Failed(f'{name} is searched without an index: {plan}')
@@ -87,7 +69,7 @@ def check_database(stage, sheets):
     with contextlib.closing(sqlite3.connect(stage.at('out/registry.sqlite'))) as database:
         compare('integrity', 'ok', database.execute('PRAGMA integrity_check').fetchone()[0])
         names = [it for it, in database.execute("SELECT name FROM sqlite_master WHERE type = 'table'")]
-        compare('tables', '\n'.join(sorted(sheets)), '\n'.join(sorted(names)))
+        compare_all('tables', sorted(sheets), sorted(names))
         for name, sheet in sheets.items():
             check_database_table(database, name, sheet)
 
@@ -99,10 +81,12 @@ def check_tables(stage, objects, line=TABLES):
     sheets = sheets_of(objects)
     files = [*(f'{it}.csv' for it in sheets), *(['registry.sqlite'] if '--sqlite' in line else [])]
     made = {f'out/{it}' for it in (*files, 'sha256sums')}
-    compare('files', '\n'.join(sorted(names | made)), '\n'.join(names_in(stage.room.name)))
+    compare_all('files', sorted(names | made), names_in(stage.room.name))
     for name, sheet in sheets.items():
-        check_csv(stage, name, sheet)
-    check_sums(stage, files)
+        wanted = [['key', *sheet.columns], *([text or '' for text in row] for row in sheet.rows)]
+        compare_all(f'{name}.csv', wanted, csv.reader(io.StringIO(read(stage.at(f'out/{name}.csv')).decode(), newline='')))
+    compare_all('sha256sums', (f'{hashlib.sha256(read(stage.at(f"out/{it}"))).hexdigest()}  {it}' for it in files),
+                read(stage.at('out/sha256sums')).decode().splitlines())
     if '--sqlite' in line:
         check_database(stage, sheets)
     if read(stage.at('a.db')) != before:
@@ -112,44 +96,29 @@ def check_tables(stage, objects, line=TABLES):
 # ---- registries
 
 
-def release_of(manifest, *folders):
-    """The manifest and the bodies of a sample."""
-    bodies = [read(f'{SAMPLES}/{it}/{name}') for it in folders for name in sorted(os.listdir(f'{SAMPLES}/{it}'))]
-    return read(f'{SAMPLES}/{manifest}'), bodies, None
+def check_release(stage, release, refusal=None):
+    """Compares the files of a release, with a database, and without one. There may be a refusal of the database."""
+    release.rebuild(stage)
+    objects = release.desk().objects
+    check_tables(stage, objects)
+    shutil.rmtree(stage.at('out'))
+    if refusal:
+        check_refused(stage, refusal, BOTH)
+    else:
+        check_tables(stage, objects, BOTH)
 
 
-def random_release(seed):
-    release = Agent(seed, ('revised', 'lost', 'same day', 'cells', 'orphans', 'unlisted')).make()
-    return release.manifest(), release.bodies, release.moment
+def check_some_release(stage, seed):
+    release = some_release(seed)
+    if release.desk().steps:
+        check_release(stage, release)
+    else:
+        release.rebuild(stage)
+        check_refused(stage, 'H7', BOTH)
 
 
-RELEASES = {
-    'the first sample': lambda: release_of('first/manifest.csv', 'first/deposits'),
-    'the release without a deposit': lambda: release_of('release/manifest.csv', 'release/deposits'),
-    'the whole release': lambda: release_of('release/manifest.csv', 'release/deposits', 'release/missing'),
-    'a first part': lambda: release_of('parts/first.csv', 'release/deposits'),
-} | {f'the release of seed {seed}': lambda seed=seed: random_release(seed) for seed in range(6)}
-
-
-def kept_of(manifest, bodies, moment=None):
-    return First(manifest, [(f'{at}', body) for at, body in enumerate(bodies)], moment and formats.moment(moment))
-
-
-def check_release(release):
-    def play(stage):
-        manifest, bodies, moment = release()
-        make_store(stage, 'a.db', manifest, bodies, moment)
-        kept = kept_of(manifest, bodies, moment)
-        if not kept.steps:
-            check_refused(stage, 'H7', BOTH)
-            return
-        check_tables(stage, kept.objects, BOTH)
-        shutil.rmtree(stage.at('out'))
-        check_tables(stage, kept.objects)
-    return play
-
-
-CASES = {f'Tables of {name}': check_release(release) for name, release in RELEASES.items()}
+CASES = {f'Tables of {name}': functools.partial(check_release, release=it) for name, it in SAMPLES.items()} | {
+    f'Tables of the release of seed {seed}': functools.partial(check_some_release, seed=seed) for seed in range(6)}
 
 
 # ---- texts, and fields that differ
@@ -166,50 +135,29 @@ ODD = ('"', '""', ',', 'a,b', ' a ', '\n', '\r\n', 'a\rb', 'a\n\n', '\t', '\x00'
 # The tables of a Full and of a Differential, and the refusal where they can't be those of a database.
 REGISTRIES = (
     # Texts of all sorts.
-    ((Table('contact', CONTACT, rows_of(*((f'C{at}', it) for at, it in enumerate(ODD)))),), (), None),
+    ((contacts(rows_of(*((f'C{at}', it) for at, it in enumerate(ODD)))),), (), None),
     # Keys that are quoted, and one that begins with a byte order mark.
-    ((Table('contact', CONTACT, rows_of(('a,"b', 'x'), ('a\nb', 'y'), ('\ufeffa', 'z'))),), (), None),
+    ((contacts(rows_of(('a,"b', 'x'), ('a\nb', 'y'), ('\ufeffa', 'z'))),), (), None),
     # The letters of a host's key are lowered, and those in its field aren't.
-    ((Table('host', ('name',), b'NS1.example\nns2.EXAMPLE\n', kind='host'),), (), None),
+    ((hosts(b'NS1.example\nns2.EXAMPLE\n'),), (), None),
     # Fields that only some rows have, in other orders; a text that is empty, and a field that isn't there.
-    ((FIRST, CHILD),
-     (Table('contact', ('note', 'id'), b'x,C2\n,C3\n', key='id'), Table('more', ('text', 'id', 'sort'), b',C2,s\n', role='child', key='id')), None),
+    ((FIRST, CHILD), (contacts(b'x,C2\n,C3\n', ('note', 'id'), 'id'), children(b',C2,s\n', fields=('text', 'id', 'sort'), key='id')), None),
     # The parent rows are declared under one name here and under another there.
-    ((FIRST,), (Table('people', CONTACT, b'C2,X2\n'), Table('a_b', ('id', 'a.b', 'a-b'), b'C2,1,2\n', role='child')), None),
+    ((FIRST,), (contacts(b'C2,X2\n', name='people'), children(b'C2,1,2\n', 'a_b', ('id', 'a.b', 'a-b'))), None),
     # Two rows of one table in an object, between those of others.
-    ((FIRST, CHILD), (FIRST, *(Table(it, ('id', 'text'), b'C1,x\nC1,y\n', role='child') for it in ('z', 'more', 'a'))), None),
+    ((FIRST, CHILD), (FIRST, *(children(b'C1,x\nC1,y\n', it) for it in ('z', 'more', 'a'))), None),
     # Names that are words of SQL.
-    ((FIRST, Table('select', ('id', 'from', 'rowid', 'null'), b'C1,1,2,3\n', role='child')), (), None),
+    ((FIRST, children(b'C1,1,2,3\n', 'select', ('id', 'from', 'rowid', 'null'))), (), None),
     # Names of columns that a database takes for one.
-    ((Table('contact', ('id', 'ID'), b'C1,c1\n'),), (), 'H10 contact'),
-    ((Table('contact', ('id', 'Key'), b'C1,c1\n'),), (), 'H10 contact'),
-    ((FIRST, CHILD), (Table('contact', CONTACT, b'C2,X2\n'), Table('more', ('id', 'Text'), b'C2,x\n', role='child')), 'H10 more'),
+    ((contacts(b'C1,c1\n', ('id', 'ID')),), (), 'H10 contact'),
+    ((contacts(b'C1,c1\n', ('id', 'Key')),), (), 'H10 contact'),
+    ((FIRST, CHILD), (contacts(b'C2,X2\n'), children(b'C2,x\n', fields=('id', 'Text'))), 'H10 more'),
     # A name of SQLite's own.
-    ((FIRST, Table('SQLITE_more', ('id',), b'C1\n', role='child')), (), 'H10 SQLITE_more'),
+    ((FIRST, children(b'C1\n', 'SQLITE_more', ('id',))), (), 'H10 SQLITE_more'),
     # An empty registry.
     ((), (), None),
 )
-
-
-def registry_of(*contents):
-    """The manifest and the bodies of a Full, and of a Differential, with these tables."""
-    bodies = [body_of(*it) for it in zip((F1, D2), contents)]
-    return (HEADING + ''.join(row_of(*it) for it in zip((F1, D2), bodies))).encode(), bodies
-
-
-def check_registry(stage, first, second, refusal):
-    manifest, bodies = registry_of(first, second)
-    make_store(stage, 'a.db', manifest, bodies)
-    objects = kept_of(manifest, bodies).objects
-    check_tables(stage, objects)
-    shutil.rmtree(stage.at('out'))
-    if refusal:
-        check_refused(stage, refusal, BOTH)
-    else:
-        check_tables(stage, objects, BOTH)
-
-
-CASES['Tables of all sorts'] = played_apart(check_registry, REGISTRIES)
+CASES['Tables of all sorts'] = played_apart(lambda stage, *given: check_release(stage, release_of(*given[:2]), given[2]), REGISTRIES)
 
 
 def test_cells_that_no_bundle_has(stage):
@@ -224,9 +172,9 @@ def test_cells_that_no_bundle_has(stage):
 
 # The tables of a Full and of a Differential of which two would be in one file.
 ALIKE = (
-    ((FIRST, CHILD, HOST), (HOST, Table('more', ('name', 'text'), b'ns1.example,x\n', kind='host', role='child')), 'H9 more'),
-    ((FIRST, CHILD), (Table('contact', CONTACT, b'C2,X2\n'), Table('More', ('id',), b'C2\n', role='child')), 'H9 more'),
-    ((FIRST, Table('Domain', ('id',), b'C1\n', role='child')), (), 'H9 Domain'),
+    ((FIRST, CHILD, HOST), (HOST, Table('more', 'host', 'child', ('name', 'text'), b'ns1.example,x\n')), 'H9 more'),
+    ((FIRST, CHILD), (contacts(b'C2,X2\n'), children(b'C2\n', 'More', ('id',))), 'H9 more'),
+    ((FIRST, children(b'C1\n', 'Domain', ('id',))), (), 'H9 Domain'),
 )
 
 
@@ -241,15 +189,8 @@ CASES['Tables of which two would be in one file'] = played_apart(check_alike, AL
 
 def test_no_chain(stage):
     """A store without a chain has no tables yet."""
-    make_store(stage, 'a.db', HEADING.encode(), [])
+    Release(HEADING.encode(), []).rebuild(stage)
     check_refused(stage, 'H7', TABLES)
-
-
-def test_no_stores(stage):
-    """No files are made of what is no store."""
-    for name, *given in OTHERS:
-        with case(name):
-            check_no_store(stage, TABLES, *given)
 
 
 def test_places(stage):
@@ -270,26 +211,21 @@ def test_places(stage):
 
 def make_long(stage):
     """A store whose first table is short, and whose second one is longer than a log without entries."""
-    store_of(stage, (Table('contact', CONTACT, b'C1,%b\n' % (b'x' * 200)),))
+    store_of(stage, (contacts(b'C1,%b\n' % (b'x' * 200)),))
 
 
 def test_a_full_disk(stage):
     """A file that can't be written whole: nothing is left."""
     make_long(stage)
     check_refused(stage, 'E1 out', TABLES, 3, prepare=limit_files)
-    check_refused(stage, 'E1 out', BOTH, 3, prepare=limit_database)
-
-
-def limit_database():
-    """Lets no file grow past 1,000 bytes. (Each CSV file is shorter, a database isn't.)"""
-    signal.signal(signal.SIGXFSZ, signal.SIG_IGN)
-    resource.setrlimit(resource.RLIMIT_FSIZE, (1_000, 1_000))
+    # (Each CSV file is shorter than 1,000 bytes, a database isn't.)
+    check_refused(stage, 'E1 out', BOTH, 3, prepare=lambda: limit_files(1_000))
 
 
 def stop_there():
     """Ends the program where a file grows past 100 bytes."""
+    limit_files()
     signal.signal(signal.SIGXFSZ, signal.SIG_DFL)
-    resource.setrlimit(resource.RLIMIT_FSIZE, (100, 100))
     resource.setrlimit(resource.RLIMIT_CORE, (0, 0))
 
 
@@ -303,35 +239,3 @@ def test_a_stop(stage):
     check_refused(stage, 'E1 out.part', TABLES, 3)
     shutil.rmtree(stage.at('out.part'))
     run(stage, TABLES, 'handover')
-
-
-def test_progress(stage):
-    """How far the work is stands on standard error, if it is asked for."""
-    store_of(stage, (FIRST, CHILD))
-    names = 'registrar contact more host domain idn nndn'.split()
-    told = ''.join(f'{it}: written\n' for it in (*(f'{it}.csv' for it in names), 'registry.sqlite'))
-    stage.check('tables --store a.db --progress --sqlite out', Wanted(0, '', f'opening a.db\n{told}'), program='handover')
-    stage.check('tables --store a.db --progress out', Wanted(3, '', 'E1 out\n'), program='handover')
-
-
-# Words that are no command.
-NO_WORDS = (
-    'tables',
-    'tables --store a.db',
-    'tables out',
-    'tables --store a.db out more',
-    'tables --store a.db --sqlite=yes out',
-    'tables --store a.db --sqlite --sqlite out',
-    'tables --store a.db --Sqlite out',
-    'tables --store a.db --id G1 out',
-    'tables --progress out',
-)
-
-
-def test_words(stage):
-    """Words that are no command make no files."""
-    store_of(stage, (FIRST,))
-    names = names_in(stage.room.name)
-    for line in NO_WORDS:
-        stage.check(line, Wanted(2, '', None), program='handover')
-    compare('files', '\n'.join(names), '\n'.join(names_in(stage.room.name)))

@@ -1,12 +1,11 @@
 """Exports of many objects: by a reader of the store, and by a desk on a port, which walks page by page, 256 objects in each."""
-import socket
-
 from support.bodies import BODIES, SHAPES, bytes_of, manifest_text
+from support.clients import table
 from support.formats import KINDS
-from support.messages import get, response
+from support.messages import get
 from support.reports import report
-from support.sockets import HOST, free_port, received
-from support.stage import SECONDS, Failed, Wanted, pieces_of
+from support.sockets import response_to, serve
+from support.stage import Failed, Wanted
 from support.steps import Folder
 from support.stores import run
 
@@ -15,35 +14,22 @@ def lines_of(table, row):
     """The lines of an object that has no child rows, by its parent row."""
     kind, _, fields = SHAPES[table]
     cells = row.split(',')
-    return ''.join(f'{kind},{cells[0]},{table},0,{name},{cell}\n' for name, cell in zip(fields, cells, strict=True))
+    return [f'{kind},{cells[0]},{table},0,{name},{cell}' for name, cell in zip(fields, cells, strict=True)]
 
 
 def export_of(kind, bodies):
-    """The export of bodies that have parent rows alone, and each key once."""
+    """The lines of bodies that have parent rows alone, and each key once."""
     rows = [(row.partition(',')[0].encode(), lines_of(table, row)) for it in bodies for table, rows in BODIES[it].contents.items()
             if SHAPES[table][0] == kind for row in rows.splitlines()]
-    return report('export') + ''.join(lines for _, lines in sorted(rows))
+    return [line for _, lines in sorted(rows) for line in lines]
 
 
-def check_export(line, wanted, got):
+def check_export(what, wanted, got):
     """Compares an export. (`difference` would take long over so many lines.)"""
     if got != wanted:
         pairs = zip(wanted.splitlines(), got.splitlines())
         first = next(((want, came) for want, came in pairs if want != came), 'the end alone')
-        raise Failed(f'{line}\nof {len(wanted)} bytes came {len(got)}, and others: {first}')
-
-
-def check_served(stage, exports):
-    """Compares what a desk on a port responds with."""
-    port = free_port()
-    child = stage.begin(f'serve --store a.db --port {port} --count {len(exports)}'.split())
-    if next(pieces_of(child.stdout), b'') != f'listening {HOST}:{port}\n'.encode():
-        raise Failed('a.db is not served')
-    for kind, wanted in exports.items():
-        request = get(f'/export/{kind}')
-        with socket.create_connection((HOST, port), SECONDS) as client:
-            client.sendall(request.encode())
-            check_export(request, response('200 OK', 'text/csv', len(wanted), wanted), received(client).decode())
+        raise Failed(f'{what}\nof {len(wanted)} bytes came {len(got)}, and others: {first}')
 
 
 def check_exports(stage, *bodies):
@@ -55,11 +41,13 @@ def check_exports(stage, *bodies):
     stage.check('init --store a.db --manifest listed.csv', Wanted(0, f'listed {len(bodies)}\n'))
     rows = [f'{at},{at},A1,,{BODIES[it].listed[0]},0,new,0' for at, it in enumerate(bodies, 1)]
     stage.check('take --store a.db deposits', Wanted(0, report('receipts', rows)))
-    exports = {kind: export_of(kind, bodies) for kind in KINDS}
-    for kind, wanted in exports.items():
-        line = f'export --store a.db {kind}'
-        check_export(f'$ restore {line}', wanted, run(stage, line).decode())
-    check_served(stage, exports)
+    child, port = serve(stage, 'a.db', len(KINDS))
+    served = {kind: response_to(port, get(f'/export/{kind}')) for kind in KINDS}
+    stage.end(child)
+    for kind in KINDS:
+        lines = export_of(kind, bodies)
+        check_export(f'$ restore export --store a.db {kind}', report('export', lines).encode(), run(stage, f'export --store a.db {kind}'))
+        check_export(f'GET /export/{kind}', table('export', *lines), served[kind])
 
 
 def test_pages(stage):

@@ -1,6 +1,4 @@
 """The words of manifests and envelopes: the moments of watermarks, places, types, kinds and ids."""
-import datetime
-
 from support.bundles import bundle_of, envelope_of, row_of, section
 from support.formats import KINDS
 from support.harness import Harness
@@ -25,46 +23,24 @@ NO_MOMENTS = (
     '2024-3-03T00:00:00Z', '02024-03-03T00:00:00Z', '+2024-03-03T00:00:00Z', ' 2024-03-03T00:00:00Z', '2024-03-03T00:00:00Z ',
     '2024-03-03T00:00:00ZZ', '2024-03-03', '',
 )
-# Moments, and their texts, in order.
-PRINTED = (
-    (1_709_424_000_000_000_000, '2024-03-03T00:00:00Z'),
-    (1_709_424_000_000_000_001, '2024-03-03T00:00:00.000000001Z'),
-    (1_709_424_000_000_000_010, '2024-03-03T00:00:00.00000001Z'),
-    (1_709_424_000_010_000_000, '2024-03-03T00:00:00.01Z'),
-    (1_709_424_000_100_000_000, '2024-03-03T00:00:00.1Z'),
-    (1_709_424_000_100_000_100, '2024-03-03T00:00:00.1000001Z'),
-    (1_709_424_000_120_000_000, '2024-03-03T00:00:00.12Z'),
-    (1_709_424_000_123_000_000, '2024-03-03T00:00:00.123Z'),
-    (1_709_424_000_123_400_000, '2024-03-03T00:00:00.1234Z'),
-    (1_709_424_000_123_450_000, '2024-03-03T00:00:00.12345Z'),
-    (1_709_424_000_123_456_000, '2024-03-03T00:00:00.123456Z'),
-    (1_709_424_000_123_456_700, '2024-03-03T00:00:00.1234567Z'),
-    (1_709_424_000_123_456_780, '2024-03-03T00:00:00.12345678Z'),
-    (1_709_424_000_123_456_789, '2024-03-03T00:00:00.123456789Z'),
-    (9_214_646_399_999_999_999, '2261-12-31T23:59:59.999999999Z'),
+# The fractions of moments: their nanoseconds and their texts, in order.
+FRACTIONS = (
+    (0, ''), (1, '.000000001'), (10, '.00000001'), (10_000_000, '.01'), (100_000_000, '.1'), (100_000_100, '.1000001'),
+    (120_000_000, '.12'), (123_000_000, '.123'), (123_400_000, '.1234'), (123_450_000, '.12345'), (123_456_000, '.123456'),
+    (123_456_700, '.1234567'), (123_456_780, '.12345678'), (123_456_789, '.123456789'),
 )
+LAST = '2261-12-31T23:59:59.999999999Z'
 # Words of a program of which one has a byte that is no UTF-8, and what `clap` says of it.
-NO_TEXTS = (
-    ('restore', ['report', '--store', 'a\udcff', 'status']),
-    ('restore', ['\udcc3']),
-    ('pack', ['manifest', 'n1', '\udcff']),
-    ('pack', ['\udc80bundle']),
-)
+NO_TEXTS = (('restore', 'report --store a\udcff status'), ('restore', '\udcc3'), ('pack', 'manifest n1 \udcff'), ('pack', '\udc80bundle'))
 INVALID = "error: invalid UTF-8 was detected in one or more arguments\n\nFor more information, try '--help'.\n"
 # A moment, and the one after it.
 FIFTH, SIXTH = '1970-01-01T00:00:00.000000005Z', '1970-01-01T00:00:00.000000006Z'
 # Places, in their order.
 PLACES = ((FIFTH, 'DIFF'), (FIFTH, 'INCR'), (FIFTH, 'FULL'), (SIXTH, 'DIFF'))
-# Words for a type and for an id, and what is said of a manifest whose row has them.
+# Words for an id and for a type, and what is said of a manifest whose row has them.
 WORDS = (
-    ('F1', 'FULL', 'listed 1'),
-    ('F1', 'INCR', 'listed 1'),
-    ('F1', 'DIFF', 'listed 1'),
-    ('F1', 'diff', 'M5 row 1'),
-    ('a.B_9-', 'FULL', 'listed 1'),
-    ('a b', 'FULL', 'M4 row 1'),
-    ('a' * 64, 'FULL', 'listed 1'),
-    ('a' * 65, 'FULL', 'M4 row 1'),
+    ('F1', 'FULL', 'listed 1'), ('F1', 'INCR', 'listed 1'), ('F1', 'DIFF', 'listed 1'), ('F1', 'diff', 'M5 row 1'),
+    ('a.B_9-', 'FULL', 'listed 1'), ('a b', 'FULL', 'M4 row 1'), ('a' * 64, 'FULL', 'listed 1'), ('a' * 65, 'FULL', 'M4 row 1'),
 )
 
 
@@ -94,12 +70,6 @@ def test_texts_that_are_no_moments(stage):
             stage.check(f'as-of --store a.db {text!r}', wanted, ['as-of', '--store', 'a.db', text])
 
 
-def text_at(moment):
-    """A moment with all nine digits of its fraction."""
-    seconds, nanoseconds = divmod(moment, 1_000_000_000)
-    return f'{datetime.datetime(1970, 1, 1) + datetime.timedelta(seconds=seconds):%Y-%m-%dT%H:%M:%S}.{nanoseconds:09}Z'
-
-
 def check_gaps(stage, rows, places):
     """Compares the report of a store that lists rows, of which none is held."""
     stage.write('listed.csv', text_of_rows((said, at) for at, said in enumerate(rows)))
@@ -110,8 +80,9 @@ def check_gaps(stage, rows, places):
 
 def test_moments_that_are_printed(stage):
     """The texts of moments."""
-    rows = [row_at(f'F{at}', 'FULL', text_at(moment)) for at, (moment, _) in enumerate(PRINTED)]
-    check_gaps(stage, rows, [(text, 'FULL') for _, text in PRINTED])
+    listed = [*(f'2024-03-03T00:00:00.{nanoseconds:09}Z' for nanoseconds, _ in FRACTIONS), LAST]
+    printed = [*(f'2024-03-03T00:00:00{text}Z' for _, text in FRACTIONS), LAST]
+    check_gaps(stage, [row_at(f'F{at}', 'FULL', it) for at, it in enumerate(listed)], [(it, 'FULL') for it in printed])
 
 
 def test_places_in_their_order(stage):
@@ -139,5 +110,5 @@ def test_kinds_in_their_order(stage):
 
 def test_words_that_are_no_text(stage):
     """Words of both programs that are no UTF-8."""
-    for program, words in NO_TEXTS:
-        stage.check(ascii(words), Wanted(2, '', INVALID), words, program=program)
+    for program, line in NO_TEXTS:
+        stage.check(ascii(line), Wanted(2, '', INVALID), line.split(), program)

@@ -1,13 +1,11 @@
 """A plain model of `handover check`, by the words of docs/HANDOVER.md and docs/DEFINITIONS.md.
 
-It looks at what a store keeps of a manifest and of arrivals (first_store.py), and says how each line begins. Nothing of the program is
-used."""
-import datetime, hashlib, struct
-from dataclasses import dataclass
+It looks at what a store keeps (model.py), and says how each line begins. Nothing of the program is used."""
+import hashlib, unicodedata
 
 from support import formats
-from support.first_store import Deposit, in_order
-from support.formats import KINDS
+from support.formats import KINDS, Deposit, Refused, counts_in, envelope_in, found_in, in_order, moment_text, place_text, read_record
+from support.model import made_by
 
 # The fields by which links, statuses and dates go: the kind of the objects, the child table, or none where the parent rows have it, and
 # the field.
@@ -31,55 +29,13 @@ STATUSES = {'host': HOST_STATUSES, 'contact': CONTACT_STATUSES,
                                                        'pendingRenew'}}
 
 
-# ---- what a store keeps
-
-
-def read_record(record):
-    """The rows of an object, of each its table and its cells."""
-    at = 0
-
-    def number():
-        nonlocal at
-        at += 4
-        return struct.unpack('>I', record[at - 4:at])[0]
-
-    def text():
-        nonlocal at
-        length = number()
-        at += length
-        return record[at - length:at]
-
-    return [(text(), [(text(), text()) for _ in range(number())]) for _ in range(number())]
-
-
-def envelope_of(body):
-    return formats.json_of(dict(formats.sections(body))[b'envelope.json'])
-
-
-def is_bundle(body):
-    """Whether a body is a bundle, whatever its rows are."""
-    try:
-        return envelope_of(body) is not None
-    except formats.Refused:
-        return False
-
-
-def deposit_of(body):
-    """The deposit that a body is, if it is one."""
-    try:
-        return Deposit(body)
-    except formats.Refused:
-        return None
-
-
 # ---- findings
 
 
 def cells_of(rows, table, field):
     """The texts of a field in the rows of a child table, or in the parent row, which is the first one; without empty ones."""
-    chosen = rows[:1] if table is None else [it for it in rows[1:] if it[0].decode() == table]
-    found = [dict(reversed(cells)).get(field.encode(), b'').decode() for _, cells in chosen]
-    return [it for it in found if it]
+    chosen = rows[:1] if table is None else [it for it in rows[1:] if it[0] == table]
+    return [text for _, cells in chosen if (text := dict(reversed(cells)).get(field))]
 
 
 def link_findings(objects, kind, key, rows):
@@ -167,81 +123,34 @@ def guide_text(guide):
 # ---- what is seen of a store
 
 
-@dataclass(frozen=True)
-class Gap:
-    """The line of a listed place."""
-    place: tuple
-    state: str
-    awaited: int | None
+def is_bundle(body):
+    """Whether a body is a bundle, whatever its rows are."""
+    try:
+        return envelope_in(body) is not None
+    except Refused:
+        return False
 
 
-@dataclass(frozen=True)
 class Seen:
-    moment: int | None
-    end: tuple | None
-    gaps: list
-    parked: int
-    findings: list
-    objects: dict
-    counts: dict
-    tables: list
-    orphans: int
-    spoiled: list
-    is_rebuilt: bool
+    """What is seen of a store where the body of the chain's last deposit is a bundle. (One that went bad may have rows of which no
+    deposit is read. It still declares tables.)"""
 
-
-def gap_of(kept, place):
-    used = kept.used(place)
-    least = -1 if used is None else kept.listed[used][3]
-    awaited = [it[3] for at, it in enumerate(kept.listed) if it[1] == place and at not in kept.held and it[3] > least]
-    if used is None:
-        state = 'missing'
-    elif kept.chain_to(used) is None:
-        state = 'blocked'
-    else:
-        state = 'chain' if used in kept.steps else 'standing'
-    return Gap(place, state, max(awaited, default=None))
-
-
-def made_by(deposits):
-    """The records of the objects that deposits make, one after the other."""
-    made = {}
-    for it in deposits:
-        made |= it.says
-    return {key: record for key, record in made.items() if record is not None}
-
-
-def seen_of(kept):
-    """What is seen of a store where the body of the chain's last deposit is a bundle. (One that went bad may have rows of which no deposit
-    is read. It still declares tables.)"""
-    bodies = [kept.held[it] for it in kept.steps]
-    read = [deposit_of(it) for it in bodies]
-    deposits = [it for it in read if it]
-    end = kept.place(kept.steps[-1]) if bodies else None
-    counts = {kind: it.whole() for kind, it in envelope_of(bodies[-1]).get('counts', {}).items()} if bodies else {}
-    return Seen(
-        moment=kept.moment,
-        end=end,
-        gaps=[gap_of(kept, it) for it in sorted({it[1] for it in kept.listed}, key=in_order)],
-        parked=len(kept.parked),
-        findings=findings(kept.objects, end[0], counts) if end else [],
-        objects={kind: count_of(kept.objects, kind) for kind in KINDS},
-        counts=counts,
-        tables=[it for body in filter(is_bundle, bodies) for it in envelope_of(body).get('contents', [])],
-        orphans=sum(it.orphans for it in deposits),
-        spoiled=[at for at, body in sorted(kept.held.items()) if hashlib.sha256(body).hexdigest() != kept.listed[at][4]],
-        is_rebuilt=len(deposits) == len(read) and made_by(deposits) == kept.objects)
+    def __init__(self, desk):
+        bodies = [desk.held[it] for it in desk.steps]
+        read = list(map(found_in, bodies))
+        deposits = [it for it in read if isinstance(it, Deposit)]
+        self.moment, self.gaps, self.parked = desk.moment, desk.gaps(), len(desk.parked)
+        self.end = desk.place(desk.steps[-1]) if bodies else None
+        self.counts = counts_in(envelope_in(bodies[-1])) if bodies else {}
+        self.findings = findings(desk.objects, self.end[0], self.counts) if bodies else []
+        self.objects = {kind: count_of(desk.objects, kind) for kind in KINDS}
+        self.tables = [it for body in filter(is_bundle, bodies) for it in envelope_in(body).get('contents', [])]
+        self.orphans = sum(it.orphans for it in deposits)
+        self.spoiled = [at for at, body in sorted(desk.held.items()) if hashlib.sha256(body).hexdigest() != desk.listed[at][4]]
+        self.is_rebuilt = deposits == read and made_by(deposits) == desk.objects
 
 
 # ---- the lines
-
-
-def moment_text(nanoseconds):
-    return f'{datetime.datetime(1970, 1, 1) + datetime.timedelta(seconds=nanoseconds // 10**9):%Y-%m-%dT%H:%M:%SZ}'
-
-
-def place_text(place):
-    return f'{moment_text(place[0])} {place[1]}'
 
 
 def end_line(seen):
@@ -256,68 +165,60 @@ def end_line(seen):
 
 
 def resends_line(seen):
-    outdated = [it for it in seen.gaps if it.state == 'chain' and it.awaited is not None]
-    if not outdated:
-        return True, ''
-    first = outdated[0]
-    return False, f'{len(outdated)} of the chain await a later resend, the first {place_text(first.place)} resend {first.awaited};'
+    if outdated := [it for it in seen.gaps if it.state == 'chain' and it.awaited is not None]:
+        first = outdated[0]
+        return f'{len(outdated)} of the chain await a later resend, the first {place_text(first.place)} resend {first.awaited};'
+    return ''
 
 
 def gaps_line(seen):
     passed = [it for it in seen.gaps if it.state in ('missing', 'blocked') and seen.end and in_order(it.place) < in_order(seen.end)]
-    if not passed:
-        return True, ''
-    first = passed[0]
-    return False, f'{len(passed)} before the end are missing or blocked, the first {place_text(first.place)} {first.state};'
+    if passed:
+        return f'{len(passed)} before the end are missing or blocked, the first {place_text(passed[0].place)} {passed[0].state};'
+    return ''
 
 
 def control_spelled(text):
     """A text as it is shown: if it has control characters, these and its backslashes are escaped."""
-    if not any(ord(it) < 32 or 127 <= ord(it) < 160 for it in text):
-        return text
-    named = {'\t': '\\t', '\n': '\\n', '\r': '\\r', '\\': '\\\\'}
-    return ''.join(named.get(it) or (f'\\u{{{ord(it):x}}}' if ord(it) < 32 or 127 <= ord(it) < 160 else it) for it in text)
+    controls = {it: f'\\u{{{ord(it):x}}}' for it in text if unicodedata.category(it) == 'Cc'}
+    others = {'\t': '\\t', '\n': '\\n', '\r': '\\r', '\\': '\\\\'}
+    return text.translate(str.maketrans(controls | others)) if controls else text
 
 
 def findings_line(seen):
-    if not seen.findings:
-        return True, ''
-    code, kind, key, field, _ = seen.findings[0]
-    return False, f'{len(seen.findings)}, the first V{code} {" ".join(filter(None, (kind, control_spelled(key), field)))};'
-
-
-def fields_line(seen):
-    wanted = [it for it in GUIDES if seen.objects[it[0]] and (it[2] != 'idnTableId' or seen.objects['idn'])]
-    undeclared = [guide_text(it) for it in wanted if not is_declared(it, seen.tables)]
-    return not undeclared, f'{", ".join(undeclared)} declared by no deposit'
-
-
-def names_line(seen):
-    renamed = [guide_text(it) for it in GUIDES if is_under_other_name(it, seen.tables)]
-    return not renamed, f'{", ".join(renamed)} under another name'
+    if seen.findings:
+        code, kind, key, field, _ = seen.findings[0]
+        return f'{len(seen.findings)}, the first V{code} {" ".join(filter(None, (kind, control_spelled(key), field)))};'
+    return ''
 
 
 def bodies_line(seen):
-    if not seen.spoiled:
-        return True, ''
-    return False, f'{len(seen.spoiled)} held have another SHA-256 than listed, the first of row {seen.spoiled[0] + 1};'
+    if seen.spoiled:
+        return f'{len(seen.spoiled)} held have another SHA-256 than listed, the first of row {seen.spoiled[0] + 1};'
+    return ''
+
+
+def those_that_are(names, what):
+    return f'{", ".join(names)} {what}' if names else ''
 
 
 def tests_of(seen):
     """Each test in order: its name, whether it passes, and what its line then begins to say if it doesn't. Of the end this is said in any
     case."""
-    uncounted = [it for it in KINDS if it not in seen.counts]
+    fields = [it for it in GUIDES if seen.objects[it[0]] and (it[2] != 'idnTableId' or seen.objects['idn'])]
     yield 'end', *end_line(seen)
-    yield 'resends', *resends_line(seen)
-    yield 'gaps', *gaps_line(seen)
-    yield 'parked', not seen.parked, f'{seen.parked} are listed by no row'
-    yield 'findings', *findings_line(seen)
-    yield 'orphans', not seen.orphans, f'{seen.orphans} child rows'
-    yield 'counts', not uncounted, f'{", ".join(uncounted)} not declared'
-    yield 'fields', *fields_line(seen)
-    yield 'names', *names_line(seen)
-    yield 'bodies', *bodies_line(seen)
-    yield 'tables', seen.is_rebuilt, 'not those'
+    for name, wrong in {
+            'resends': resends_line(seen),
+            'gaps': gaps_line(seen),
+            'parked': f'{seen.parked} are listed by no row' if seen.parked else '',
+            'findings': findings_line(seen),
+            'orphans': f'{seen.orphans} child rows' if seen.orphans else '',
+            'counts': those_that_are([it for it in KINDS if it not in seen.counts], 'not declared'),
+            'fields': those_that_are([guide_text(it) for it in fields if not is_declared(it, seen.tables)], 'declared by no deposit'),
+            'names': those_that_are([guide_text(it) for it in GUIDES if is_under_other_name(it, seen.tables)], 'under another name'),
+            'bodies': bodies_line(seen),
+            'tables': '' if seen.is_rebuilt else 'not those'}.items():
+        yield name, not wrong, wrong
 
 
 def is_accepted(tests):

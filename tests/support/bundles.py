@@ -1,5 +1,7 @@
-"""Bundles, put together of an envelope and sections, and the rows of manifests that list them; and the worked bundle of one contact."""
-import hashlib, json
+"""Deposits: the bundle of each, put together of its tables, or of an envelope and sections; the manifests that list them; and the
+worked bundle of one contact."""
+import csv, hashlib, io, json
+from typing import NamedTuple
 
 # The first lines of a bundle and of a manifest.
 FIRST_LINE, HEADING = b'escrow-bundle 1\n', 'id,type,watermark,prevId,resend,sha256\n'
@@ -26,6 +28,9 @@ FILES = {
 }
 
 
+# ---- of sections
+
+
 def section(name, content):
     return f'{name} {len(content)}\n'.encode() + content + b'\n'
 
@@ -45,17 +50,67 @@ def sealed(envelope, files):
     return bundle_of(text, b''.join(section(*it) for it in files))
 
 
-def table(name, kind, role, fields, file):
-    """A table's declaration in an envelope. The first of its fields is the key."""
-    return {'name': name, 'kind': kind, 'role': role, 'key': fields[0], 'fields': list(fields), 'file': file}
+# ---- of tables
 
 
-def row_of(said, body):
-    """The line of a manifest that lists a body."""
-    return f'{said},{hashlib.sha256(body).hexdigest()}\n'
+class Header(NamedTuple):
+    """What a deposit says of itself, and as a text what the row of a manifest says of it."""
+    id: str
+    type: str
+    watermark: str
+    prev: str = ''
+    resend: int = 0
+
+    def __str__(self):
+        return ','.join(map(str, self))
+
+
+class Table(NamedTuple):
+    """A table's declaration, and the text of its rows. Its key is the first field, if no other one is named."""
+    name: str
+    kind: str
+    role: str
+    fields: tuple
+    rows: bytes = b''
+    key: str | None = None
+
+    def declared(self, file):
+        return {'name': self.name, 'kind': self.kind, 'role': self.role, 'key': self.key or self.fields[0], 'fields': list(self.fields),
+                'file': file}
+
+
+def csv_text(rows):
+    text = io.StringIO(newline='')
+    csv.writer(text, lineterminator='\n').writerows(rows)
+    return text.getvalue().encode()
+
+
+def deposit(header, contents=(), deletes=(), counts=None):
+    """The bundle of a deposit with these tables, which says how many objects of some kinds there are. The header may be its text."""
+    name, kind, watermark, prev, resend = str(header).split(',')
+    told = {'id': name, 'type': kind, 'watermark': watermark, 'prevId': prev, 'resend': int(resend or 0), 'counts': counts or {}}
+    files = []
+    for member, tables in (('deletes', deletes), ('contents', contents)):
+        named = [(f'{member[0]}{at}', it) for at, it in enumerate(tables)]
+        told[member] = [it.declared(file) for file, it in named]
+        files += [(file, it.rows) for file, it in named]
+    return sealed(told, files)
 
 
 def envelope_of(files):
     """The envelope of a Full whose tables are t0, t1 .., each with its file."""
-    tables = [table(f't{at}', *declared, file) for at, (file, declared) in enumerate(files.items())]
+    tables = [Table(f't{at}', *declared).declared(file) for at, (file, declared) in enumerate(files.items())]
     return compact({'id': 'F1', 'type': 'FULL', 'watermark': '2024-03-03T00:00:00Z', 'contents': tables})
+
+
+# ---- manifests
+
+
+def row_of(header, body):
+    """The line of a manifest that lists a body."""
+    return f'{header},{hashlib.sha256(body).hexdigest()}\n'
+
+
+def manifest(deposits):
+    """The manifest that lists deposits, each a header and a body."""
+    return (HEADING + ''.join(row_of(*it) for it in deposits)).encode()

@@ -1,12 +1,12 @@
 """Clients that send requests to the desk of a harness over memory, and the responses that they must get."""
-import contextlib
+import contextlib, json
 from dataclasses import dataclass
 
-from support import messages
+from support.bundles import SAMPLE as CONTACT
 from support.events import check, compare_any
 from support.harness import Harness
+from support.messages import put, response
 from support.reports import report
-from support.stage import text_of
 from support.steps import Copy
 
 # More bytes than a request or a response has.
@@ -15,84 +15,36 @@ AMPLE = 10_000_000
 SERVED, READ_FAULT, WRITE_FAULT = 'served', 'read fault', 'write fault'
 
 
-# ---- messages
+# ---- responses
 
 
-def put(number, body):
-    return f'PUT /arrivals/{number} HTTP/1.1\r\nContent-Length: {len(body)}\r\n\r\n'.encode() + body
-
-
-def get(path):
-    return messages.get(path).encode()
-
-
-def response(status, kind, body, more=''):
-    return messages.response(status, kind, len(body), body, more)
-
-
-def refusal(status, words, more=''):
-    return response(status, 'text/plain', f'{words}\n', more)
-
-
-def held(receipt, number, name, resend=0):
-    """The response to an arrival of a body that is held."""
-    return response('200 OK', 'application/json', f'{{"copy":"new","fault":null,"id":"{name}","number":"{number}","orphans":0,'
-                                                  f'"receipt":{receipt},"resend":{resend},"verdict":"A1"}}')
-
-
-def not_held(status, receipt, number, verdict):
-    return response(status, 'application/json', f'{{"copy":null,"fault":null,"id":null,"number":"{number}","orphans":null,'
-                                                f'"receipt":{receipt},"resend":null,"verdict":"{verdict}"}}')
-
-
-def parked(receipt, number):
-    return not_held('202 Accepted', receipt, number, 'A5')
+def replied(row):
+    """The response to an arrival, by its row in the report of receipts."""
+    receipt, number, verdict, fault, name, resend, copy, orphans = row.split(',')
+    told = {'copy': copy or None, 'fault': fault or None, 'id': name or None, 'number': number,
+            'orphans': int(orphans) if orphans else None, 'receipt': int(receipt), 'resend': int(resend) if resend else None,
+            'verdict': verdict}
+    return response({'A1': 200, 'A5': 202}.get(verdict, 422), json.dumps(told, separators=(',', ':')), 'application/json')
 
 
 def table(name, *rows):
-    """A report in rows."""
-    return response('200 OK', 'text/csv', report(name, rows))
+    """The response with a report in rows."""
+    return response(200, report(name, rows), 'text/csv')
 
 
-def export(*rows):
-    return table('export', *rows)
-
-
-def receipts(*rows):
-    return table('receipts', *rows)
-
-
-def gaps(*rows):
-    return table('gaps', *rows)
-
-
-def links(*rows):
-    return table('links', *rows)
-
-
-def parked_bodies(*rows):
-    return table('parked', *rows)
-
-
-def moment(word):
-    return response('200 OK', 'text/plain', text_of([word]))
-
-
-def status(listed, held, receipts, chain, end, *objects):
-    """The status of a desk: how many rows it lists and holds, its receipts, the steps of its chain, where that ends, and the objects."""
-    kinds = zip(('registrar', 'contact', 'host', 'domain', 'idn', 'nndn'), objects, strict=True)
-    return response('200 OK', 'text/plain', text_of([f'listed {listed}', f'held {held}', f'receipts {receipts}', f'chain {chain}',
-                                                     f'end {end}', *(f'{kind} {count}' for kind, count in kinds)]))
+BAD_REQUEST, NOT_FOUND = response(400, 'bad request\n'), response(404, 'not found\n')
+LENGTH_REQUIRED, TOO_LARGE = response(411, 'length required\n'), response(413, 'too large\n')
+PUT_ONLY, GET_ONLY = (response(405, 'method not allowed\n', allow=it) for it in ('PUT', 'GET'))
 
 
 # ---- the sample
 
 # An arrival of a body that the manifest with-contact.csv lists; and one of a body that it doesn't, with one more byte after it.
-SAMPLE = b'PUT /arrivals/n1 HTTP/1.1\r\nHost: desk\r\ncontent-LENGTH: 000228\r\n\r\n' + messages.CONTACT.encode()
-OTHER = b'PUT /arrivals/n2 HTTP/1.0\r\nContent-Length: 3\r\n\r\nabcd'
-# The response to the sample, and the receipts of both, where they come in this order.
-HELD = held(1, 'n1', 'F1')
+SAMPLE = b'PUT /arrivals/n1 HTTP/1.1\r\nHost: desk\r\ncontent-LENGTH: 000228\r\n\r\n' + CONTACT
+OTHER = put('n2', b'abcd', 3)
+# Their receipts, where they come in this order, and the response to the sample.
 RECEIPTS = ('1,n1,A1,,F1,0,new,0', '2,n2,A5,,,,,')
+HELD = replied(RECEIPTS[0])
 
 
 def list_sample(stage):
@@ -122,13 +74,8 @@ class Wire:
         return f'request request {self.pause} {self.piece} {self.readable} {self.writable} {end}'
 
 
-def shown(answer):
-    """What came of a request, and what was written of its response."""
-    came, _, digits = answer.partition('\nx')
-    try:
-        return f'{came}\n{bytes.fromhex(digits).decode(errors="backslashreplace")}'
-    except ValueError:
-        return answer
+def shown(text):
+    return text.decode(errors='backslashreplace')
 
 
 class RequestDesk(Harness):
@@ -139,18 +86,21 @@ class RequestDesk(Harness):
         self.stage, self.sent = stage, None
 
     def serve(self, wire):
-        """What comes of a request."""
+        """What comes of a request, and what is written of its response."""
         if wire.request != self.sent:
             self.stage.write('request', wire.request)
             self.sent = wire.request
-        return shown(self.ask(wire.line()))
+        answer = self.ask(wire.line())
+        came, _, digits = answer.partition('\nx')
+        with contextlib.suppress(ValueError):
+            return f'{came}\n{shown(bytes.fromhex(digits))}'
+        return answer
 
     def check_served(self, wire, *responses, came=SERVED, time=0):
-        """Sends a request, and compares what comes of it, and after how many milliseconds. Its response must be one of these: which one it
-        is."""
-        told = f'{came} after {time} milliseconds\n'
-        got = compare_any(f'{wire.line()}\n{wire.request!r:.400}', self.serve(wire), *(f'{told}{it}' for it in responses))
-        return got.removeprefix(told)
+        """Sends a request, and compares what comes of it, and after how many milliseconds. Its response must be one of these: gives
+        whether it is the first one."""
+        wanted = [f'{came} after {time} milliseconds\n{shown(it)}' for it in responses]
+        return compare_any(f'{wire.line()}\n{wire.request!r:.400}', self.serve(wire), *wanted) == wanted[0]
 
     def check_receipts(self, *receipts):
         check(self, 'receipts', report('receipts', receipts))

@@ -2,7 +2,7 @@
 
 An object is a list of rows, each a table and its cells, the parent row first: `('domain', {'name': 'a.example', ..})`, then
 `('domainNs', {'hostName': 'ns1.example'})` and so on. Tables and fields have the names by which the desk knows them."""
-import os, zlib
+import csv, io, os, zlib
 from xml.sax.saxutils import escape, quoteattr
 
 OBJECTS = {'registrar': 'rdeRegistrar:registrar', 'idn': 'rdeIDN:idnTableRef', 'contact': 'rdeContact:contact', 'host': 'rdeHost:host',
@@ -57,52 +57,45 @@ def whois(prefix, cells, _rows):
     return element(f'{prefix}:whoisInfo', within=element(f'{prefix}:url', cells['whoisUrl'])) if cells.get('whoisUrl') else ''
 
 
-def contact_postal(prefix, _cells, rows):
-    return ''.join(element(f'{prefix}:postalInfo', within=some('contact', it, 'name', 'org') + address('contact', it), type=it['postalType'])
-                   for it in rows('contactPostal'))
+def each(table, make):
+    """What is made of the rows of a child table, one after the other."""
+    return lambda prefix, _cells, rows: ''.join(make(prefix, it) for it in rows(table))
 
 
-def statuses(table):
-    def made(prefix, _cells, rows):
-        for it in rows(table):
-            name = 'rgpStatus' if it.get('rgpStatus') else 'status'
-            yield element(f'{prefix}:{name}', it.get('statusDescription', ''), s=it[name], lang=it.get('lang'))
-    return lambda *given: ''.join(made(*given))
+def postal(prefix, it):
+    return element(f'{prefix}:postalInfo', within=some('contact', it, 'name', 'org') + address('contact', it), type=it['postalType'])
 
 
-def transfer(table):
-    fields = 'trStatus reRr reDate acRr acDate exDate'.split()
-    return lambda prefix, _cells, rows: ''.join(element(f'{prefix}:trnData', within=some(prefix, it, *fields)) for it in rows(table))
+def status(prefix, it):
+    name = 'rgpStatus' if it.get('rgpStatus') else 'status'
+    return element(f'{prefix}:{name}', it.get('statusDescription', ''), s=it[name], lang=it.get('lang'))
 
 
-def disclosed(prefix, _cells, rows):
-    made = ''
-    for it in rows('contactDisclose'):
-        within = ''.join(element(f'contact:{name.lower()}', type=form.lower()) for name in ('Name', 'Org', 'Addr') for form in ('Int', 'Loc')
-                         if it.get(f'disclose{name}{form}'))
-        within += ''.join(element(f'contact:{name.lower()}') for name in ('Voice', 'Fax', 'Email') if it.get(f'disclose{name}'))
-        made += element(f'{prefix}:disclose', within=within, flag=it['discloseFlag'])
-    return made
+def transfer(prefix, it):
+    return element(f'{prefix}:trnData', within=some(prefix, it, *'trStatus reRr reDate acRr acDate exDate'.split()))
 
 
-def addressed(prefix, its):
-    return ''.join(element(prefix, it['addr'], ip=it['addrVersion']) for it in its if it.get('addr'))
+def disclosed(prefix, it):
+    within = ''.join(element(f'contact:{name.lower()}', type=form.lower()) for name in ('Name', 'Org', 'Addr') for form in ('Int', 'Loc')
+                     if it.get(f'disclose{name}{form}'))
+    within += ''.join(element(f'contact:{name.lower()}') for name in ('Voice', 'Fax', 'Email') if it.get(f'disclose{name}'))
+    return element(f'{prefix}:disclose', within=within, flag=it['discloseFlag'])
 
 
-def host_addresses(prefix, _cells, rows):
-    return addressed(f'{prefix}:addr', rows('hostAddresses'))
+def contact(prefix, it):
+    return element(f'{prefix}:contact', it['contactId'], type=it['contactType'])
+
+
+def addressed(tag, it):
+    return element(tag, it['addr'], ip=it['addrVersion']) if it.get('addr') else ''
 
 
 def servers(prefix, _cells, rows):
     within = ''.join(element('domain:hostObj', it['hostName']) for it in rows('domainNs'))
     for name in dict.fromkeys(it['hostName'] for it in rows('domainHostAttr')):
-        its = [it for it in rows('domainHostAttr') if it['hostName'] == name]
-        within += element('domain:hostAttr', within=element('domain:hostName', name) + addressed('domain:hostAddr', its))
+        its = ''.join(addressed('domain:hostAddr', it) for it in rows('domainHostAttr') if it['hostName'] == name)
+        within += element('domain:hostAttr', within=element('domain:hostName', name) + its)
     return element(f'{prefix}:ns', within=within) if within else ''
-
-
-def contacts(prefix, _cells, rows):
-    return ''.join(element(f'{prefix}:contact', it['contactId'], type=it['contactType']) for it in rows('domainContacts'))
 
 
 def secured(prefix, _cells, rows):
@@ -119,10 +112,12 @@ def secured(prefix, _cells, rows):
 XML = {
     'registrar': ('id name gurid status', registrar_postal, 'voice fax email url', whois, 'crDate upDate'),
     'idn': ('url urlPolicy',),
-    'contact': ('id roid', statuses('contactStatuses'), contact_postal, 'voice fax email ' + HISTORY_XML, transfer('contactTransfer'), disclosed),
-    'host': ('name roid', statuses('hostStatuses'), host_addresses, HISTORY_XML),
-    'domain': ('name roid uName idnTableId originalName', statuses('domainStatuses'), 'registrant', contacts, servers,
-               'clID crRr crDate exDate upRr upDate', secured, 'trDate', transfer('domainTransfer')),
+    'contact': ('id roid', each('contactStatuses', status), each('contactPostal', postal), f'voice fax email {HISTORY_XML}',
+                each('contactTransfer', transfer), each('contactDisclose', disclosed)),
+    'host': ('name roid', each('hostStatuses', status), each('hostAddresses', lambda prefix, it: addressed(f'{prefix}:addr', it)),
+             HISTORY_XML),
+    'domain': ('name roid uName idnTableId originalName', each('domainStatuses', status), 'registrant', each('domainContacts', contact),
+               servers, 'clID crRr crDate exDate upRr upDate', secured, 'trDate', each('domainTransfer', transfer)),
     'nndn': ('aName uName idnTableId originalName nameState crDate',),
 }
 
@@ -148,18 +143,14 @@ def deleted_xml(deletes):
 # ---- the CSV model
 
 
-# Of each table the element that holds its files, the name of these, and its fields, each with the element that defines it.
-COMMON = {it: f'rdeCsv:f{it[0].upper()}{it[1:]}' for it in (
-    'roid uName registrant statusDescription lang clID crRr crID upRr upID reRr reID acRr acID crDate upDate exDate reDate acDate trDate '
-    'trStatus idnTableId url').split()}
+# The fields whose elements are the same in all tables.
+COMMON = ('roid uName registrant statusDescription lang clID crRr crID upRr upID reRr reID acRr acID crDate upDate exDate reDate acDate '
+          'trDate trStatus idnTableId url').split()
 
 
-def own(prefix, names):
-    return {it: f'{prefix}:f{it[0].upper()}{it[1:]}' for it in names.split()}
-
-
-def common(names):
-    return {it: COMMON[it] for it in names.split()}
+def fields(prefix, names):
+    """Fields, each with the element that defines it."""
+    return {it: f'{"rdeCsv" if it in COMMON else prefix}:f{it[0].upper()}{it[1:]}' for it in names.split()}
 
 
 def placed(loc):
@@ -170,41 +161,42 @@ def placed(loc):
 
 
 NAME, CONTACT_ID = {'name': 'csvDomain:fName parent="true"'}, {'id': 'csvContact:fId parent="true"'}
+ROID = {'roid': 'rdeCsv:fRoid parent="true"'}
 HISTORY = 'clID crRr crID crDate upRr upID upDate'
 MOVED = 'trStatus reRr reID reDate acRr acID acDate'
+DISCLOSED = 'NameLoc NameInt OrgLoc OrgInt AddrLoc AddrInt Voice Fax Email'.split()
+# Of each table the element that holds its files, the name of these, and its fields.
 FILES = {
-    'registrar': ('csvRegistrar', 'registrar', {**own('csvRegistrar', 'id'), 'name': 'csvRegistrar:fName isLoc="false"',
-                  **own('csvRegistrar', 'gurid status'), **placed(False), **placed(True), **own('csvContact', 'voice voiceExt fax faxExt email'),
-                  **common('url'), **own('csvRegistrar', 'whoisUrl'), **common('crDate upDate')}),
-    'idn': ('csvIDN', 'idnLanguage', common('idnTableId url')),
-    'contact': ('csvContact', 'contact', {**own('csvContact', 'id'), **common('roid'), **own('csvContact', 'voice voiceExt fax faxExt email'),
-                **common(HISTORY + ' trDate')}),
-    'contactStatuses': ('csvContact', 'contactStatuses', {**CONTACT_ID, **own('csvContact', 'status'), **common('statusDescription lang')}),
-    'contactPostal': ('csvContact', 'contactPostal', {**CONTACT_ID, **own('csvContact', 'postalType name org'), **placed(None)}),
-    'contactTransfer': ('csvContact', 'contactTransfer', {**CONTACT_ID, **common(MOVED)}),
-    'contactDisclose': ('csvContact', 'contactDisclose', {**CONTACT_ID, **own('csvContact', 'discloseFlag discloseNameLoc discloseNameInt '
-                        'discloseOrgLoc discloseOrgInt discloseAddrLoc discloseAddrInt discloseVoice discloseFax discloseEmail')}),
-    'host': ('csvHost', 'host', {**own('csvHost', 'name'), **common('roid ' + HISTORY + ' trDate')}),
-    'hostStatuses': ('csvHost', 'hostStatuses', {'roid': 'rdeCsv:fRoid parent="true"', **own('csvHost', 'status'),
-                     **common('statusDescription lang')}),
-    'hostAddresses': ('csvHost', 'hostAddresses', {'roid': 'rdeCsv:fRoid parent="true"', **own('csvHost', 'addr addrVersion')}),
-    'domain': ('csvDomain', 'domain', {**own('csvDomain', 'name'), **common('roid uName idnTableId'), **own('csvDomain', 'originalName'),
-               **common('registrant ' + HISTORY + ' exDate trDate')}),
-    'domainContacts': ('csvDomain', 'domainContacts', {**NAME, 'contactId': 'csvContact:fId', **own('csvDomain', 'contactType')}),
-    'domainStatuses': ('csvDomain', 'domainStatuses', {**NAME, **own('csvDomain', 'status'), **common('statusDescription lang'),
-                       **own('csvDomain', 'rgpStatus')}),
-    'domainNs': ('csvDomain', 'domainNameServers', {**NAME, 'hostRoid': 'rdeCsv:fRoid'}),
-    'domainHostAttr': ('csvDomain', 'domainNameServersAddresses', {**NAME, 'hostName': 'csvHost:fName', **own('csvHost', 'addr addrVersion')}),
-    'secDNS': ('csvDomain', 'dnssec', {**NAME, **own('csvDomain', 'maxSigLife keyTag dsAlg digestType digest flags protocol keyAlg pubKey')}),
-    'domainTransfer': ('csvDomain', 'domainTransfer', {**NAME, **common(MOVED + ' exDate')}),
-    'nndn': ('csvNNDN', 'NNDN', {**own('csvNNDN', 'aName'), **common('uName idnTableId'), **own('csvNNDN', 'originalName nameState mirroringNS'),
-             **common('crDate')}),
+    'registrar': ('csvRegistrar', 'registrar', {
+        **fields('csvRegistrar', 'id'), 'name': 'csvRegistrar:fName isLoc="false"', **fields('csvRegistrar', 'gurid status'),
+        **placed(False), **placed(True), **fields('csvContact', 'voice voiceExt fax faxExt email'),
+        **fields('csvRegistrar', 'url whoisUrl crDate upDate')}),
+    'idn': ('csvIDN', 'idnLanguage', fields('csvIDN', 'idnTableId url')),
+    'contact': ('csvContact', 'contact', fields('csvContact', f'id roid voice voiceExt fax faxExt email {HISTORY} trDate')),
+    'contactStatuses': ('csvContact', 'contactStatuses', CONTACT_ID | fields('csvContact', 'status statusDescription lang')),
+    'contactPostal': ('csvContact', 'contactPostal', CONTACT_ID | fields('csvContact', 'postalType name org') | placed(None)),
+    'contactTransfer': ('csvContact', 'contactTransfer', CONTACT_ID | fields('csvContact', MOVED)),
+    'contactDisclose': ('csvContact', 'contactDisclose', CONTACT_ID | fields(
+        'csvContact', ' '.join(['discloseFlag', *(f'disclose{it}' for it in DISCLOSED)]))),
+    'host': ('csvHost', 'host', fields('csvHost', f'name roid {HISTORY} trDate')),
+    'hostStatuses': ('csvHost', 'hostStatuses', ROID | fields('csvHost', 'status statusDescription lang')),
+    'hostAddresses': ('csvHost', 'hostAddresses', ROID | fields('csvHost', 'addr addrVersion')),
+    'domain': ('csvDomain', 'domain', fields('csvDomain', f'name roid uName idnTableId originalName registrant {HISTORY} exDate trDate')),
+    'domainContacts': ('csvDomain', 'domainContacts', NAME | {'contactId': 'csvContact:fId'} | fields('csvDomain', 'contactType')),
+    'domainStatuses': ('csvDomain', 'domainStatuses', NAME | fields('csvDomain', 'status statusDescription lang rgpStatus')),
+    'domainNs': ('csvDomain', 'domainNameServers', NAME | {'hostRoid': 'rdeCsv:fRoid'}),
+    'domainHostAttr': ('csvDomain', 'domainNameServersAddresses',
+                       NAME | {'hostName': 'csvHost:fName'} | fields('csvHost', 'addr addrVersion')),
+    'secDNS': ('csvDomain', 'dnssec', NAME | fields('csvDomain', 'maxSigLife keyTag dsAlg digestType digest flags protocol keyAlg pubKey')),
+    'domainTransfer': ('csvDomain', 'domainTransfer', NAME | fields('csvDomain', f'{MOVED} exDate')),
+    'nndn': ('csvNNDN', 'NNDN', fields('csvNNDN', 'aName uName idnTableId originalName nameState mirroringNS crDate')),
 }
 
 
 def csv_text(rows, separator):
-    return ''.join(separator.join(f'"{it.replace(chr(34), chr(34) * 2)}"' if any(c in it for c in f'{separator}"\r\n') else it for it in row) + '\n'
-                   for row in rows)
+    text = io.StringIO(newline='')
+    csv.writer(text, delimiter=separator).writerows(rows)
+    return text.getvalue().encode()
 
 
 def csv_xml(name, fields, file, data, separator):
@@ -235,7 +227,7 @@ def csv_model(folder, objects, deletes, roids, day, separator):
         if rows:
             prefix, name, fields = FILES[table]
             wanted = [fields['roid' if table == 'host' else KEYS[table]]] if is_of_deletes else list(fields.values())
-            file, data = f'{name}{"-delete" if is_of_deletes else ""}-{day}.csv', csv_text(rows, separator).encode()
+            file, data = f'{name}{"-delete" if is_of_deletes else ""}-{day}.csv', csv_text(rows, separator)
             with open(os.path.join(folder, file), 'wb') as written:
                 written.write(data)
             found[is_of_deletes].setdefault(prefix, []).append(csv_xml(name, wanted, file, data, separator))

@@ -22,7 +22,7 @@ FILES = {'log': 'log', 'database': 'database file'}
 
 def put_files(stage, **listed):
     """The bodies that arrive, each in a file of its name, and manifests, each with the bodies that it lists."""
-    Bodies(('F1', 'D2', 'D2Resent', 'D3', 'Abc', 'Empty')).do(stage)
+    Bodies(('F1', 'D2', 'D2Resent', 'D3', 'F5', 'Abc', 'Empty')).do(stage)
     for name, names in listed.items():
         Manifest(f'{name}.csv', names).do(stage)
 

@@ -1,10 +1,9 @@
-"""What a store of version 1 keeps of a manifest and of arrivals, and the store itself: by the words of docs/DEFINITIONS.md, in plain
-Python, with the C library (python's sqlite3).
+"""The rows of a store's tables, by the plain model and the words of docs/DEFINITIONS.md; and stores of version 1, which have the first
+seven of them, made by the C library (python's sqlite3). Nothing of the program is used."""
+import contextlib, random, sqlite3
 
-Nothing of the program is used. That version had seven tables; of a body that no row lists it kept the receipt alone, with verdict A2."""
-import contextlib, hashlib, random, sqlite3, struct
-
-from support import formats
+from support.formats import KINDS, TYPES, found_in
+from support.model import Desk
 
 TABLES = {
     'info': 'id INTEGER PRIMARY KEY CHECK (id = 1), version INTEGER NOT NULL',
@@ -19,141 +18,60 @@ TABLES = {
 }
 
 
-def number(value):
-    return struct.pack('>I', value)
+def undo_of(desk):
+    """What stood before each step of a desk's chain: step, kind, key and record."""
+    objects, undo = {}, []
+    for pos, row in enumerate(desk.steps, 1):
+        says = found_in(desk.held[row]).says
+        undo += [(pos, KINDS.index(kind), key, objects.get((kind, key))) for kind, key in says]
+        objects |= says
+    return sorted(undo)
 
 
-def text(value):
-    value = value.encode() if isinstance(value, str) else value
-    return number(len(value)) + value
+def rows_of(desk):
+    """The rows of the tables of a desk's store."""
+    return {
+        'info': [(1, 2)],
+        'listed': [(at, name, TYPES.index(place[1]), place[0], prev, resend, bytes.fromhex(digest))
+                   for at, (name, place, prev, resend, digest) in enumerate(desk.listed)],
+        'receipt': [(it.receipt, it.number, bytes.fromhex(it.digest), int(it.verdict[1]), int(it.fault[1:]) if it.fault else None, it.row,
+                     it.again, it.orphans) for it in desk.receipts.values()],
+        'held': sorted(desk.held.items()),
+        'step': list(enumerate(desk.steps, 1)),
+        'object': sorted((KINDS.index(kind), key, kept) for (kind, key), kept in desk.objects.items()),
+        'undo': undo_of(desk),
+        'parked': [(bytes.fromhex(it), desk.kept[it]) for it in desk.parked],
+        'moment': [] if desk.moment is None else [(1, desk.moment)],
+    }
 
 
-def record(rows):
-    """The bytes of an object: rows of a table's name with its cells, the parent first."""
-    made = [number(len(rows))]
-    for table, cells in rows:
-        made += [text(table), number(len(cells))]
-        made += [text(field) + text(value) for field, value in cells]
-    return b''.join(made)
+def first_rows(manifest, arrivals):
+    """The rows of a store of version 1 that lists a manifest's rows and took arrivals, numbers with bodies."""
+    rows = rows_of(Desk(manifest, early=arrivals)) | {'info': [(1, 1)]}
+    return {table: rows[table] for table in TABLES}
 
 
-class Deposit:
-    """What a bundle that reads says of each key that it mentions."""
-
-    def __init__(self, body):
-        files = dict(formats.sections(body))
-        value = formats.json_of(files[b'envelope.json'])
-        (self.id, self.place, self.prev, self.resend), self.orphans = formats.deposit(body)
-        contents, deletes = formats.tables(value)
-        parents, children = {}, {}
-        for table in contents:
-            for row in formats.records(files[table['file'].encode()]):
-                cells = [(field.encode(), cell) for field, cell in zip(table['fields'], row)]
-                made = table['name'].encode(), cells
-                if table['role'] == 'parent':
-                    parents[formats.key(table, row)] = made
-                else:
-                    children.setdefault(formats.key(table, row), []).append(made)
-        # Child rows by table name, and in a table as in its file (the sort keeps their order).
-        objects = {key: record([parent, *sorted(children.get(key, []), key=lambda row: row[0])]) for key, parent in parents.items()}
-        absent = {} if self.place[1] == 'FULL' else {
-            formats.key(table, row): None for table in deletes for row in formats.records(files[table['file'].encode()])}
-        self.says = absent | objects
+def literal(value):
+    """A value as SQL has it."""
+    if value is None:
+        return 'NULL'
+    if isinstance(value, bytes):
+        return f"X'{value.hex()}'"
+    return "'{}'".format(value.replace("'", "''")) if isinstance(value, str) else f'{value:d}'
 
 
-def in_order(place):
-    return place[0], formats.TYPES.index(place[1])
+def insertion(table, row):
+    """The statement that inserts a row into a table. Names of columns may follow the table's name."""
+    return f'INSERT INTO {table} VALUES ({", ".join(map(literal, row))});\n'
 
 
-class First:
-    """What version 1 keeps of a manifest and of arrivals: the rows of its tables. What this version keeps as of a moment, in nanoseconds, has
-    the same held bodies, the rows of the chain, and the record of each object; and the digests of parked bodies. All of it may be changed,
-    as that of a file that goes bad."""
-
-    def __init__(self, manifest, arrivals, moment=None):
-        self.listed, self.moment = formats.manifest(manifest), moment
-        self.receipts, self.held, known = [], {}, set()
-        for name, body in arrivals:
-            digest = hashlib.sha256(body).hexdigest()
-            if (name, digest) not in known:
-                known.add((name, digest))
-                self.take(name, digest, body)
-        self.parked = {digest for _, digest in known} - {it[4] for it in self.listed}
-        self.steps = self.latest_chain()
-        self.objects, self.undo = {}, []
-        for pos, row in enumerate(self.steps, 1):
-            says = Deposit(self.held[row]).says
-            self.undo += [(pos, key, self.objects.get(key)) for key in says]
-            self.objects |= says
-        self.objects = {key: kept for key, kept in self.objects.items() if kept is not None}
-
-    def take(self, name, digest, body):
-        row = next((at for at, it in enumerate(self.listed) if it[4] == digest), None)
-        told = [len(self.receipts) + 1, name, bytes.fromhex(digest)]
-        if row is None:
-            self.receipts.append((*told, 2, None, None, None, None))
-            return
-        verdict, orphans = formats.verdict(body, self.listed[row])
-        fault = int(verdict[4:]) if verdict.startswith('A3') else None
-        again = int(row in self.held) if verdict == 'A1' else None
-        self.receipts.append((*told, int(verdict[1]), fault, row, again, orphans))
-        if verdict == 'A1':
-            self.held[row] = body
-
-    def used(self, place):
-        """The held row of a place with the greatest resend."""
-        return max((at for at in self.held if self.listed[at][1] == place), key=lambda at: self.listed[at][3], default=None)
-
-    def base(self, row):
-        """The place that a row builds on."""
-        _, place, prev, _, _ = self.listed[row]
-        if place[1] == 'INCR':
-            fulls = [it[1] for it in self.listed if it[1][1] == 'FULL' and it[1][0] < place[0]]
-            return max(fulls, key=in_order, default=None)
-        return next((it[1] for it in self.listed if it[0] == prev), None)
-
-    def chain_to(self, row):
-        """The chain that ends with a used row, or none."""
-        chain = [row]
-        while self.listed[chain[0]][1][1] != 'FULL':
-            before = self.used(self.base(chain[0]))
-            if before is None:
-                return None
-            chain.insert(0, before)
-        return chain
-
-    def place(self, row):
-        return self.listed[row][1]
-
-    def latest_chain(self):
-        """The chain whose end is the greatest place, of those up to the moment."""
-        for place in sorted({self.place(at) for at in self.held}, key=in_order, reverse=True):
-            if (self.moment is None or place[0] <= self.moment) and (chain := self.chain_to(self.used(place))):
-                return chain
-        return []
-
-    def rows(self):
-        """The rows of the seven tables."""
-        kind = {name: at for at, name in enumerate(formats.KINDS)}
-        return {
-            'info': [(1, 1)],
-            'listed': [(at, name, formats.TYPES.index(place[1]), place[0], prev, resend, bytes.fromhex(digest))
-                       for at, (name, place, prev, resend, digest) in enumerate(self.listed)],
-            'receipt': self.receipts,
-            'held': sorted(self.held.items()),
-            'step': list(enumerate(self.steps, 1)),
-            'object': sorted((kind[name], key, kept) for (name, key), kept in self.objects.items()),
-            'undo': sorted((pos, kind[name], key, kept) for pos, (name, key), kept in self.undo),
-        }
+def first_script(rows):
+    """The statements that make the tables of version 1, with these rows, which come in another order than their keys: any history may."""
+    made = [f'CREATE TABLE {table} ({columns});\n' for table, columns in TABLES.items()]
+    return ''.join([*made, *(insertion(table, row) for table, kept in rows.items() for row in random.Random(1).sample(kept, len(kept)))])
 
 
 def write_store(store, rows):
-    """Makes a store of version 1 from the texts of its tables. The rows come in another order than their keys: any history may."""
+    """Makes a store of version 1 from the texts of its tables."""
     with contextlib.closing(sqlite3.connect(store)) as database:
-        for table, columns in TABLES.items():
-            database.execute(f'CREATE TABLE {table} ({columns})')
-        for table, found in rows.items():
-            mixed = random.Random(1).sample(found, len(found))
-            if mixed:
-                database.executemany(f'INSERT INTO {table} VALUES ({", ".join("?" * len(mixed[0]))})', mixed)
-        database.commit()
+        database.executescript(f'BEGIN;\n{first_script(rows)}COMMIT;\n')

@@ -1,11 +1,11 @@
 """Small releases at random, with flaws: what an agent may leave out or get wrong, and what it may name otherwise."""
 import random
-from dataclasses import dataclass, field
 
 from support.acceptance import GUIDES
-from support.bundles import HEADING, row_of
+from support.bundles import Header, manifest
 from support.formats import KINDS
 from support.registries import TABLES, Registry, deposit
+from support.releases import Release, numbered
 
 # How many objects of each kind there are at first.
 FIRST = {'registrar': 2, 'idn': 1, 'contact': 3, 'host': 3, 'domain': 4, 'nndn': 1}
@@ -21,20 +21,6 @@ OTHER_TEXTS = {'clID': 'GONE', 'registrant': 'GONE', 'contactId': 'GONE', 'hostN
 NO_DATE = 'never'
 
 
-@dataclass
-class Release:
-    """A manifest's rows, the bodies that arrive, and the moment that is set, or none."""
-    rows: list = field(default_factory=list)
-    bodies: list = field(default_factory=list)
-    moment: str | None = None
-
-    def add_row(self, said, body):
-        self.rows.append(row_of(said, body))
-
-    def manifest(self):
-        return (HEADING + ''.join(self.rows)).encode()
-
-
 def table_of(guide):
     """The table that has the field of a guide."""
     kind, child, _ = guide
@@ -42,57 +28,60 @@ def table_of(guide):
 
 
 class Contents:
-    """The rows of a deposit's tables, and the shape of each table."""
+    """The tables of a deposit: of each its kind, its role, and its fields with the rows below them."""
 
     def __init__(self, registry, objects):
-        self.rows, self.shapes = {it: [] for it in TABLES}, dict(TABLES)
+        self.tables = {name: (kind, role, [[*fields]]) for name, (kind, role, fields) in TABLES.items()}
         for kind, key in objects:
             for name, row in registry.objects[kind][key]:
-                self.rows[name].append([*row])
-        self.rows['contactStatuses'] = [[row[0], 'linked'] for row in self.rows['contact']]
+                self.tables[name][2].append([*row])
+        self.tables['contactStatuses'][2].extend([row[0], 'linked'] for row in self.tables['contact'][2][1:])
 
-    def index(self, guide):
-        return self.shapes[table_of(guide)][2].index(guide[2])
-
-    def set_fields(self, guide, change):
-        """Changes a table's fields, and each of its rows alike."""
-        kind, role, fields = self.shapes[table_of(guide)]
-        self.shapes[table_of(guide)] = kind, role, change(fields)
+    def lines_of(self, guide):
+        """The fields and the rows of a table, and where the field of a guide is in each."""
+        lines = self.tables[table_of(guide)][2]
+        return lines, lines[0].index(guide[2])
 
     def leave_out(self, guide):
-        at, name = self.index(guide), table_of(guide)
-        self.set_fields(guide, lambda it: [*it[:at], *it[at + 1:]])
-        self.rows[name] = [[*it[:at], *it[at + 1:]] for it in self.rows[name]]
+        lines, at = self.lines_of(guide)
+        for it in lines:
+            del it[at]
 
     def rename(self, guide, other_name):
-        at = self.index(guide)
-        self.set_fields(guide, lambda it: [*it[:at], other_name(guide[2]), *it[at + 1:]])
+        lines, at = self.lines_of(guide)
+        lines[0][at] = other_name(guide[2])
 
     def double(self, guide, other_name):
         """Adds a field under another name beside the one of a guide."""
-        name = table_of(guide)
-        self.set_fields(guide, lambda it: [*it, other_name(guide[2])])
-        self.rows[name] = [[*it, ''] for it in self.rows[name]]
+        lines, _ = self.lines_of(guide)
+        for it in lines:
+            it.append('')
+        lines[0][-1] = other_name(guide[2])
 
     def rename_table(self, name, other):
-        self.rows[other], self.shapes[other] = self.rows.pop(name), self.shapes.pop(name)
+        self.tables[other] = self.tables.pop(name)
 
     def spoil_cell(self, guide, text):
         """Gives a row another text. Of a status there is then a second row, which says `ok`."""
-        rows, at = self.rows[table_of(guide)], self.index(guide)
-        if not rows:
-            return
-        if guide[2] == 'status':
-            rows.append([*rows[0][:at], 'ok', *rows[0][at + 1:]])
-        rows[0][at] = text
+        lines, at = self.lines_of(guide)
+        if len(lines) > 1:
+            if guide[2] == 'status':
+                lines.append([*lines[1][:at], 'ok', *lines[1][at + 1:]])
+            lines[1][at] = text
 
     def body(self, header, deletes, counts):
-        rows = {name: it for name, it in self.rows.items() if it or header['type'] == 'FULL'}
-        return deposit(header, rows, {'domain': deletes}, counts, self.shapes)
+        tables = {name: it for name, it in self.tables.items() if len(it[2]) > 1 or header.type == 'FULL'}
+        told = {'id': header.id, 'type': header.type, 'watermark': header.watermark, 'prevId': header.prev, 'resend': header.resend}
+        return deposit(told, {name: lines[1:] for name, (*_, lines) in tables.items()}, {'domain': deletes}, counts,
+                       {name: (kind, role, lines[0]) for name, (kind, role, lines) in tables.items()})
 
 
 def day_text(day, hour=0):
     return f'2024-03-{day:02}T{hour:02}:00:00Z'
+
+
+def header_of(kind, day):
+    return Header(f'{kind[0]}{day}', kind, day_text(day))
 
 
 class Agent:
@@ -101,7 +90,7 @@ class Agent:
     def __init__(self, seed, flaws=()):
         self.random, self.flaws = random.Random(seed), flaws
         self.registry = Registry(seed, FIRST, words=0)
-        self.deleted, self.last_id, self.release = [], '', Release()
+        self.deleted, self.last_id, self.listed, self.bodies = [], '', [], []
         # The field of this guide is misnamed, in this way.
         self.guide, self.other_name = self.random.choice(GUIDES), self.random.choice(TABLE_NAMES)
 
@@ -143,7 +132,7 @@ class Agent:
             for guide in self.random.sample(GUIDES, 4):
                 contents.spoil_cell(guide, NO_DATE if guide[2].endswith('Date') and self.random.random() < 0.5 else OTHER_TEXTS[guide[2]])
         if self.has('orphans', 0.7):
-            contents.rows['domainNs'].append(['nobody.example', self.registry.some('host')])
+            contents.tables['domainNs'][2].append(['nobody.example', self.registry.some('host')])
         self.misname(contents)
 
     def counts(self):
@@ -161,54 +150,50 @@ class Agent:
 
     # ---- the release
 
-    def hand_in(self, said, body, is_awaited):
+    def hand_in(self, header, body, is_awaited):
         """Lists a deposit and lets it arrive; or one of both, or no deposit at all."""
-        is_late = self.release.rows != [] or self.random.random() < 0.2
+        is_late = self.listed != [] or self.random.random() < 0.2
         if is_late and self.has('unlisted', 0.3):
-            self.release.bodies.append(body)
+            self.bodies.append(body)
             return
         if is_late and self.has('damaged', 0.3):
             body = body[:-1]
-        self.release.add_row(said, body)
+        self.listed.append((header, body))
         if not (is_awaited or is_late and self.has('lost', 0.4)):
-            self.release.bodies.append(body)
+            self.bodies.append(body)
 
     def add(self, kind, day, objects, deletes):
         """A deposit of this day, and sometimes a later revision of it, for which the desk may have to wait."""
-        header = {'id': f'{kind[0]}{day}', 'type': kind, 'watermark': day_text(day), 'prevId': '', 'resend': 0}
+        header = header_of(kind, day)
         if kind == 'DIFF':
-            header['prevId'] = 'X9' if self.has('unknown base', 0.3) else self.last_id
+            header = header._replace(prev='X9' if self.has('unknown base', 0.3) else self.last_id)
         is_awaited = self.has('awaited', 0.4)
         for resend in range(2 if is_awaited or self.has('revised', 0.4) else 1):
-            said = ','.join(map(str, (header | {'resend': resend}).values()))
-            self.hand_in(said, self.body(header | {'resend': resend}, objects, deletes), is_awaited and resend > 0)
-        self.last_id = header['id']
-
-    def add_full(self, day):
-        self.add('FULL', day, self.all_objects(), [])
+            header = header._replace(resend=resend)
+            self.hand_in(header, self.body(header, objects, deletes), is_awaited and resend > 0)
+        self.last_id = header.id
 
     def add_later(self, day):
         """A deposit of a later day, and sometimes a Full of the same one."""
         kind = self.random.choices(('DIFF', 'INCR', 'FULL'), (6, 2, 1))[0]
         changed, gone = self.change()
-        match kind:
-            case 'DIFF':
-                self.add(kind, day, changed, gone)
-            case 'INCR':
-                self.add(kind, day, self.all_objects(), list(self.deleted))
+        if kind == 'DIFF':
+            self.add(kind, day, changed, gone)
+        elif kind == 'INCR':
+            self.add(kind, day, self.all_objects(), list(self.deleted))
         if kind == 'FULL' or self.has('same day', 0.6):
-            self.add_full(day)
+            self.add('FULL', day, self.all_objects(), [])
 
     def make(self):
         """The release of a few days."""
-        last = self.random.randint(1, 6)
-        self.add_full(1)
+        last, moment = self.random.randint(1, 6), None
+        self.add('FULL', 1, self.all_objects(), [])
         for day in range(2, last + 1):
             self.add_later(day)
-        self.random.shuffle(self.release.bodies)
+        self.random.shuffle(self.bodies)
         if self.random.random() < 0.4:
-            self.release.moment = day_text(self.random.randint(1, last), self.random.choice((0, 12)))
-        return self.release
+            moment = day_text(self.random.randint(1, last), self.random.choice((0, 12)))
+        return Release(manifest(self.listed), numbered(self.bodies), moment)
 
 
 def draw_release(seed):
@@ -218,17 +203,24 @@ def draw_release(seed):
     return Agent(seed, names + chance.sample(FLAWS, chance.randint(0, 6))).make()
 
 
+def some_release(seed):
+    """The release of a seed whose tables are all there, and may not be right."""
+    return Agent(seed, ('revised', 'lost', 'same day', 'cells', 'orphans', 'unlisted')).make()
+
+
+# ---- releases with other names
+
+
 def empty(contents, kind, *guides):
     """Takes the objects of a kind away, and the fields of guides."""
-    contents.rows[kind] = []
+    del contents.tables[kind][2][1:]
     for it in guides:
         contents.leave_out(it)
 
 
 def add_elsewhere(contents):
     """Adds names that look like those of guides to tables of other kinds."""
-    for name, shape in {'domain_ns': ('host', 'child', ['name']), 'fContactStatuses': ('domain', 'child', ['domainName'])}.items():
-        contents.rows[name], contents.shapes[name] = [], shape
+    contents.tables |= {'domain_ns': ('host', 'child', [['name']]), 'fContactStatuses': ('domain', 'child', [['domainName']])}
     for guide in (('host', None, 'clID'), ('domain', 'domainNs', 'hostName')):
         contents.double(guide, lambda _: 'fRegistrant')
 
@@ -238,9 +230,9 @@ def full_release(change):
     agent = Agent(1)
     contents = Contents(agent.registry, agent.all_objects())
     change(contents)
-    header = {'id': 'F1', 'type': 'FULL', 'watermark': day_text(1), 'prevId': '', 'resend': 0}
+    header = header_of('FULL', 1)
     body = contents.body(header, [], agent.counts())
-    return Release([row_of(','.join(map(str, header.values())), body)], [body])
+    return Release(manifest([(header, body)]), numbered([body]))
 
 
 def each(change, *more):

@@ -1,40 +1,73 @@
-"""What a bundle, a manifest and a request are, read in plain Python by the words of docs/DEFINITIONS.md.
+"""What a bundle, an object's record and a manifest are, read in plain Python by the words of docs/DEFINITIONS.md, and where a body is no
+deposit, by those of docs/PACK.md.
 
-Nothing of the program is used: `fuzz.py` expects of the program what this says. Each part is the definition's words and is
-slow."""
-import calendar, csv, datetime, io, json, math, re
+Nothing of the program is used: tests and trials expect of the program what this says. Each part is the definition's words and is slow."""
+import csv, functools, io, json, math, re, struct
+from datetime import datetime, timedelta
 
 KINDS = ('registrar', 'contact', 'host', 'domain', 'idn', 'nndn')
 TYPES = ('DIFF', 'INCR', 'FULL')
-MOST_BYTES = 16_777_216
+MOST_BYTES, MOST_ROWS = 16_777_216, 100_000
 csv.field_size_limit(MOST_BYTES)
+FIRST_LINE = b'escrow-bundle 1\n'
+EPOCH, SECONDS = datetime(1970, 1, 1), '%Y-%m-%dT%H:%M:%S'
 HEADING = b'id type watermark prevId resend sha256'.split()
+# How the place of a fault in the envelope begins, and what is said of a member there.
+ENVELOPE, FORM = 'section 1 envelope.json', 'missing, or not of its form'
 
 
 class Refused(Exception):
-    """A refusal: its number, and for a manifest its row."""
+    """A refusal: its number, and where it is: in a body in words, in a manifest by the row."""
 
-    def __init__(self, code, row=None):
-        super().__init__(code, row)
-        self.code, self.row = code, row
+    def __init__(self, code, where):
+        super().__init__(code, where)
+        self.code, self.where = code, where
+
+
+def need(holds, code, where):
+    if not holds:
+        raise Refused(code, where)
+
+
+# ---- words
 
 
 def is_id(text):
     return re.fullmatch('[A-Za-z0-9._-]{1,64}', text) is not None
 
 
+def is_utf8(text):
+    try:
+        return text.decode() is not None
+    except UnicodeDecodeError:
+        return False
+
+
 def moment(text):
     """The nanoseconds of a watermark, or None."""
-    found = re.fullmatch(r'([0-9]{4})-([0-9]{2})-([0-9]{2})T([0-9]{2}):([0-9]{2}):([0-9]{2})(?:\.([0-9]{1,9}))?Z', text)
-    if not found:
+    found = re.fullmatch(r'([0-9]{4}-[0-9]{2}-[0-9]{2}T[0-9]{2}:[0-9]{2}:[0-9]{2})(?:\.([0-9]{1,9}))?Z', text)
+    try:
+        at = datetime.strptime(found[1], SECONDS) if found else None
+    except ValueError:
         return None
-    year, month, day, hour, minute, second = (int(part) for part in found.groups()[:6])
-    if not (1970 <= year <= 2261 and 1 <= month <= 12 and hour < 24 and minute < 60 and second < 60):
+    if at is None or not 1970 <= at.year <= 2261:
         return None
-    if not 1 <= day <= calendar.monthrange(year, month)[1]:
-        return None
-    days = (datetime.date(year, month, day) - datetime.date(1970, 1, 1)).days
-    return ((days * 24 + hour) * 60 + minute) * 60 * 10**9 + second * 10**9 + int((found[7] or '').ljust(9, '0'))
+    return (at - EPOCH) // timedelta(seconds=1) * 10**9 + int((found[2] or '').ljust(9, '0'))
+
+
+def moment_text(nanoseconds):
+    seconds, fraction = divmod(nanoseconds, 10**9)
+    point = f'.{fraction:09}'.rstrip('0') if fraction else ''
+    return f'{EPOCH + timedelta(seconds=seconds):{SECONDS}}{point}Z'
+
+
+def place_text(place):
+    return f'{moment_text(place[0])} {place[1]}'
+
+
+def in_order(place):
+    """By what places are in order."""
+    return place[0], TYPES.index(place[1])
 
 
 def records(text):
@@ -43,42 +76,42 @@ def records(text):
     return [[field.encode('latin-1') for field in row] for row in csv.reader(lines) if row]
 
 
+# ---- the sections of a bundle
+
+
 def sections(body):
-    """The sections of a bundle, names and bytes. U1 to U4."""
-    front = b'escrow-bundle 1\n'
-    if len(body) > MOST_BYTES:
-        raise Refused(4)
-    if not body.startswith(front):
-        raise Refused(1)
-    at, found = len(front), []
+    """The sections of a bundle, the name and the bytes of each. U1 to U4."""
+    need(len(body) <= MOST_BYTES, 4, 'more than 16,777,216 bytes')
+    need(body.startswith(FIRST_LINE), 1, 'the first line is not "escrow-bundle 1"')
+    found, at = [], len(FIRST_LINE)
     while not body.startswith(b'end\n', at):
-        end = body.find(b'\n', at)
-        if end < 0 or b' ' not in body[at:end]:
-            raise Refused(1)
-        name, _, length = body[at:end].partition(b' ')
-        check_line(name, length, [other for other, _ in found])
-        at, size = end + 1, int(length)
-        if body[at + size:at + size + 1] != b'\n':
-            raise Refused(1)
-        found.append((name, body[at:at + size]))
-        at += size + 1
-    if at + 4 != len(body) or not found:
-        raise Refused(1)
+        name, content = section(body, at, [name for name, _ in found])
+        found.append((name, content))
+        at += len(f'{name} {len(content)}\n') + len(content) + 1
+    need(found, 1, 'no section before the line "end"')
+    need(at + len(b'end\n') == len(body), 1, 'more after the line "end"')
     return found
 
 
-def check_line(name, length, before):
-    """The faults of a section's line, in their order."""
-    if not re.fullmatch(b'0|[1-9][0-9]*', length):
-        raise Refused(1)
-    if not re.fullmatch(b'[a-z0-9._-]{1,32}', name):
-        raise Refused(2)
-    if name in before:
-        raise Refused(3)
-    if len(before) == 64 or len(length) > 8 or int(length) > MOST_BYTES:
-        raise Refused(4)
-    if not before and name != b'envelope.json':
-        raise Refused(1)
+def section(body, at, before):
+    """The section that begins here, after those of these names."""
+    number = len(before) + 1
+    line = re.compile(rb'([^\n ]*) (0|[1-9][0-9]*)\n').match(body, at)
+    need(line, 1, f'section {number}: no line with a name and a length')
+    name = line[1].decode(errors='replace')
+    need(re.fullmatch('[a-z0-9._-]{1,32}', name), 2, f'section {number}: a name that is not 1 to 32 of a-z 0-9 . _ -')
+    here = f'section {number} {name}'
+    need(name not in before, 3, f'{here}: the name of an earlier section')
+    need(number <= 64, 4, f'{here}: more than 64 sections')
+    need(len(line[2]) <= 8 and int(line[2]) <= MOST_BYTES, 4, f'{here}: more than 16,777,216 bytes')
+    need(before or name == 'envelope.json', 1, f'{here}: not envelope.json')
+    end = line.end() + int(line[2])
+    need(end <= len(body), 1, f'{here}: fewer bytes than its line says')
+    need(body[end:end + 1] == b'\n', 1, f'{here}: no line end after its bytes')
+    return name, body[line.end():end]
+
+
+# ---- the envelope
 
 
 class Number:
@@ -95,18 +128,17 @@ class Number:
         return int(self.text) if is_whole else None
 
 
+def is_whole(value, most=2**64 - 1):
+    return isinstance(value, Number) and value.whole() is not None and value.whole() <= most
+
+
 def check_texts(value):
-    """A text with half a surrogate pair is no text."""
-    for text in [value] if isinstance(value, str) else value if isinstance(value, list) else []:
-        if isinstance(text, str):
-            text.encode()
-        else:
-            check_texts(text)
+    """A text with half a surrogate pair is no text. (A value has no such text where one can write it.)"""
+    json.dumps(value, ensure_ascii=False, default=lambda number: number.text).encode()
 
 
 def members(pairs):
-    check_texts([name for name, _ in pairs])
-    check_texts([value for _, value in pairs])
+    check_texts(pairs)
     return dict(pairs)
 
 
@@ -115,7 +147,8 @@ def no_constant(text):
 
 
 def json_of(text):
-    """The value of a JSON text. U5 where it is none, nests deeper than 127 or has a number that no float is near."""
+    """The value of a JSON text. U5 where it is none, nests deeper than 127 or has a number that no float is near. (Where in the text it is
+    wrong isn't known here.)"""
     try:
         text = text.decode()
         deep = deepest = 0
@@ -123,87 +156,109 @@ def json_of(text):
             deep += 1 if bracket in '[{' else -1
             deepest = max(deep, deepest)
         if deepest > 127:
-            raise Refused(5)
+            raise ValueError('too deep')
         value = json.loads(text, parse_int=Number, parse_float=Number, parse_constant=no_constant, object_pairs_hook=members)
         check_texts(value)
         return value
     except ValueError:
-        raise Refused(5) from None
+        raise Refused(5, f'{ENVELOPE}: no JSON') from None
 
 
-def need(holds, code):
-    if not holds:
-        raise Refused(code)
+def envelope_in(body):
+    """The value of a bundle's envelope, whatever it has."""
+    return json_of(dict(sections(body))['envelope.json'])
 
 
-def whole(value):
-    return value.whole() if isinstance(value, Number) else None
+def counts_in(envelope):
+    return {kind: it.whole() for kind, it in envelope.get('counts', {}).items() if kind in KINDS}
 
 
-def header(value):
-    """The header of an envelope: id, watermark and type, prevId, resend. U6."""
-    need(isinstance(value, dict), 6)
-    name, kind, watermark = (value.get(member) for member in ('id', 'type', 'watermark'))
-    need(isinstance(name, str) and is_id(name) and kind in TYPES, 6)
-    need(isinstance(watermark, str) and moment(watermark) is not None, 6)
-    prev = value.get('prevId')
-    need(prev is None or isinstance(prev, str) and (prev == '' or is_id(prev)), 6)
-    resend = value.get('resend')
-    need(resend is None or whole(resend) is not None and whole(resend) <= 999_999, 6)
-    counts = value.get('counts', {})
-    need(isinstance(counts, dict) and all(whole(counts[it]) is not None for it in KINDS if it in counts), 6)
-    for declared in ('contents', 'deletes'):
-        need(isinstance(value.get(declared, []), list), 6)
-    return name, (moment(watermark), kind), prev or None, 0 if resend is None else whole(resend)
+def header_of(value):
+    """The header of an envelope: id, watermark and type, prevId, resend. U6, for the first of these members that is wrong."""
+    told = value if isinstance(value, dict) else {}
+    name, watermark, prev, resend = map(told.get, ('id', 'watermark', 'prevId', 'resend'))
+    counts = told.get('counts', {})
+    right = {
+        'id': isinstance(name, str) and is_id(name),
+        'type': told.get('type') in TYPES,
+        'watermark': isinstance(watermark, str) and moment(watermark) is not None,
+        'prevId': prev in (None, '') or isinstance(prev, str) and is_id(prev),
+        'resend': resend is None or is_whole(resend, 999_999),
+        'counts': isinstance(counts, dict) and all(is_whole(counts[it]) for it in KINDS if it in counts),
+        'contents': isinstance(told.get('contents', []), list),
+        'deletes': isinstance(told.get('deletes', []), list),
+    }
+    for member, is_right in right.items():
+        need(is_right, 6, f'{ENVELOPE}, {member}: {FORM}')
+    return name, (moment(watermark), told['type']), prev or None, resend.whole() if resend else 0
 
 
-def check_table(table):
-    """The form of a table's declaration. U7."""
-    need(isinstance(table, dict), 7)
-    need(isinstance(table.get('name'), str) and re.fullmatch('[A-Za-z0-9_]{1,64}', table['name']), 7)
-    need(isinstance(table.get('kind'), str) and table['kind'] in KINDS, 7)
-    need(isinstance(table.get('role'), str) and table['role'] in ('parent', 'child'), 7)
-    fields = table.get('fields')
-    need(isinstance(fields, list) and 1 <= len(fields) <= 64, 7)
-    need(all(isinstance(field, str) and is_id(field) for field in fields) and len(set(fields)) == len(fields), 7)
-    need(isinstance(table.get('key'), str) and table['key'] in fields and isinstance(table.get('file'), str), 7)
+def check_declaration(table, roles, here):
+    """The members of a table's declaration, whose role is one of these. U7, for the first that is wrong."""
+    told = table if isinstance(table, dict) else {}
+    texts = {name: told[name] for name in ('name', 'kind', 'role', 'key', 'file') if isinstance(told.get(name), str)}
+    fields = told.get('fields')
+    are_fields = isinstance(fields, list) and all(isinstance(it, str) and is_id(it) for it in fields)
+    right = {
+        'name': re.fullmatch('[A-Za-z0-9_]{1,64}', texts.get('name', '')),
+        'kind': texts.get('kind') in KINDS,
+        'role': texts.get('role') in roles,
+        'fields': are_fields and 1 <= len(fields) <= 64 and len(set(fields)) == len(fields),
+        'key': are_fields and texts.get('key') in fields,
+        'file': 'file' in texts,
+    }
+    for member, is_right in right.items():
+        need(is_right, 7, f'{here}, {member}: {FORM}')
 
 
-def tables(value):
-    """The tables of what is, and of what was deleted. U7."""
-    contents, deletes = value.get('contents', []), value.get('deletes', [])
-    for table in [*contents, *deletes]:
-        check_table(table)
-    for declared in (contents, deletes):
-        need(len({table['name'] for table in declared}) == len(declared), 7)
-    parents = [table['kind'] for table in contents if table['role'] == 'parent']
-    need(len(set(parents)) == len(parents) and all(table['role'] == 'parent' for table in deletes), 7)
-    return contents, deletes
+def tables_of(value, member, roles):
+    """The tables of what is, or of what was deleted. U7."""
+    before = []
+    for number, table in enumerate(value.get(member, []), 1):
+        here = f'{ENVELOPE}, {member} table {number}'
+        check_declaration(table, roles, here)
+        need(table['name'] not in [it['name'] for it in before], 7, f'{here}, name: that of an earlier table')
+        parents = [it['kind'] for it in before if it['role'] == 'parent' and member == 'contents']
+        need(table['role'] == 'child' or table['kind'] not in parents, 7, f'{here}, kind: that of an earlier parent table')
+        before.append(table)
+    return before
 
 
-def is_utf8(text):
-    try:
-        return text.decode() is not None
-    except UnicodeDecodeError:
-        return False
+# ---- the deposit
 
 
-def deposit(body):
-    """What a bundle is: its header, and the number of orphans. U1 to U11."""
-    (_, envelope), *files = sections(body)
-    value = json_of(envelope)
-    told = header(value)
-    contents, deletes = tables(value)
-    files = {name.decode(): text for name, text in files}
-    named = [table['file'] for table in [*contents, *deletes]]
-    need(sorted(named) == sorted(files), 8)
-    rows = [(table, row) for table in [*contents, *deletes] for row in records(files[table['file']])]
-    need(all(len(row) == len(table['fields']) and all(map(is_utf8, row)) for table, row in rows), 9)
-    need(all(1 <= len(key(table, row)[1]) <= 255 for table, row in rows), 10)
-    need(len(rows) <= 100_000, 11)
-    parents = {key(table, row) for table, row in rows if table['role'] == 'parent' and table in contents}
-    orphans = sum(key(table, row) not in parents for table, row in rows if table['role'] == 'child')
-    return told, orphans
+class Deposit:
+    """What a bundle is that reads: its header, how many objects it says there are, its tables of what is and of what was deleted, and the
+    records of each file."""
+
+    def __init__(self, header, counts, contents, deletes, files):
+        self.name, self.place, self.prev, self.resend = header
+        self.counts, self.contents, self.deletes, self.files = counts, contents, deletes, files
+
+    def rows(self, tables):
+        """The rows of tables, each with its table."""
+        return [(table, row) for table in tables for row in self.files[table['file']]]
+
+    @functools.cached_property
+    def orphans(self):
+        """How many child rows have no parent row."""
+        rows = self.rows(self.contents)
+        parents = {key(table, row) for table, row in rows if table['role'] == 'parent'}
+        return sum(key(table, row) not in parents for table, row in rows if table['role'] == 'child')
+
+    @functools.cached_property
+    def says(self):
+        """Of each key that it mentions the record of the object, or None for one that there is no more."""
+        said = {} if self.place[1] == 'FULL' else {key(*it): None for it in self.rows(self.deletes)}
+        objects, children = {}, {}
+        for table, row in self.rows(self.contents):
+            made = table['name'].encode(), [(field.encode(), cell) for field, cell in zip(table['fields'], row)]
+            if table['role'] == 'parent':
+                objects[key(table, row)] = made
+            else:
+                children.setdefault(key(table, row), []).append(made)
+        # Child rows by table name, and in a table as in its file (the sort keeps their order).
+        return said | {it: record([made, *sorted(children.get(it, []), key=lambda row: row[0])]) for it, made in objects.items()}
 
 
 def key(table, row):
@@ -212,44 +267,106 @@ def key(table, row):
     return table['kind'], text.lower() if table['kind'] in ('domain', 'host') else text
 
 
-def verdict(body, row):
-    """What a body is that this row lists: `A1` and the number of orphans, or another verdict and the fault."""
+def deposit(body):
+    """The deposit that a bundle is. U1 to U11."""
+    (_, text), *files = sections(body)
+    value = json_of(text)
+    header = header_of(value)
+    contents, deletes = tables_of(value, 'contents', ('parent', 'child')), tables_of(value, 'deletes', ('parent',))
+    check_files(contents, deletes, [name for name, _ in files])
+    files = {name: records(content) for name, content in files}
+    check_rows({table['file']: table for table in [*contents, *deletes]}, files)
+    return Deposit(header, counts_in(value), contents, deletes, files)
+
+
+def check_files(contents, deletes, names):
+    """The files of tables are sections, and each section is the file of one table. U8."""
+    for member, tables in (('contents', contents), ('deletes', deletes)):
+        for number, table in enumerate(tables, 1):
+            need(table['file'] in names, 8, f'{ENVELOPE}, {member} table {number}, file: no section "{table["file"]}"')
+    named = [table['file'] for table in [*contents, *deletes]]
+    for number, name in enumerate(names, 2):
+        need(name in named, 8, f'section {number} {name}: the file of no table')
+        need(named.count(name) == 1, 8, f'section {number} {name}: the file of two tables')
+
+
+def check_rows(tables, files):
+    """The rows of files, each the file of a table. U9 to U11."""
+    rows = [(f'section {number} {name}, row {row}', tables[name], fields)
+            for number, (name, its) in enumerate(files.items(), 2) for row, fields in enumerate(its, 1)]
+    for here, table, fields in rows:
+        declared = len(table['fields'])
+        need(len(fields) == declared, 9, f'{here}: the number of fields is {len(fields)}, declared {declared}')
+        for name, field in zip(table['fields'], fields):
+            need(is_utf8(field), 9, f'{here}, column {name}: no UTF-8')
+    for here, table, fields in rows:
+        _, text = key(table, fields)
+        need(text, 10, f'{here}, column {table["key"]}: an empty key')
+        need(len(text) <= 255, 10, f'{here}, column {table["key"]}: a key of more than 255 bytes')
+    if len(rows) > MOST_ROWS:
+        raise Refused(11, f'{rows[MOST_ROWS][0]}: more than 100,000 rows')
+
+
+@functools.lru_cache(32)
+def found_in(body):
+    """The deposit that a body is, or its refusal."""
     try:
-        (name, place, prev, resend), orphans = deposit(body)
+        return deposit(body)
     except Refused as refused:
-        return f'A3 U{refused.code}', None
-    is_other = (name, place, resend) != (row[0], row[1], row[3]) or place[1] == 'DIFF' and prev != row[2]
-    return ('A4', None) if is_other else ('A1', orphans)
+        return refused
 
 
-def text_of(field):
-    return field.decode() if is_utf8(field) else '\ufffd'
+def verdict(body, row):
+    """What a body is that this row lists: the verdict, and the fault or an empty text."""
+    found = found_in(body)
+    if isinstance(found, Refused):
+        return 'A3', f'U{found.code}'
+    is_other = (found.name, found.place, found.resend) != (row[0], row[1], row[3]) or found.place[1] == 'DIFF' and found.prev != row[2]
+    return 'A4' if is_other else 'A1', ''
+
+
+# ---- the record of an object
+
+
+def number_bytes(value):
+    return struct.pack('>I', value)
+
+
+def text_bytes(value):
+    value = value.encode() if isinstance(value, str) else value
+    return number_bytes(len(value)) + value
+
+
+def record(rows):
+    """The bytes of an object: rows of a table's name with its cells, the parent first."""
+    made = [number_bytes(len(rows))]
+    for table, cells in rows:
+        made += [text_bytes(table), number_bytes(len(cells))]
+        made += [text_bytes(field) + text_bytes(value) for field, value in cells]
+    return b''.join(made)
+
+
+def read_record(bytes_):
+    """The rows of an object, of each its table and its cells, as texts."""
+    file = io.BytesIO(bytes_)
+
+    def number():
+        return struct.unpack('>I', file.read(4))[0]
+
+    def text():
+        return file.read(number()).decode()
+
+    return [(text(), [(text(), text()) for _ in range(number())]) for _ in range(number())]
+
+
+# ---- manifests
 
 
 def row_of(record):
-    """A manifest's row by its record, None for what is not of its form."""
-    name, kind, watermark, prev, resend, digest = map(text_of, record)
+    """A manifest's row by its record: id, place, prevId, resend, digest, with None for what is not of its form."""
+    name, kind, watermark, prev, resend, digest = (field.decode() if is_utf8(field) else '\ufffd' for field in record)
     listed = int(resend or 0) if re.fullmatch('[0-9]{0,6}', resend) else None
     return name, (moment(watermark), kind), prev or None, listed, digest.lower()
-
-
-def manifest(text):
-    """The rows of a manifest: id, place, prevId, resend, digest. M1 to M13."""
-    found = records(text)
-    if len(text) > 4_194_304 or len(found) > 4097:
-        raise Refused(1, 0)
-    for index, record in enumerate(found):
-        if len(record) != 6:
-            raise Refused(2, index)
-    if not found or found[0] != HEADING:
-        raise Refused(3, 0)
-    rows = [row_of(record) for record in found[1:]]
-    for code, has_fault in FORMS:
-        for index, row in enumerate(rows):
-            if has_fault(*row):
-                raise Refused(code, index + 1)
-    check_rows(rows)
-    return rows
 
 
 FORMS = (
@@ -262,66 +379,32 @@ FORMS = (
 )
 
 
-def check_rows(rows):
-    """What rows of the right forms say against each other. M10 to M13."""
-    places, revisions, digests = {}, set(), set()
-    faults = []
+def manifest(text):
+    """The rows of a manifest. M1 to M13."""
+    found = records(text)
+    need(len(text) <= 4_194_304 and len(found) <= 4097, 1, 0)
+    for index, record in enumerate(found):
+        need(len(record) == 6, 2, index)
+    need(found and found[0] == HEADING, 3, 0)
+    rows = [row_of(record) for record in found[1:]]
+    for code, has_fault in FORMS:
+        for index, row in enumerate(rows, 1):
+            need(not has_fault(*row), code, index)
+    if fault := fault_among(rows):
+        raise Refused(*fault)
+    return rows
+
+
+def fault_among(rows):
+    """The least fault of rows of the right forms against each other, M10 to M13, and its row; or None."""
+    places, revisions, digests, faults = {}, set(), set(), []
     for index, (name, place, prev, resend, digest) in enumerate(rows, 1):
         faults += [(10, index)] if (place, resend) in revisions else []
         faults += [(11, index)] if places.setdefault(name, place) != place else []
         faults += [(13, index)] if digest in digests else []
         revisions.add((place, resend))
         digests.add(digest)
-    for index, (name, place, prev, resend, digest) in enumerate(rows, 1):
+    for index, (_, place, prev, _, _) in enumerate(rows, 1):
         if place[1] == 'DIFF' and any(other[0] == prev and other[1][0] >= place[0] for other in rows):
             faults.append((12, index))
-    if faults:
-        raise Refused(*min(faults))
-
-
-TOKEN = rb"[A-Za-z0-9!#$%&'*+\-.^_`|~]+"
-HEAD = re.compile(rb'(?:\r?\n)*(' + TOKEN + rb') ([\x21-\x7e\x80-\xff]+) HTTP/1\.[01]\r?\n((?:' + TOKEN
-                  + rb':[\t\x20-\x7e\x80-\xff]*\r?\n)*)\r?\n')
-REASONS = {200: 'OK', 202: 'Accepted', 400: 'Bad Request', 404: 'Not Found', 405: 'Method Not Allowed', 411: 'Length Required',
-           413: 'Content Too Large', 422: 'Unprocessable Content', 503: 'Service Unavailable'}
-
-
-def request(text):
-    """What an input asks for: (`PUT`, number, body), (`GET`, path), or (status, text) of its refusal."""
-    head = HEAD.match(text)
-    lines = [line.partition(b':') for line in head[3].splitlines()] if head else []
-    if not head or head.end() > 8192 or len(lines) > 32 or not is_utf8(head[2]):
-        return 400, 'bad request\n'
-    path = head[2].partition(b'?')[0].decode()
-    arrival = re.fullmatch('/arrivals/([^/]+)', path, flags=re.S)
-    if not arrival and path not in ('/status', '/gaps', '/links', '/receipts', '/parked', *(f'/export/{kind}' for kind in KINDS)):
-        return 404, 'not found\n'
-    if head[1] != (b'PUT' if arrival else b'GET'):
-        return 405, 'method not allowed\n', 'PUT' if arrival else 'GET'
-    return put(arrival[1], lines, text[head.end():]) if arrival else ('GET', path)
-
-
-def put(number, lines, rest):
-    """What a PUT asks for."""
-    if not is_id(number):
-        return 400, 'N1\n'
-    named = [(name.lower(), value.strip(b' \t')) for name, _, value in lines]
-    lengths = [value for name, value in named if name == b'content-length']
-    if not lengths or any(name == b'transfer-encoding' for name, _ in named):
-        return 411, 'length required\n'
-    if len(lengths) > 1 or not re.fullmatch(b'[0-9]+', lengths[0]):
-        return 400, 'bad request\n'
-    length = lengths[0].lstrip(b'0') or b'0'
-    if len(length) > 8 or int(length) > MOST_BYTES:
-        return 413, 'too large\n'
-    if len(rest) < int(length):
-        return 400, 'bad request\n'
-    return 'PUT', number, rest[:int(length)]
-
-
-def response(status, text, type='text/plain', allow=None):
-    """The bytes of a response."""
-    body = text if isinstance(text, bytes) else text.encode()
-    lines = [f'HTTP/1.1 {status} {REASONS[status]}', f'Content-Type: {type}', f'Content-Length: {len(body)}', 'Connection: close']
-    lines += [f'Allow: {allow}'] if allow else []
-    return ''.join(f'{line}\r\n' for line in [*lines, '']).encode() + body
+    return min(faults, default=None)

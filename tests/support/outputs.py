@@ -1,7 +1,7 @@
 """Standard outputs that are full at some point."""
-import contextlib, fcntl, os, resource, signal, struct, tempfile, termios, time
+import fcntl, os, resource, signal, struct, tempfile, termios, time
 
-from support.stage import SECONDS, Failed, Got
+from support.stage import SECONDS, Failed, Got, pieces_of
 
 # The most bytes of a file, where a file is standard output. No store here is so long.
 MOST_BYTES = 2**26
@@ -26,27 +26,25 @@ def check_narrow(stage, line, room, wanted):
     stage.compare(line, wanted, run_narrow(stage, line, room))
 
 
-class NarrowPipe:
-    """A pipe of one page that has room for so many bytes, and then is full until it is read. It is there in a `with` statement."""
+def run_held_up(stage, line, room, meanwhile, program='restore', prepare=None):
+    """Runs a program where standard output is a pipe that has room for so many bytes until something was done, and is read
+    then; or is closed where that gives `False`."""
+    reader, writer = os.pipe()
+    with open(reader, 'rb', buffering=0) as reader:
+        size = fcntl.fcntl(writer, fcntl.F_SETPIPE_SZ, os.sysconf('SC_PAGE_SIZE'))
+        os.write(writer, bytes(size - room))
+        child = stage.begin(line.split(), program, out=writer, prepare=prepare)
+        os.close(writer)
+        wait_until_full(reader, size, child)
+        out = b'' if meanwhile() is False else b''.join(pieces_of(reader))[size - room:]
+    got = stage.end(child)
+    return Got(got.status, out, got.err)
 
-    def __init__(self, room):
-        reader, writer = os.pipe()
-        self.reader, self.writer = open(reader, 'rb', buffering=0), open(writer, 'wb', buffering=0)
-        self.size = fcntl.fcntl(self.writer, fcntl.F_SETPIPE_SZ, os.sysconf('SC_PAGE_SIZE'))
-        self.filled = self.writer.write(bytes(self.size - room))
 
-    def __enter__(self):
-        return self
-
-    def __exit__(self, *_):
-        for end in (self.reader, self.writer):
-            with contextlib.suppress(OSError):
-                end.close()
-
-    def wait_until_full(self, child):
-        """Waits until the pipe is full, or the child that fills it has ended."""
-        latest = time.monotonic() + SECONDS
-        while struct.unpack('i', fcntl.ioctl(self.reader, termios.FIONREAD, bytes(4)))[0] < self.size and child.poll() is None:
-            if time.monotonic() > latest:
-                raise Failed('the pipe is not filled')
-            time.sleep(0.01)
+def wait_until_full(reader, size, child):
+    """Waits until a pipe is full, or the child that fills it has ended."""
+    latest = time.monotonic() + SECONDS
+    while struct.unpack('i', fcntl.ioctl(reader, termios.FIONREAD, bytes(4)))[0] < size and child.poll() is None:
+        if time.monotonic() > latest:
+            raise Failed('the pipe is not filled')
+        time.sleep(0.01)

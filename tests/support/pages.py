@@ -72,9 +72,6 @@ class Reader(HTMLParser):
         if tag not in VOID:
             self.open.append(made)
 
-    def handle_startendtag(self, tag, attrs):
-        raise Failed(f'{tag} ends at once')
-
     def handle_endtag(self, tag):
         if self.open[-1].name != tag:
             raise Failed(f'{tag} ends in {self.open[-1].name}')
@@ -87,14 +84,10 @@ class Reader(HTMLParser):
         if decl != 'DOCTYPE html' or self.root.inside:
             raise Failed(f'declared: {decl}')
 
-    def handle_comment(self, data):
-        raise Failed(f'a comment: {data}')
+    def refuse(self, what, *_):
+        raise Failed(f'this is none of a page: {what}')
 
-    def handle_pi(self, data):
-        raise Failed(f'an instruction: {data}')
-
-    def unknown_decl(self, data):
-        raise Failed(f'declared: {data}')
+    handle_startendtag = handle_comment = handle_pi = unknown_decl = refuse
 
 
 def read_page(body):

@@ -1,45 +1,53 @@
-"""Deposits of any header and any tables: the bundle of each, and the manifest that lists them."""
-import csv, io, json
-from dataclasses import dataclass
+"""Releases, the stores that `restore` rebuilds from them, and what the plain model keeps of them."""
+import os
+from typing import NamedTuple
 
-from support.bundles import HEADING, row_of, sealed, table
-
-
-@dataclass(frozen=True)
-class Header:
-    """What a deposit says of itself, and its row of a manifest says of it."""
-    id: str
-    type: str
-    watermark: str
-    prev: str = ''
-    resend: int = 0
+from support import TOP
+from support.files import read
+from support.formats import moment
+from support.model import Desk
+from support.stores import run
 
 
-@dataclass(frozen=True)
-class Table:
-    """A table of contents, and its rows. The first of its fields is the key."""
-    name: str
-    kind: str
-    role: str
-    fields: tuple
-    rows: tuple
+class Release(NamedTuple):
+    """A manifest, the bodies that arrive with their numbers, of which not each may be held, and the moment that is set, or none."""
+    manifest: bytes
+    arrivals: list
+    moment: str | None = None
+
+    def desk(self):
+        return Desk(self.manifest, sorted(self.arrivals), self.moment and moment(self.moment))
+
+    def rebuild(self, stage, store='a.db'):
+        folder = f'{store}-deposits'
+        os.makedirs(stage.at(folder))
+        stage.write(f'{store}.csv', self.manifest)
+        for number, body in self.arrivals:
+            stage.write(f'{folder}/{number}', body)
+        run(stage, f'init --store {store} --manifest {store}.csv')
+        run(stage, f'take --store {store} {folder}', statuses=(0, 1))
+        if self.moment:
+            run(stage, f'as-of --store {store} {self.moment}')
 
 
-def csv_text(rows):
-    text = io.StringIO()
-    csv.writer(text, lineterminator='\n').writerows(rows)
-    return text.getvalue().encode()
+def numbered(bodies):
+    """Bodies with numbers in their order."""
+    return [(f'{at:04}', body) for at, body in enumerate(bodies)]
 
 
-def bundle(header, contents=(), counts=None):
-    """The bytes of a deposit with these tables, which says how many objects there are of some kinds."""
-    declared = [table(it.name, it.kind, it.role, it.fields, f'c{at}') for at, it in enumerate(contents)]
-    envelope = {'id': header.id, 'type': header.type, 'watermark': header.watermark, 'prevId': header.prev, 'resend': header.resend,
-                'counts': counts or {}, 'contents': declared}
-    return sealed(json.dumps(envelope).encode(), [(f'c{at}', csv_text(it.rows)) for at, it in enumerate(contents)])
+def sample(path):
+    return read(f'{TOP}/samples/{path}')
 
 
-def manifest(deposits):
-    """The text of a manifest that lists deposits, each of them a header and a body."""
-    said = [(f'{it.id},{it.type},{it.watermark},{it.prev},{it.resend}', body) for it, body in deposits]
-    return (HEADING + ''.join(row_of(*it) for it in said)).encode()
+def folder(path):
+    """The files of a sample's folder, by their names."""
+    return [(name, sample(f'{path}/{name}')) for name in sorted(os.listdir(f'{TOP}/samples/{path}'))]
+
+
+DEPOSITS, MISSING = folder('release/deposits'), folder('release/missing')
+SAMPLES = {
+    'the first sample': Release(sample('first/manifest.csv'), folder('first/deposits')),
+    'the release without a deposit': Release(sample('release/manifest.csv'), DEPOSITS),
+    'the whole release': Release(sample('release/manifest.csv'), DEPOSITS + MISSING),
+    'a first part': Release(sample('parts/first.csv'), DEPOSITS + MISSING),
+}

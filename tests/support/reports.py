@@ -1,4 +1,5 @@
 """The reports of a desk, as a program prints them and a desk responds with them."""
+from support.formats import KINDS
 from support.stage import text_of
 
 HEADINGS = {
@@ -13,3 +14,10 @@ HEADINGS = {
 def report(name, rows=()):
     """The heading of a report, and its rows."""
     return text_of([HEADINGS[name], *rows])
+
+
+def status(listed, held, receipts, chain, end, **objects):
+    """The numbers of a desk, where its chain ends, and how many objects it has of a kind."""
+    told = {'listed': listed, 'held': held, 'receipts': receipts, 'chain': chain, 'end': end}
+    told |= dict.fromkeys(KINDS, 0) | objects
+    return text_of(f'{name} {number}' for name, number in told.items())

@@ -1,7 +1,11 @@
-"""Sockets on this machine: a port for a desk, and what comes over a connection to it."""
+"""Desks on sockets of this machine, and what comes over a connection to one."""
 import socket, struct
 
+from support.stage import SECONDS, Failed, pieces_of
+
 HOST = '127.0.0.1'
+# How many ports are tried.
+PORTS = 5
 
 
 def free_port():
@@ -10,9 +14,48 @@ def free_port():
         return listener.getsockname()[1]
 
 
+def serving(store, port, count):
+    """The line of a run that serves so many connections."""
+    return f'serve --store {store} --port {port} --count {count}'
+
+
+def is_taken(port, got):
+    """Whether a desk has ended because it couldn't listen on the port. (Where its standard error
+    is no pipe, nothing is seen of that.)"""
+    return got.status == 3 and not got.out and got.err in (b'', f'E1 {HOST}:{port}\n'.encode())
+
+
+def serve(stage, store, count, **streams):
+    """A desk that serves so many connections: the run, which has printed that it listens, and its
+    port. Cases are played side by side: where another one took the port before the desk listened
+    on it, it is another port."""
+    for _ in range(PORTS):
+        port = free_port()
+        child = stage.begin(serving(store, port, count).split(), **streams)
+        if next(pieces_of(child.stdout), b'') == f'listening {HOST}:{port}\n'.encode():
+            return child, port
+        got = stage.end(child)
+        if not is_taken(port, got):
+            break
+    raise Failed(f'{store} is not served: {got}')
+
+
+def call(port, request):
+    """Sends a request over a connection of its own, and ends what is sent."""
+    client = socket.create_connection((HOST, port), SECONDS)
+    client.sendall(request)
+    client.shutdown(socket.SHUT_WR)
+    return client
+
+
 def received(client):
     """All that comes over a connection until its end."""
     return b''.join(iter(lambda: client.recv(65_536), b''))
+
+
+def response_to(port, request):
+    with call(port, request) as client:
+        return received(client)
 
 
 def breaks_off(client):

@@ -57,6 +57,11 @@ def text_of(lines):
     return ''.join(f'{it}\n' for it in lines)
 
 
+def compare_all(what, wanted, got):
+    """Compares items, each as a line."""
+    compare(what, text_of(wanted), text_of(got))
+
+
 def faults(wanted, got):
     """What is wrong with a run, in lines."""
     found = [] if got.status == wanted.status else [f'status: wanted {wanted.status}, got {got.status}']

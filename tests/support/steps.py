@@ -2,9 +2,10 @@
 import contextlib, hashlib, inspect, os, shutil, sqlite3
 from dataclasses import field, make_dataclass
 
-from support import TESTS, first_store
+from support import TESTS
 from support.bodies import bytes_of, manifest_text
 from support.files import read
+from support.first_store import first_rows, first_script, write_store
 
 FILES = f'{TESTS}/files'
 
@@ -55,8 +56,7 @@ def Statements(stage, path, text):
 @step
 def FirstStore(stage, path, manifest, bodies):
     """A store of version 1 that was made of a manifest and took bodies, each under its number."""
-    kept = first_store.First(contents(manifest), [(number, contents(name)) for number, name in bodies])
-    first_store.write_store(stage.at(path), kept.rows())
+    write_store(stage.at(path), first_rows(contents(manifest), [(number, contents(name)) for number, name in bodies]))
 
 
 @step
@@ -76,52 +76,27 @@ def Manifest(stage, path, names, more=''):
 def FirstScript(stage, path, manifest, bodies):
     """The statements that make a store of version 1, which was made of a manifest and took worked bodies, each under its number. The
     manifest is a file in the folder."""
-    kept = first_store.First(read(stage.at(manifest)), [(number, bytes_of(name)) for number, name in bodies])
-    write_new(stage, path, first_script(kept.rows()).encode())
+    rows = first_rows(read(stage.at(manifest)), [(number, bytes_of(name)) for number, name in bodies])
+    write_new(stage, path, first_script(rows).encode())
 
 
 @step
 def Parked(stage, path, count):
-    """Parks the bodies 0001, 0002 .. in a store without receipts, each with its receipt, as their arrivals would."""
-    parked = parked_script(1, [f'{number:04}' for number in range(1, count + 1)])
-    Statements(path, f'BEGIN;\n{parked}COMMIT;\n').do(stage)
+    """Parks the bodies 0001, 0002 .. in a store, each under its text, with receipts after those that are there, as their arrivals would."""
+    with contextlib.closing(sqlite3.connect(stage.at(path))) as database, database:
+        last, = database.execute('SELECT coalesce(max(receipt), 0) FROM receipt').fetchone()
+        for at in range(1, count + 1):
+            body = f'{at:04}'.encode()
+            digest = hashlib.sha256(body).digest()
+            receipt = last + at, body.decode(), digest
+            database.execute('INSERT INTO receipt (receipt, number, digest, verdict) VALUES (?, ?, ?, 5)', receipt)
+            database.execute('INSERT INTO parked (digest, body) VALUES (?, ?)', (digest, body))
 
 
 def write_new(stage, path, content):
     """Writes a file that isn't there yet."""
     with open(stage.at(path), 'xb') as file:
         file.write(content)
-
-
-def literal(value):
-    """A value as SQL has it."""
-    if value is None:
-        return 'NULL'
-    if isinstance(value, bytes):
-        return f"X'{value.hex()}'"
-    return "'{}'".format(value.replace("'", "''")) if isinstance(value, str) else f'{value:d}'
-
-
-def insertion(table, row):
-    """The statement that inserts a row into a table. Names of columns may follow the table's name."""
-    return f'INSERT INTO {table} VALUES ({", ".join(map(literal, row))});\n'
-
-
-def parked_script(receipt, bodies):
-    """The statements that park bodies, each under a number that is its text, with its receipt, as their arrivals would. The first of them
-    has this receipt."""
-    made = []
-    for at, body in enumerate(bodies, receipt):
-        digest = hashlib.sha256(body.encode()).digest()
-        made.append(insertion('receipt (receipt, number, digest, verdict)', (at, body, digest, 5)))
-        made.append(insertion('parked (digest, body)', (digest, body.encode())))
-    return ''.join(made)
-
-
-def first_script(rows):
-    """The statements that make the tables of version 1, with these rows."""
-    made = [f'CREATE TABLE {table} ({columns});\n' for table, columns in first_store.TABLES.items()]
-    return ''.join([*made, *(insertion(table, row) for table, kept in rows.items() for row in kept)])
 
 
 def contents(name):

@@ -31,7 +31,7 @@ from dataclasses import dataclass, field
 
 from support.bodies import BODIES
 from support.harness import Harness
-from support.stage import Failed, Wanted
+from support.stage import Wanted, case
 from support.steps import FILES, Bodies, Copy, FirstScript, FirstStore, Folder, Link, Manifest, Parked, Statements, Text, Zeros
 
 WORD = re.compile(r' *("(?:[^"\\]|\\.)*"|[^\s"]\S*)(?= |$)')
@@ -55,10 +55,8 @@ class Command:
     wanted: Wanted
 
     def do(self, stage):
-        try:
+        with case(self.place):
             stage.check(self.line, self.wanted, self.words, self.program)
-        except Failed as failure:
-            raise Failed(f'{self.place}: {failure}') from None
 
 
 @dataclass
@@ -80,15 +78,11 @@ class Talk:
     exchanges: list
 
     def do(self, stage):
-        place = ''
-        try:
-            with Harness(stage) as desk:
-                for exchange in self.exchanges:
-                    place = exchange.place
-                    line, *events = exchange.told
+        with Harness(stage) as desk:
+            for exchange in self.exchanges:
+                line, *events = exchange.told
+                with case(exchange.place):
                     desk.check(line, text_of(exchange.answer), *events)
-        except Failed as failure:
-            raise Failed(f'{place}: {failure}') from None
 
 
 @dataclass
@@ -147,26 +141,9 @@ def body_of(word, known):
     return number, known(name)
 
 
-def worked_step_of(words):
-    """The step of a line about worked bodies, if it is one."""
-    match words:
-        case ['bodies', *names]:
-            return Bodies(tuple(map(worked, names)))
-        case ['manifest', path, '=', *names, more] if more.startswith('"'):
-            return Manifest(plain(path), tuple(map(worked, names)), plain(more))
-        case ['manifest', path, '=', *names]:
-            return Manifest(plain(path), tuple(map(worked, names)))
-        case ['first-store', path, '=', manifest, *bodies]:
-            return FirstScript(plain(path), plain(manifest), tuple(body_of(it, worked) for it in bodies))
-    return None
-
-
 def step_of(line):
     """The step of a line that is no command."""
-    words = words_of(line)
-    if step := worked_step_of(words):
-        return step
-    match words:
+    match words_of(line):
         case ['folder', path]:
             return Folder(plain(path))
         case ['file', path, '=', text] if text.startswith('"'):
@@ -183,6 +160,14 @@ def step_of(line):
             return FirstStore(plain(path), named(manifest), tuple(body_of(it, named) for it in bodies))
         case ['parked', path, '=', count]:
             return Parked(plain(path), count_of(count))
+        case ['bodies', *names]:
+            return Bodies(tuple(map(worked, names)))
+        case ['manifest', path, '=', *names, more] if more.startswith('"'):
+            return Manifest(plain(path), tuple(map(worked, names)), plain(more))
+        case ['manifest', path, '=', *names]:
+            return Manifest(plain(path), tuple(map(worked, names)))
+        case ['first-store', path, '=', manifest, *bodies]:
+            return FirstScript(plain(path), plain(manifest), tuple(body_of(it, worked) for it in bodies))
     raise Misread(f'this is no line of a transcript: {line}')
 
 
@@ -240,45 +225,36 @@ def run_of(lines):
     return Command(place, program, words, list(map(plain, words_of(words))), wanted_of([it for _, it in below]))
 
 
-class Reader:
-    """Reads the lines of a transcript: the cases until now, and the lines of the last run of a program, each with its place."""
-
-    def __init__(self):
-        self.cases, self.run = [], []
-
-    def end_run(self):
-        if self.run:
-            self.cases[-1].steps.append(run_of(self.run))
-        self.run = []
-
-    def take(self, place, line):
-        if line.startswith('#'):
-            return
-        if not line or line.startswith(('$', '==')):
-            self.end_run()
-        if line.startswith('== '):
-            self.cases.append(Transcript(line[3:]))
-        elif line and not self.cases:
-            raise Misread('it belongs to no case')
-        elif line.startswith('$') or line and self.run:
-            self.run.append((place, line))
+def blocks_of(lines):
+    """Lines, each with its place: those that stand alone, and a run of a program with those below it up to an empty one."""
+    run = []
+    for place, line in lines:
+        if run and (not line or line.startswith(('$', '=='))):
+            yield run
+            run = []
+        if run or line.startswith('$'):
+            run.append((place, line))
         elif line:
-            self.cases[-1].steps.append(step_of(line))
+            yield [(place, line)]
 
 
 def read_transcripts(path):
     """The cases of a file."""
-    name = os.path.basename(path)
-    reader, place = Reader(), name
+    name, cases = os.path.basename(path), []
     with open(path, encoding='utf-8', newline='\n') as file:
-        lines = file.read().split('\n')
-    try:
-        for number, line in enumerate([*lines, ''], 1):
-            place = f'{name}:{number}'
-            reader.take(place, line)
-    except Misread as error:
-        raise Misread(f'{reader.run[0][0] if reader.run else place}: {error}') from None
-    idle = [it.title for it in reader.cases if not any(isinstance(step, (Command, Talk)) for step in it.steps)]
-    if idle or not reader.cases:
+        lines = [(f'{name}:{at}', it) for at, it in enumerate([*file.read().split('\n'), ''], 1) if not it.startswith('#')]
+    for block in blocks_of(lines):
+        place, line = block[0]
+        try:
+            if line.startswith('== '):
+                cases.append(Transcript(line[3:]))
+            elif cases:
+                cases[-1].steps.append(run_of(block) if line.startswith('$') else step_of(line))
+            else:
+                raise Misread('it belongs to no case')
+        except Misread as error:
+            raise Misread(f'{place}: {error}') from None
+    idle = [it.title for it in cases if not any(isinstance(step, (Command, Talk)) for step in it.steps)]
+    if idle or not cases:
         raise Misread(f'{name}: nothing is run: {", ".join(idle)}')
-    return reader.cases
+    return cases

@@ -1,11 +1,9 @@
-"""A tiny universe: bodies, rows that list them, and events, all of them drawn by a seed.
+"""A tiny universe: bodies, rows that list them, and events, drawn by a seed. An event is the line by which a desk is told of it."""
+import random
+from typing import NamedTuple
 
-Of a body its values are kept beside its bytes. A model speaks of the values alone, a desk is given the bytes."""
-import hashlib, random
-from dataclasses import dataclass, replace
-from enum import IntEnum
-
-from support.bundles import HEADING, compact, sealed, table
+from support.bundles import Table, deposit, manifest
+from support.formats import TYPES
 
 # The keys of objects, in their order, and names of some that are the same keys.
 CONTACTS, DOMAINS = ('C1', 'C2'), ('a.example', 'b.example', 'c.example')
@@ -18,183 +16,63 @@ WRONG_ROWS = 3
 NO_ID = 999
 
 
-class Form(IntEnum):
-    """The type of a deposit, in the order of those of one moment."""
-    DIFF = 0
-    INCR = 1
-    FULL = 2
-
-
-@dataclass(frozen=True, order=True)
-class Place:
-    """A day of March 2024, and a type."""
-    day: int
-    form: Form
-
-    def id(self):
-        """An id that no other place has."""
-        return self.day * 10 + self.form
-
-
-@dataclass(frozen=True)
-class Header:
-    """What a deposit says of itself, or a row of a deposit. Ids are numbers."""
+class Header(NamedTuple):
+    """What a deposit says of itself, or a row of a deposit: ids are numbers, and the place is a day of March 2024 and a type."""
     id: int
-    place: Place
+    day: int
+    type: str
     prev: int | None = None
     resend: int = 0
 
-
-@dataclass(frozen=True)
-class Line:
-    """A row of a deposit's tables: a key, and a number that no other row has."""
-    key: str
-    mark: int
+    def __str__(self):
+        prev = '' if self.prev is None else f'N{self.prev}'
+        return f'N{self.id},{self.type},{moment_text(2 * self.day)},{prev},{self.resend}'
 
 
-@dataclass(frozen=True)
-class Contents:
-    """The rows of a deposit's tables: keys that are deleted, and lines of parent and of child tables."""
-    deletes: tuple
-    parents: tuple
-    children: tuple
-
-
-@dataclass(frozen=True, eq=False)
-class Body:
-    """A body. None is equal to another one. The fault is the number of the refusal by which no deposit reads from it, if it has any."""
-    index: int
+class Body(NamedTuple):
+    """A body, its name, and what it says of itself, also if no deposit reads from it. No two are the same."""
+    name: str
     header: Header
-    contents: Contents
-    fault: int | None
     bytes: bytes
-    digest: str
 
 
-@dataclass(frozen=True)
-class Row:
+class Row(NamedTuple):
     """A row that lists a body by its digest."""
     header: Header
     body: Body
 
-    @property
-    def place(self):
-        return self.header.place
 
-
-@dataclass(frozen=True)
-class Arrival:
-    """A body arrives under a number."""
-    number: int
-    body: Body
-
-
-@dataclass(frozen=True)
-class Amendment:
-    """A manifest lists rows."""
-    rows: tuple
-
-
-@dataclass(frozen=True)
-class Moment:
-    """A moment is set, in half days of the month, or taken back."""
-    half: int | None
-
-
-@dataclass(frozen=True)
-class Closing:
-    """The store is closed, and opened again."""
-
-
-@dataclass(frozen=True)
 class History:
-    """Rows that are listed first, arrivals that version 1 answered, and what happens then. The store of a history with any such arrival is
-    of version 1, and is migrated after them."""
-    bodies: tuple
-    first: tuple
-    early: tuple
-    events: tuple
+    """What happens to a desk: the rows that are listed first, arrivals that version 1 answered, and the events then, with the files that
+    they name. The store of a history with any such arrival is of version 1, and is migrated after them."""
 
+    def __init__(self, bodies, first):
+        self.files = {it.name: it.bytes for it in bodies} | {'first.csv': manifest_text(first)}
+        self.early, self.events = [], []
 
-# ---- texts
+    def add_rows(self, rows):
+        """The line of an amendment that lists rows."""
+        name = f'rows{len(self.files)}.csv'
+        self.files[name] = manifest_text(rows)
+        return f'amend {name}'
 
-def is_contact(key):
-    return key in CONTACTS
-
-
-def day_text(day):
-    return f'2024-03-{day:02}T00:00:00Z'
+    def shown(self):
+        """The lines, and the manifests among them."""
+        lines = ['create first.csv', *self.early, 'and then', *self.events]
+        return ''.join(f'- {it}\n' + (self.files[it.split()[1]].decode() if it.endswith('.csv') else '') for it in lines)
 
 
 def moment_text(half):
+    """A moment, in half days of the month, or `latest`."""
     return 'latest' if half is None else f'2024-03-{half // 2:02}T{half % 2 * 12:02}:00:00Z'
 
 
-def prev_text(prev):
-    return '' if prev is None else f'N{prev}'
-
-
-def row_text(row):
-    it = row.header
-    return f'N{it.id},{it.place.form.name},{day_text(it.place.day)},{prev_text(it.prev)},{it.resend},{row.body.digest}\n'
-
-
 def manifest_text(rows):
-    return HEADING + ''.join(map(row_text, rows))
-
-
-def event_text(event):
-    """A line of an event, or more of them, so that a failure shows the list."""
-    match event:
-        case Arrival(number, body):
-            return f'- body {body.index} comes as n{number}\n'
-        case Amendment(rows):
-            return f'- these are listed: {manifest_text(rows)}'
-        case Moment(half):
-            return f'- as of {moment_text(half)}\n'
-    return '- the store is closed\n'
-
-
-# ---- the bytes of bodies: bundles, some of which read as no deposit
-
-DELETE_TABLES = [table('contact', 'contact', 'parent', ['id'], 'd0'), table('domain', 'domain', 'parent', ['name'], 'd1')]
-CONTENT_TABLES = [table('contact', 'contact', 'parent', ['id', 'clID'], 'c0'), table('domain', 'domain', 'parent', ['name', 'clID'], 'c1'),
-                  table('domainNs', 'domain', 'child', ['domainName', 'hostName'], 'c2')]
-# Rows by which no deposit reads from a body: one field, or an empty key.
-FAULTY_ROWS = {9: 'C1\n', 10: ',r\n'}
-
-
-def envelope(index, header):
-    """The envelope of the body with this index. What it counts is the index, so that no two bodies are the same."""
-    return compact({
-        'id': f'N{header.id}', 'type': header.place.form.name, 'watermark': day_text(header.place.day), 'prevId': prev_text(header.prev),
-        'resend': header.resend, 'counts': {'domain': index}, 'deletes': DELETE_TABLES, 'contents': CONTENT_TABLES})
-
-
-def lines_text(lines, of_contacts, word):
-    """The rows of contacts, or of domains: of each its key, and its mark after a word."""
-    return ''.join(f'{it.key},{word}{it.mark}\n' for it in lines if is_contact(it.key) == of_contacts)
-
-
-def deletes_text(keys, of_contacts):
-    return ''.join(f'{OTHER_NAMES.get(it, it)}\n' for it in keys if is_contact(it) == of_contacts)
-
-
-def bundle(index, header, contents, fault):
-    """The bundle of the body with this index."""
-    files = {
-        'd0': deletes_text(contents.deletes, True),
-        'd1': deletes_text(contents.deletes, False),
-        'c0': FAULTY_ROWS.get(fault, '') + lines_text(contents.parents, True, 'r'),
-        'c1': lines_text(contents.parents, False, 'r'),
-        'c2': lines_text(contents.children, False, 'ns'),
-    }
-    text = (b'[' if fault == 5 else b'') + envelope(index, header)
-    whole = sealed(text, [(name, text.encode()) for name, text in files.items()])
-    return whole[:-1] if fault == 1 else whole
+    return manifest((it.header, it.body.bytes) for it in rows)
 
 
 # ---- chance
+
 
 class Chance(random.Random):
     """Numbers that a seed determines."""
@@ -227,33 +105,31 @@ class Chance(random.Random):
 
 # ---- bodies that are drawn
 
-def draw_form(chance):
-    return (Form.FULL, Form.INCR, Form.INCR, *[Form.DIFF] * 5)[chance.below(8)]
+
+def id_of(day, type):
+    """An id that no other place has."""
+    return day * 10 + TYPES.index(type)
 
 
 def draw_full(chance):
-    place = Place(chance.day(), Form.FULL)
-    return Header(place.id(), place)
+    day = chance.day()
+    return Header(id_of(day, 'FULL'), day, 'FULL')
 
 
-def draw_after(chance, form, before):
+def draw_after(chance, type, before):
     """A deposit after another one: mostly one or two days later, else on any day."""
     later = chance.below(2) + 1
-    place = Place(chance.day() if chance.is_one_in(12) else before.place.day + later, form)
-    return Header(place.id(), place, before.id)
-
-
-def draw_revision(chance, before):
-    """Another revision of a deposit, which may have another previous id."""
-    return replace(before, prev=NO_ID) if chance.is_one_in(6) and before.prev is not None else before
+    day = chance.day() if chance.is_one_in(12) else before.day + later
+    return Header(id_of(day, type), day, type, before.id)
 
 
 def draw_beside(chance, before):
-    """A deposit after another one, another revision of it, or a Full: as it is before its resend is drawn, and its id anew."""
-    form = draw_form(chance)
+    """A deposit after another one, another revision of it, which may have another previous id, or a Full: as it is before its resend is
+    drawn, and its id anew."""
+    type = ('FULL', 'INCR', 'INCR', *['DIFF'] * 5)[chance.below(8)]
     if chance.is_one_in(4):
-        return draw_revision(chance, before)
-    return draw_full(chance) if form is Form.FULL else draw_after(chance, form, before)
+        return before._replace(prev=NO_ID) if chance.is_one_in(6) and before.prev is not None else before
+    return draw_full(chance) if type == 'FULL' else draw_after(chance, type, before)
 
 
 def draw_header(chance, drawn):
@@ -263,32 +139,36 @@ def draw_header(chance, drawn):
     header = draw_beside(chance, before.header)
     # Mostly a resend that no other body has at the place, and sometimes a second id of the place.
     if not chance.is_one_in(12):
-        header = replace(header, resend=sum(it.header.place == header.place for it in drawn))
-    return replace(header, id=header.place.id() + 100) if chance.is_one_in(8) else header
+        header = header._replace(resend=sum((it.header.day, it.header.type) == (header.day, header.type) for it in drawn))
+    return header._replace(id=id_of(header.day, header.type) + 100) if chance.is_one_in(8) else header
 
 
 def draw_lines(chance, count, keys, first):
-    """Rows with marks from this one on."""
-    return tuple(Line(chance.one_of(keys), first + at) for at in range(count))
+    """Keys, each with a number that no other row has, from this one on."""
+    return [(chance.one_of(keys), first + at) for at in range(count)]
 
 
-def draw_contents(chance, index):
-    deletes = tuple(chance.one_of(KEYS) for _ in range(chance.below(3)))
-    parents = draw_lines(chance, chance.below(3) + 1, KEYS, index * 10)
-    children = draw_lines(chance, chance.below(3), DOMAINS, index * 10 + 5)
-    return Contents(deletes, parents, children)
-
-
-def draw_fault(chance):
-    return {0: 1, 1: 5, 2: 9, 3: 10}.get(chance.below(50))
+def rows_of(lines, keys, word):
+    """The rows of some keys, of each its key and its number after a word."""
+    return ''.join(f'{key},{word}{mark}\n' for key, mark in lines if key in keys)
 
 
 def draw_body(chance, drawn):
+    """A body, from which sometimes no deposit reads. What it counts is its index, so that no two bodies are the same."""
     index, header = len(drawn), draw_header(chance, drawn)
-    contents = draw_contents(chance, index)
-    fault = draw_fault(chance)
-    made = bundle(index, header, contents, fault)
-    return Body(index, header, contents, fault, made, hashlib.sha256(made).hexdigest())
+    deletes = [chance.one_of(KEYS) for _ in range(chance.below(3))]
+    parents = draw_lines(chance, chance.below(3) + 1, KEYS, index * 10)
+    children = draw_lines(chance, chance.below(3), DOMAINS, index * 10 + 5)
+    fault = {0: 1, 1: 5, 2: 9, 3: 10}.get(chance.below(50))
+    # (The rows of U9 and of U10 have one field, and an empty key.)
+    faulty = {9: 'C1\n', 10: ',r\n'}.get(fault, '')
+    contents = (Table('contact', 'contact', 'parent', ('id', 'clID'), (faulty + rows_of(parents, CONTACTS, 'r')).encode()),
+                Table('domain', 'domain', 'parent', ('name', 'clID'), rows_of(parents, DOMAINS, 'r').encode()),
+                Table('domainNs', 'domain', 'child', ('domainName', 'hostName'), rows_of(children, DOMAINS, 'ns').encode()))
+    gone = [Table(kind, kind, 'parent', fields, ''.join(f'{OTHER_NAMES.get(it, it)}\n' for it in deletes if it in keys).encode())
+            for kind, fields, keys in (('contact', ('id',), CONTACTS), ('domain', ('name',), DOMAINS))]
+    made = deposit(header, contents, gone, {'domain': index})
+    return Body(f'body{index}', header, made[:-1] if fault == 1 else made.replace(b'{"id"', b'["id"', 1) if fault == 5 else made)
 
 
 def draw_bodies(chance):
@@ -301,12 +181,12 @@ def draw_bodies(chance):
 
 # ---- rows that are drawn
 
+
 def draw_wrong(chance, row):
     """A row with one of its values changed."""
     it = row.header
-    changes = ({'id': it.id + 200}, {'place': replace(it.place, day=it.place.day + 1)}, {'place': replace(it.place, form=Form.FULL)},
-               {'resend': it.resend + 1}, {'prev': NO_ID}, {'prev': it.id - 10})
-    return replace(row, header=replace(it, **changes[chance.below(6)]))
+    changes = ({'id': it.id + 200}, {'day': it.day + 1}, {'type': 'FULL'}, {'resend': it.resend + 1}, {'prev': NO_ID}, {'prev': it.id - 10})
+    return Row(it._replace(**changes[chance.below(6)]), row.body)
 
 
 def draw_rows(chance, bodies):
@@ -318,47 +198,35 @@ def draw_rows(chance, bodies):
 def draw_first(chance, rows):
     """The row that is listed first: that of a Full, since a row that contradicts itself makes no store."""
     row = rows[chance.low_below(BODIES)]
-    return row if row.place.form is Form.FULL else rows[0]
-
-
-def draw_listed(chance, rows):
-    """Some of the rows, each once."""
-    return tuple(dict.fromkeys(chance.low_one_of(rows) for _ in range(chance.below(7) + 1)))
+    return row if row.header.type == 'FULL' else rows[0]
 
 
 # ---- events that are drawn
 
-def draw_coming(chance, bodies, events):
-    """Any body, or as often the one whose turn it is."""
-    if chance.is_one_in(2):
-        return chance.low_one_of(bodies)
-    return bodies[sum(isinstance(it, Arrival) for it in events) % BODIES]
-
 
 def draw_arrival(chance, bodies, events):
-    """An arrival: any body under any number; or one of those that came, under the same number or another one; or another body under its
-    number."""
-    number = chance.below(7) + 1
-    body = draw_coming(chance, bodies, events)
-    before = chance.one_of(events)
+    """An arrival: any body under any number, or as often the one whose turn it is; or one of those that came, under the same number or
+    another one; or another body under its number."""
+    number = f'n{chance.below(7) + 1}'
+    body = (chance.low_one_of(bodies) if chance.is_one_in(2) else bodies[sum(it.startswith('comes') for it in events) % BODIES]).name
+    before = (chance.one_of(events) or '').split()
     case = chance.below(9)
-    if case < 3 and isinstance(before, Arrival):
-        return (before, Arrival(number, before.body), Arrival(before.number, body))[case]
-    return Arrival(number, body)
+    if case < 3 and before[:1] == ['comes']:
+        _, old_number, old_body = before
+        number, body = ((old_number, old_body), (number, old_body), (old_number, body))[case]
+    return f'comes {number} {body}'
 
 
-def draw_moment(chance):
-    return Moment(None if chance.is_one_in(2) else chance.below(20) + 4)
-
-
-def draw_event(chance, bodies, rows, events, closes):
-    """An event that comes after others."""
+def draw_event(chance, bodies, rows, history, closes):
+    """An event that comes after others. An amendment lists some of the rows, each once."""
     case = chance.below(16)
     if case == 0 and closes:
-        return Closing()
+        return 'close'
     if case <= 2:
-        return draw_moment(chance)
-    return Amendment(draw_listed(chance, rows)) if case <= 5 else draw_arrival(chance, bodies, events)
+        return f'as-of {moment_text(None if chance.is_one_in(2) else chance.below(20) + 4)}'
+    if case <= 5:
+        return history.add_rows(dict.fromkeys(chance.low_one_of(rows) for _ in range(chance.below(7) + 1)))
+    return draw_arrival(chance, bodies, history.early + history.events)
 
 
 def draw_history(seed, count, closes):
@@ -366,7 +234,7 @@ def draw_history(seed, count, closes):
     chance = Chance(seed)
     bodies = draw_bodies(chance)
     rows = draw_rows(chance, bodies)
-    first, events = draw_first(chance, rows), []
+    history = History(bodies, [draw_first(chance, rows)])
     for _ in range(count):
-        events.append(draw_event(chance, bodies, rows, events, closes))
-    return History(tuple(bodies), (first,), (), tuple(events))
+        history.events.append(draw_event(chance, bodies, rows, history, closes))
+    return history

@@ -1,10 +1,5 @@
-"""The documents: links that lead somewhere, lines that fit, and how many words there are.
-
-    python3 -m unittest tests/unit/test_documents.py
-"""
-import pathlib
-import re
-import unittest
+"""The documents: links that lead somewhere, lines that fit, and how many words there are."""
+import pathlib, re, unittest
 
 from support.crates import listed
 
@@ -142,7 +137,3 @@ class Reading(unittest.TestCase):
         self.assertIsNone(fault_of(readme, 'docs'))
         self.assertEqual(fault_of(readme, 'docs/no-such-page.md'), 'there is no such file')
         self.assertEqual(fault_of(readme, '#no-such-heading'), 'there is no such heading')
-
-
-if __name__ == '__main__':
-    unittest.main()

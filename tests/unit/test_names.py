@@ -1,13 +1,8 @@
-"""The names of the contracts: what specs/ define publicly is defined in one file, so that a name has one meaning in all crates.
+"""The names of the contracts: what specs/ define publicly is defined in one file, so that a name has one meaning in all crates."""
+import collections, pathlib, re, unittest
 
-    python3 -m unittest tests/unit/test_names.py
-"""
-import collections
-import pathlib
-import re
-import unittest
+from support import TOP
 
-TOP = pathlib.Path(__file__).resolve().parents[2]
 # `pub use` and `pub mod` define nothing. An operator may stand for what is done in order in one type and in another.
 DEFINITION = re.compile(r'^(?:abbrev |unfoldable )?pub (?!use |mod )(?:record |data )?([^\s(:{\[◌]+) ', re.M)
 
@@ -15,12 +10,8 @@ DEFINITION = re.compile(r'^(?:abbrev |unfoldable )?pub (?!use |mod )(?:record |d
 class Names(unittest.TestCase):
     def test_each_is_defined_once(self):
         places = collections.defaultdict(set)
-        for path in TOP.glob('crates/*/specs/**/*.antt'):
+        for path in pathlib.Path(TOP).glob('crates/*/specs/**/*.antt'):
             for name in DEFINITION.findall(path.read_text()):
                 places[name].add(str(path.relative_to(TOP)))
         self.assertGreater(len(places), 1_000)
         self.assertEqual({}, {name: sorted(files) for name, files in places.items() if len(files) > 1})
-
-
-if __name__ == '__main__':
-    unittest.main()

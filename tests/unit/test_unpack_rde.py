@@ -3,6 +3,7 @@ import contextlib, gzip, hashlib, io, os, random, runpy, subprocess, sys, tempfi
 
 from support import TOP
 from support.documents import URIS, document, element
+from support.files import read, write
 from support.escrow import as_written, description_in, objects_in, rows_in, some_objects
 
 PROGRAM = f'{TOP}/packaging/unpack_rde'
@@ -62,8 +63,7 @@ class Unpacked:
     def __init__(self, folder, text, files=None, words=()):
         self.folder, self.out = folder, os.path.join(folder, 'out')
         for name, data in {'d.xml': text, **(files or {})}.items():
-            with open(os.path.join(folder, name), 'wb') as file:
-                file.write(data)
+            write(os.path.join(folder, name), data)
         self.run(words)
 
     def run(self, words):
@@ -183,9 +183,7 @@ class Refusals(Case):
         for taken in ('out', 'out.part'):
             with self.subTest(taken):
                 found = self.unpacked(deposit(), {taken: b'mine'})
-                self.assertEqual(found.status, 3)
-                with open(os.path.join(found.folder, taken), 'rb') as file:
-                    self.assertEqual(file.read(), b'mine')
+                self.assertEqual((found.status, read(os.path.join(found.folder, taken))), (3, b'mine'))
 
     def test_what_cannot_be_read_stops_it(self):
         found = self.unpacked(deposit())
@@ -225,9 +223,8 @@ class Both(Case):
             for model, separator in (('XML', ','), ('CSV', ','), ('CSV', '|'), ('CSV', '\t')):
                 with self.subTest(seed=seed, model=model, separator=separator), tempfile.TemporaryDirectory() as folder:
                     header = {'type': 'DIFF', 'id': 'D1', 'prevId': 'F1', 'resend': '2', 'watermark': '2024-03-03T00:00:00Z'}
-                    document(folder, 'd.xml', header, objects, deletes, {'domain': 7}, model, separator=separator)
-                    with open(os.path.join(folder, 'd.xml'), 'rb') as file:
-                        found = Unpacked(folder, file.read())
+                    path = document(folder, 'd.xml', header, objects, deletes, {'domain': 7}, model, separator=separator)
+                    found = Unpacked(folder, read(path))
                     self.assertEqual((found.status, found.lines), (0, []))
                     self.assertEqual(objects_in(found.out), (as_written(objects), deletes))
                     described = description_in(found.out)
@@ -309,9 +306,7 @@ class Models(Case):
 
     def test_files_may_be_in_another_folder(self):
         found = self.unpacked(deposit(idns()))
-        os.mkdir(os.path.join(found.folder, 'files'))
-        with open(os.path.join(found.folder, 'files', 'i.csv'), 'wb') as file:
-            file.write(b'L1,u\n')
+        write(os.path.join(found.folder, 'files', 'i.csv'), b'L1,u\n')
         found.run(['--files', 'files'])
         self.assertEqual((found.status, self.rows(found, 'idn')), (0, [{'idnTableId': 'L1', 'url': 'u'}]))
 
@@ -421,7 +416,3 @@ class Memory(Case):
     def test_memory_does_not_grow_with_the_document(self):
         # The second document has 30 MB.
         self.assertLess(self.most_memory(25_000) - self.most_memory(100), 6_000)
-
-
-if __name__ == '__main__':
-    unittest.main()

@@ -124,14 +124,11 @@ def other_rows(random, body):
     return sealed(envelope, files)
 
 
-def unchanged(_random, body):
-    return body
-
-
-CHANGES = (unchanged, damaged, other_value, other_value, other_value, other_text, other_sections, other_length, other_ends, other_rows, other_rows)
+CHANGES = [('unchanged', lambda _, body: body)] + [(it.__name__, it) for it in (
+    damaged, other_value, other_value, other_value, other_text, other_sections, other_length, other_ends, other_rows, other_rows)]
 
 
 def bundle(random, body):
     """A mutated bundle: the name of its mutation, and its bytes."""
-    change = random.choice(CHANGES)
-    return change.__name__, change(random, body)
+    what, change = random.choice(CHANGES)
+    return what, change(random, body)

@@ -8,9 +8,9 @@ from dataclasses import dataclass
 from typing import Iterable
 
 from fuzzing.damage import table_of
-from support import formats
-from support.bundles import HEADING, row_of
+from support.bundles import manifest
 from support.files import write
+from support.messages import response
 from support.sockets import HOST, received
 from support.stores import copy
 
@@ -118,12 +118,12 @@ def over_clients(trial):
     """A client of each kind on a desk of its own, all side by side, and a good one after it."""
     body = table_of(b''.join(b'%059d\n' % key for key in range(60_000)))
     store, folder = trial.at('held'), trial.at('held-folder')
-    write(store + '.csv', (HEADING + row_of('L,FULL,2024-04-01T00:00:00Z,,', body)).encode())
+    write(store + '.csv', manifest([('L,FULL,2024-04-01T00:00:00Z,,', body)]))
     write(os.path.join(folder, 'n1'), body)
     trial.run('init', '--store', store, '--manifest', store + '.csv')
     trial.run('take', '--store', store, folder)
     told = trial.texts(store)
-    expected = formats.response(200, told['/gaps'], 'text/csv')
+    expected = response(200, told['/gaps'], 'text/csv')
     with concurrent.futures.ThreadPoolExecutor(20) as pool:
         for it in [pool.submit(over_one, trial, store, *kind, expected) for kind in kinds(len(told['/export/contact'])).items()]:
             it.result()

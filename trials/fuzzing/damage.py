@@ -1,7 +1,8 @@
 """Damage to the bytes of any input, seeded: bits flipped, bytes overwritten, put in, cut out, put in twice; and bundles of any sections."""
 import json
 
-from support.bundles import FIRST_LINE, compact, sealed, table
+from support.bundles import FIRST_LINE, Table, compact, deposit
+from support.formats import sections
 
 
 def flipped(random, text):
@@ -47,19 +48,14 @@ def damaged(random, text):
 
 def opened(body):
     """The envelope of an undamaged bundle, and its other sections."""
-    found, at = [], body.index(b'\n') + 1
-    while body[at:] != b'end\n':
-        name, length = body[at:body.index(b'\n', at)].split()
-        at = body.index(b'\n', at) + 1
-        found.append((name.decode(), body[at:at + int(length)]))
-        at += int(length) + 1
-    return json.loads(found[0][1]), found[1:]
+    (_, envelope), *files = sections(body)
+    return json.loads(envelope), files
 
 
-def frame(sections, length=None, of=None):
+def frame(parts, length=None, of=None):
     """A bundle of sections. Of one of them another length is told."""
     out = FIRST_LINE
-    for index, (name, text) in enumerate(sections):
+    for index, (name, text) in enumerate(parts):
         told = length if index == of else str(len(text))
         out += name.encode() + b' ' + told.encode() + b'\n' + text + b'\n'
     return out + b'end\n'
@@ -71,5 +67,5 @@ def opened_sections(envelope, files):
 
 def table_of(text, fields=1):
     """A bundle with one table of contacts with these bytes."""
-    contact = table('contact', 'contact', 'parent', [f'f{number}' for number in range(fields)], 'c')
-    return sealed({'id': 'L', 'type': 'FULL', 'watermark': '2024-04-01T00:00:00Z', 'contents': [contact]}, [('c', text)])
+    contacts = Table('contact', 'contact', 'parent', [f'f{number}' for number in range(fields)], text)
+    return deposit('L,FULL,2024-04-01T00:00:00Z,,', [contacts])

@@ -1,17 +1,18 @@
 """A desk on a socket, what it has to answer, and the requests that it gets."""
-import json, os, re, socket, time
+import os, re, socket, time
 
 from fuzzing import requests
-from fuzzing.arrivals import names
-from fuzzing.receipts import Receipts, expected_take
-from support import formats
-from support.bundles import HEADING
+from fuzzing.arrivals import expected_take, names
+from support import model
+from support.bundles import manifest
+from support.clients import replied
 from support.files import write
+from support.messages import asked, response
+from support.reports import report
 from support.sockets import HOST, breaks_off, received
 
-# How long a connection may take, and the status of a response with a reply by its verdict; any other is 422.
+# How long a connection may take.
 PATIENCE = 60
-STATUSES = {'A1': 200, 'A5': 202}
 
 
 class Desk:
@@ -20,10 +21,11 @@ class Desk:
     def __init__(self, trial, batch, rng, rows):
         self.trial, self.name = trial, f'server {batch}'
         self.store, self.twin = trial.at(f'desk-{batch}'), trial.at(f'twin-{batch}')
-        self.receipts, self.faults = Receipts(rows), 0
+        listed = manifest((row.header, row.body) for row in rows)
+        self.model, self.faults = model.Desk(listed), 0
         self.bodies = [row.body for row in rows] + [b'', b'abc', rng.randbytes(5000)]
         self.numbers = names(rng, 6) + ['n1']
-        write(self.store + '.csv', (HEADING + ''.join(row.line for row in rows)).encode())
+        write(self.store + '.csv', listed)
         for number, row in enumerate(rows):
             write(os.path.join(self.twin + '-folder', f'n{number}'), row.body)
         for store in (self.store, self.twin):
@@ -37,24 +39,22 @@ class Desk:
 
     def answer(self, text):
         """The bytes that have to answer a request. An arrival is taken."""
-        asked = formats.request(text)
-        if asked[0] == 'PUT':
-            reply = self.receipts.arrive(*asked[1:])
-            return formats.response(STATUSES.get(reply['verdict'], 422),
-                                    json.dumps(reply, sort_keys=True, separators=(',', ':')), 'application/json')
-        if asked[0] == 'GET':
-            return formats.response(200, self.report(asked[1]), 'text/plain' if asked[1] == '/status' else 'text/csv')
-        return formats.response(asked[0], asked[1], allow=asked[2] if asked[0] == 405 else None)
+        what, *more = asked(text)
+        if what == 'PUT':
+            return replied(self.model.row_text(self.model.arrive(*more)))
+        if what == 'GET':
+            return response(200, self.report(*more), 'text/plain' if more == ['/status'] else 'text/csv')
+        return response(what, more[0], allow=more[1])
 
     def report(self, path):
         """A report: that of the twin, for which other receipts were given."""
         if path == '/receipts':
-            return self.receipts.text()
+            return report('receipts', self.model.receipt_rows())
         if path == '/parked':
-            return self.receipts.parked_text()
+            return report('parked', self.model.parked_rows())
         if path != '/status':
             return self.texts[path]
-        return re.sub('receipts [0-9]+', f'receipts {len(self.receipts.replies)}', self.texts[path].decode())
+        return re.sub('receipts [0-9]+', f'receipts {len(self.model.receipts)}', self.texts[path].decode())
 
     def ask(self, rng, what, text):
         """Sends a request in pieces, and compares what comes."""
@@ -80,10 +80,10 @@ class Desk:
         self.trial.expect(f'the end of {self.name}', (0, b'', b'read fault\n' * self.faults), self.trial.end_of(self.server))
         self.trial.check_store(self.name, self.store)
         told = self.trial.run('report', '--store', self.store, 'receipts')
-        self.trial.expect(f'receipts of {self.name}', (0, self.receipts.text().encode(), b''), told)
+        self.trial.expect(f'receipts of {self.name}', (0, report('receipts', self.model.receipt_rows()).encode(), b''), told)
         again = self.trial.run('take', '--store', self.store, self.twin + '-folder')
         files = {f'n{number}': body for number, body in enumerate(self.bodies[:-3])}
-        self.trial.expect(f'the folder of {self.name} taken again', expected_take(files, self.receipts), again)
+        self.trial.expect(f'the folder of {self.name} taken again', expected_take(files, self.model), again)
         export = self.trial.texts(self.store)['/export/domain']
         self.trial.expect(f'the domains of {self.name}', self.texts['/export/domain'], export)
 
@@ -120,9 +120,9 @@ def over_requests(trial, batch, rng, rows, many):
         if choice < 0.03:
             desk.break_off(rng)
             continue
-        change = requests.good if choice < 0.4 else rng.choice(requests.REQUESTS)
+        what, change = ('good', requests.good) if choice < 0.4 else rng.choice(requests.REQUESTS)
         if index == many // 2:
-            change = requests.large_request
-        desk.ask(rng, change.__name__, change(rng, desk))
+            what, change = 'large', requests.large_request
+        desk.ask(rng, what, change(rng, desk))
     desk.close()
     trial.counts['inputs'] += len(rows) + many

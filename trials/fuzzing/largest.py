@@ -1,10 +1,10 @@
 """Bundles as large as a bundle may be, or nearly: what comes of each, its time and peak memory."""
 import json, os, subprocess, sys, time
 
-from fuzzing.receipts import RECEIPTS
 from fuzzing.damage import table_of
-from support.bundles import HEADING, row_of, sealed
+from support.bundles import manifest, sealed
 from support.files import write
+from support.reports import report
 
 
 def envelope_with(member):
@@ -57,8 +57,8 @@ def over_large(trial, name, body, known):
     for path in (store, store + '-wal'):
         if os.path.exists(path):
             os.remove(path)
-    manifest = (HEADING + row_of('L,FULL,2024-04-01T00:00:00Z,,', body)).encode()
-    write(store + '.csv', manifest)
+    listed = manifest([('L,FULL,2024-04-01T00:00:00Z,,', body)])
+    write(store + '.csv', listed)
     write(os.path.join(folder, 'n1'), body)
     trial.run('init', '--store', store, '--manifest', store + '.csv')
     begun = time.perf_counter()
@@ -67,10 +67,10 @@ def over_large(trial, name, body, known):
     took = time.perf_counter() - begun
     *refusals, peak = taken.stderr.decode().splitlines()
     verdict, _, fault = known.partition(' ')
-    reply = f'1,n1,{verdict},{fault},L,0,' + ('new,0\n' if verdict == 'A1' else ',\n')
-    expected, got = (int(verdict != 'A1'), RECEIPTS + reply, []), (taken.returncode, taken.stdout.decode(), refusals)
+    reply = f'1,n1,{verdict},{fault},L,0,' + ('new,0' if verdict == 'A1' else ',')
+    expected, got = (int(verdict != 'A1'), report('receipts', [reply]), []), (taken.returncode, taken.stdout.decode(), refusals)
     if got != expected:
-        trial.wrong(name, expected, got, bundle=body, **{'manifest.csv': manifest})
+        trial.wrong(name, expected, got, bundle=body, **{'manifest.csv': listed})
     trial.check_store(name, store)
     print(f'{name:42} {known:7} {took:6.2f} s {int(peak) / 1024:6.0f} MB', flush=True)
     trial.counts['inputs'] += 1

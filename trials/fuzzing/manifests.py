@@ -31,14 +31,6 @@ def written(rows, heading=HEADING):
     return heading + b''.join(','.join(row).encode(errors='surrogateescape') + b'\n' for row in rows)
 
 
-def as_it_is(_random, rows):
-    return written(rows)
-
-
-def damaged_bytes(random, rows):
-    return damaged(random, written(rows))
-
-
 def other_cells(random, rows):
     """Another cell, or one of another row: a repeated digest, id, place, or a base that is not earlier."""
     for _ in range(random.choice((1, 1, 2))):
@@ -60,29 +52,29 @@ def other_columns(random, rows):
     return written(rows)
 
 
-def other_heading(random, rows):
-    return written(rows if random.random() < 0.9 else [], random.choice(HEADINGS))
-
-
 def too_much(random, _rows):
     return random.choice((lambda: HEADING * 4098, lambda: written(good_rows(random, 4097)), lambda: written(good_rows(random, 4096)),
                           lambda: HEADING + b'\n' * MOST, lambda: b',' * MOST, lambda: b'\n' * MOST, lambda: b'"' * (MOST + 1)))()
 
 
-CHANGES = (as_it_is, *[damaged_bytes] * 5, *[other_cells] * 4, one_more, one_more, other_columns, other_heading)
+CHANGES = [
+    ('as_it_is', lambda _, rows: written(rows)), *[('damaged_bytes', lambda random, rows: damaged(random, written(rows)))] * 5,
+    *[('other_cells', other_cells)] * 4, *[('one_more', one_more)] * 2, ('other_columns', other_columns),
+    ('other_heading', lambda random, rows: written(rows if random.random() < 0.9 else [], random.choice(HEADINGS))),
+]
 
 
 def over_manifest(trial, rng, number):
     """Gives a mutated manifest to `init`."""
-    change = too_much if rng.random() < 0.02 else rng.choice(CHANGES)
+    what, change = ('too_much', too_much) if rng.random() < 0.02 else rng.choice(CHANGES)
     text, store = change(rng, good_rows(rng, rng.randint(1, 12))), trial.at(f'made-{number}')
     write(store + '.csv', text)
     try:
         expected = 0, f'listed {len(formats.manifest(text))}\n'.encode(), b''
     except formats.Refused as refused:
-        expected = 1, b'', f'M{refused.code} row {refused.row}\n'.encode()
+        expected = 1, b'', f'M{refused.code} row {refused.where}\n'.encode()
     got = trial.run('init', '--store', store, '--manifest', store + '.csv')
-    what = f'manifest ({change.__name__}): restore init --store s --manifest manifest.csv'
+    what = f'manifest ({what}): restore init --store s --manifest manifest.csv'
     trial.expect(what, (expected, expected[0] == 0), (got, os.path.exists(store)), **{'manifest.csv': text})
     if os.path.exists(store):
         trial.check_store(f'manifest {number}', store)

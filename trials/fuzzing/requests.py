@@ -1,9 +1,8 @@
 """Requests for `fuzz.py`, seeded: good ones, and ones that are damaged, cut, or ask what nobody should. Each function answers the bytes of
-one. What has to come of them is what support/formats.py reads in them. A desk here is what has `bodies` and `numbers` for arrivals."""
+one. What has to come of them is what support/messages.py reads in them. A desk here is what has `bodies` and `numbers` for arrivals."""
 from fuzzing.damage import damaged
-from support import formats
+from support.messages import PATHS
 
-PATHS = ('/status', '/gaps', '/links', '/receipts', '/parked', *(f'/export/{kind}' for kind in formats.KINDS))
 LINES = [('Host', '127.0.0.1'), ('User-Agent', 'fuzz'), ('Accept', '*/*'), ('Expect', '100-continue'), ('Accept', 'text/csv'), ('X-Empty', ''),
          ('Connection', 'keep-alive'), ('X-Latin', '\u00e9\u00ff'), ('Content-Type', 'text/csv'), ('X-Long', 'x' * 1000)]
 TARGETS = ('/', '*', '/status/', '//status', '/STATUS', '/st%61tus', '/status#x', '/export', '/export/', '/export/zone', '/export/domain/',
@@ -56,14 +55,6 @@ def repeated_lines(rng, desk):
     return put_request(rng, 'n1', body, None, rng.choice((*MORE, [('Content-Length', f'{len(body)}')])))
 
 
-def without_length(rng, desk):
-    return head(rng, 'PUT', '/arrivals/n1', other_lines(rng)) + rng.choice(desk.bodies)
-
-
-def many_lines(rng, _desk):
-    return head(rng, 'GET', '/gaps', [('X', 'y')] * rng.choice((31, 32, 33, 34, 200)))
-
-
 def long_head(rng, _desk):
     front = head(rng, 'GET', '/gaps', [('X', '')])
     at = front.rindex(b'\r\n\r\n')
@@ -77,31 +68,6 @@ def without_end(rng, _desk):
 
 def other_target(rng, _desk):
     return head(rng, 'GET', rng.choice(TARGETS), other_lines(rng)[:2])
-
-
-def other_number(rng, desk):
-    return put_request(rng, rng.choice(NUMBERS), rng.choice(desk.bodies))
-
-
-def other_method(rng, _desk):
-    return head(rng, rng.choice(METHODS), rng.choice((*PATHS, *TARGETS[:5], '/arrivals/n1')))
-
-
-def other_line(rng, _desk):
-    return b'GET /gaps HTTP/1.1\r\nHost: a\r\n' + rng.choice(ODD_LINES) + b'\r\n\r\n'
-
-
-def other_version(rng, _desk):
-    return head(rng, 'GET', '/gaps', (), rng.choice(VERSIONS))
-
-
-def pipelined(rng, desk):
-    """What follows a request is none: it gets no answer, and no arrival is taken."""
-    return rng.choice((good, other_length, other_target))(rng, desk) + put_request(rng, 'second', b'second')
-
-
-def random_bytes(rng, _desk):
-    return rng.randbytes(rng.choice((1, 10, 1000, 1_000_000)))
 
 
 def damaged_request(rng, desk):
@@ -120,5 +86,17 @@ def large_request(rng, _desk):
     return put_request(rng, 'n1', bytes(2**24 + rng.randrange(2)))
 
 
-REQUESTS = (other_length, other_length, repeated_lines, without_length, many_lines, long_head, without_end, other_target, other_target,
-            other_number, other_method, other_line, other_version, pipelined, random_bytes, *[damaged_request] * 4, cut_request, cut_request)
+# What is sent beside good requests, of which some are sent more often. What follows a request is none: it gets no answer, and no arrival is
+# taken.
+REQUESTS = [(it.__name__, it) for it in (other_length, other_length, repeated_lines)] + [
+    ('without_length', lambda rng, desk: head(rng, 'PUT', '/arrivals/n1', other_lines(rng)) + rng.choice(desk.bodies)),
+    ('many_lines', lambda rng, _: head(rng, 'GET', '/gaps', [('X', 'y')] * rng.choice((31, 32, 33, 34, 200)))),
+    *((it.__name__, it) for it in (long_head, without_end, other_target, other_target)),
+    ('other_number', lambda rng, desk: put_request(rng, rng.choice(NUMBERS), rng.choice(desk.bodies))),
+    ('other_method', lambda rng, _: head(rng, rng.choice(METHODS), rng.choice((*PATHS, *TARGETS[:5], '/arrivals/n1')))),
+    ('other_line', lambda rng, _: b'GET /gaps HTTP/1.1\r\nHost: a\r\n' + rng.choice(ODD_LINES) + b'\r\n\r\n'),
+    ('other_version', lambda rng, _: head(rng, 'GET', '/gaps', (), rng.choice(VERSIONS))),
+    ('pipelined', lambda rng, desk: rng.choice((good, other_length, other_target))(rng, desk) + put_request(rng, 'second', b'second')),
+    ('random_bytes', lambda rng, _: rng.randbytes(rng.choice((1, 10, 1000, 1_000_000)))),
+    *[('damaged_request', damaged_request)] * 4, *[('cut_request', cut_request)] * 2,
+]

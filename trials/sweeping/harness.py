@@ -3,6 +3,9 @@ a refusal, or up to its end, for which it says why."""
 import os, re, tempfile
 
 from support.bodies import bytes_of, manifest_text
+from support.files import write
+from support.messages import get, put
+from support.stage import text_of
 
 # What it ends with: the fault's name, as a crate, the kit or a response has it. Its files are in memory. Where memory is refused to a file
 # it is a disk that fails: S1, or the database's name for it.
@@ -20,19 +23,16 @@ TOLD = (
     'tables', 'chain', 'status')
 # How many answers those have: the three events of its run have none of their own.
 COUNT = len(TOLD) - 3
-REQUESTS = {'get': 'GET /receipts HTTP/1.1\r\n\r\n', 'put': 'PUT /arrivals/8 HTTP/1.1\r\nContent-Length: 3\r\n\r\nabc'}
 
 
 def put_files(folder):
     """What the lines name."""
-    for name in ('F1', 'D2', 'D2Resent', 'D3', 'F5', 'Abc', 'Empty'):
-        with open(os.path.join(folder, name), 'xb') as file:
-            file.write(bytes_of(name))
-    texts = {'first.csv': manifest_text(['F1', 'D3', 'D2Resent']), 'second.csv': manifest_text(['F1', 'D2']),
-             'f5.csv': manifest_text(['F5', 'F1']), 'told': ''.join(f'{it}\n' for it in TOLD), **REQUESTS}
-    for name, text in texts.items():
-        with open(os.path.join(folder, name), 'x', newline='') as file:
-            file.write(text)
+    files = {name: bytes_of(name) for name in ('F1', 'D2', 'D2Resent', 'D3', 'F5', 'Abc', 'Empty')}
+    files |= {'first.csv': manifest_text(['F1', 'D3', 'D2Resent']).encode(), 'second.csv': manifest_text(['F1', 'D2']).encode(),
+              'f5.csv': manifest_text(['F5', 'F1']).encode(), 'told': text_of(TOLD).encode(), 'get': get('/receipts'),
+              'put': put('8', b'abc')}
+    for name, content in files.items():
+        write(os.path.join(folder, name), content)
 
 
 def over_harness(sweep, program):

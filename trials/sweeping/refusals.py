@@ -16,26 +16,17 @@ class Sweep:
     def __init__(self, top, given):
         self.top, self.given = top, given
         self.work = tempfile.mkdtemp(prefix='sweep-', dir='/dev/shm' if os.path.isdir('/dev/shm') else None)
-        self.library = os.path.join(self.work, 'refuse.so')
         self.parts, self.passed, self.failed = 0, 0, 0
         self.stores, self.port = 0, 30_000
-
-    def build_library(self):
-        """What is loaded into a program, so that a call of it is refused."""
+        # What is loaded into a program, so that a call of it is refused.
+        self.library = os.path.join(self.work, 'refuse.so')
         subprocess.run(['gcc', '-O2', '-shared', '-fPIC', '-o', self.library, os.path.join(HERE, 'refuse.c'), '-ldl'], check=True)
 
     def settings(self, at=None, count=None, disk=False):
         """The environment of a run in which the call with this number is refused, or the calls are counted into this file."""
-        made = dict(os.environ)
-        if at or count:
-            made['LD_PRELOAD'] = self.library
-        if disk:
-            made['REFUSE_DISK'] = '1'
-        if at:
-            made['REFUSE_AT'] = str(at)
-        if count:
-            made['REFUSE_COUNT'] = count
-        return made
+        library = self.library if at or count else None
+        told = {'LD_PRELOAD': library, 'REFUSE_DISK': disk and '1', 'REFUSE_AT': at and f'{at}', 'REFUSE_COUNT': count}
+        return os.environ | {name: it for name, it in told.items() if it}
 
     def run(self, *words, program=None, folder=None, told=os.devnull, **given_settings):
         """Status, standard output and standard error of a run, whose standard input is the file `told`."""

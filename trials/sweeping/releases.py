@@ -2,9 +2,10 @@
 which the last takes two steps back, a release in two parts, and a store of version 1."""
 import os
 
-from support import TOP, first_store
+from support import TOP
 from support.bodies import bytes_of, manifest_text
 from support.files import read, write
+from support.first_store import first_rows, write_store
 from support.stores import copy, rows
 
 SAMPLES = f'{TOP}/samples'
@@ -45,7 +46,7 @@ class Parts:
         lines = sweep.run('take', '--store', self.taken, self.deposits)
         assert listed == (0, 'listed 3\n', '') and lines[0] == 1 and lines[1].count(',A5,') == 3, (listed, lines)
         arrivals = [(name, read(f'{self.deposits}/{name}')) for name in sorted(os.listdir(self.deposits))]
-        first_store.write_store(self.first, first_store.First(read(first), arrivals).rows())
+        write_store(self.first, first_rows(read(first), arrivals))
 
 
 class Unkept:

@@ -1,24 +1,21 @@
 """What a client of `serve` sees where memory is refused: the whole response, or 503 `S2`. The same request to the store that is left
 then gets the whole response, and the store has the same rows."""
-import os, socket, subprocess
+import os, subprocess
 
 from support.files import read
 from support.formats import KINDS
-from support.sockets import HOST, received
+from support.messages import get, put, response
+from support.sockets import HOST, response_to, serving
 from support.stores import REPORTS, rows
 from sweeping.refusals import ended_in
 
-REFUSED = (b'HTTP/1.1 503 Service Unavailable\r\nContent-Type: text/plain\r\nContent-Length: 3\r\n'
-           b'Connection: close\r\n\r\nS2\n')
+REFUSED = response(503, 'S2\n')
 
 
 def exchange(port, request):
     """What a client sees: nothing where it is not served."""
     try:
-        with socket.create_connection((HOST, port), timeout=60) as client:
-            client.sendall(request)
-            client.shutdown(socket.SHUT_WR)
-            return received(client)
+        return response_to(port, request)
     except OSError:
         return b''
 
@@ -27,21 +24,14 @@ def serve(sweep, store, request, **given_settings):
     """The responses to a request and to the same once more, and how `serve` ended. Where a port is taken it is another one."""
     for _ in range(5):
         port = sweep.next_port()
-        responses, status, error = serve_at(sweep, port, store, request, given_settings)
+        words = [sweep.given.restore, *serving(store, port, 2).split()]
+        with subprocess.Popen(words, env=sweep.settings(**given_settings), stdin=subprocess.DEVNULL, stdout=subprocess.PIPE,
+                              stderr=subprocess.PIPE, close_fds=False) as served, ended_in(120, served):
+            responses = [exchange(port, request), exchange(port, request)] if served.stdout.readline() else []
+            error = served.stderr.read().decode(errors='replace')
         if error != f'E1 {HOST}:{port}\n':
             break
-    return responses, status, error
-
-
-def serve_at(sweep, port, store, request, given_settings):
-    words = [sweep.given.restore, 'serve', '--store', store, '--port', str(port), '--count', '2']
-    with subprocess.Popen(words, env=sweep.settings(**given_settings), stdin=subprocess.DEVNULL, stdout=subprocess.PIPE,
-                          stderr=subprocess.PIPE, close_fds=False) as served, ended_in(120, served):
-        responses = []
-        if served.stdout.readline():
-            responses = [exchange(port, request), exchange(port, request)]
-        error = served.stderr.read().decode(errors='replace')
-        return responses, served.wait(), error
+    return responses, served.returncode, error
 
 
 def over_serve(sweep, release, name, request, before):
@@ -67,15 +57,12 @@ def over_serve(sweep, release, name, request, before):
 
 def over_routes(sweep, release):
     first = sorted(os.listdir(release.deposits))[0]
-    body = read(os.path.join(release.deposits, first))
-    put = f'PUT /arrivals/{first} HTTP/1.1\r\nContent-Length: {len(body)}\r\n\r\n'.encode() + body
-    over_serve(sweep, release, 'PUT /arrivals', put, release.fresh)
+    over_serve(sweep, release, 'PUT /arrivals', put(first, read(os.path.join(release.deposits, first))), release.fresh)
     for path in (*(f'/{it}' for it in REPORTS), *(f'/export/{it}' for it in KINDS)):
-        over_serve(sweep, release, f'GET {path}', f'GET {path} HTTP/1.1\r\n\r\n'.encode(), release.taken)
+        over_serve(sweep, release, f'GET {path}', get(path), release.taken)
 
 
 def over_parked(sweep, parts):
     """A desk in which bodies wait for their rows is asked for them, and one more comes."""
-    over_serve(sweep, parts, 'GET /parked', b'GET /parked HTTP/1.1\r\n\r\n', parts.taken)
-    put = b'PUT /arrivals/n HTTP/1.1\r\nContent-Length: 3\r\n\r\nabc'
-    over_serve(sweep, parts, 'PUT of a body without a row', put, parts.taken)
+    over_serve(sweep, parts, 'GET /parked', get('/parked'), parts.taken)
+    over_serve(sweep, parts, 'PUT of a body without a row', put('n', b'abc'), parts.taken)
