@@ -1,6 +1,7 @@
 -- What a deposit says, as a list of changes: its contents, and then the deletes that have none.
 use Rattle.std.proofs.Common.{◌≡◌, ◌+◌, Bool, true, false, cond, ◌&&◌, ◌||◌, not, true≢false, List, [], ◌∷◌, ◌++◌, map, length, Option, Some, None, is_some, refl, sym, ap, subst, ◌∙◌, arith, length-append}
 use Rattle.std.proofs.lemmas.List.{length-map}
+use Rattle.std.proofs.lemmas.List.Folds.{list_any-append}
 use Rattle.std.specs.List.{IsDistinct, AllByRecursion, list_any}
 use Rattle.std.specs.Map.{lookup, keys_of}
 use Rattle.std.specs.FinSet as set
@@ -30,18 +31,10 @@ found_key k (e ∷ es) = by_test (key_eq k e.0) (found_key k es)
     by_test true known = refl
     by_test false known = known
 
-any-append : (k : KeyName) (ks ls : List KeyName) → list_any (key_eq k) (ks ++ ls) ≡ (list_any (key_eq k) ks || list_any (key_eq k) ls)
-any-append k [] ls = refl
-any-append k (x ∷ ks) ls = ap (λ b. key_eq k x || b) (any-append k ks ls) ∙ regroup (key_eq k x) _ _
-  where
-    regroup : (a b d : Bool) → (a || (b || d)) ≡ ((a || b) || d)
-    regroup true b d = refl
-    regroup false b d = refl
-
 -- ---- the deletes without a content, key by key
 -- a delete that has a content changes nothing
 pub skip_delete : {X : Type 0} (es : List (KeyName × X)) (ks : List KeyName) (k q : KeyName) (b : Bool) → b ≡ (list_any (key_eq q) ks && not (Found q es)) → Found k es ≡ true → b ≡ (list_any (key_eq q) (ks ++ k ∷ []) && not (Found q es))
-skip_delete es ks k q b known found = known ∙ by_keys (keys q k) ∙ ap (λ a. a && not (Found q es)) (sym (any-append q ks (k ∷ [])))
+skip_delete es ks k q b known found = known ∙ by_keys (keys q k) ∙ ap (λ a. a && not (Found q es)) (sym (list_any-append (key_eq q) ks (k ∷ [])))
   where
     no_more : (a : Bool) → a ≡ (a || (false || false))
     no_more true = refl
@@ -59,7 +52,7 @@ skip_delete es ks k q b known found = known ∙ by_keys (keys q k) ∙ ap (λ a.
 
 -- a delete that has none is one more
 pub add_delete : {X : Type 0} (es : List (KeyName × X)) (ks : List KeyName) (k q : KeyName) (b : Bool) → b ≡ (list_any (key_eq q) ks && not (Found q es)) → Found k es ≡ false → cond (key_eq k q) true b ≡ (list_any (key_eq q) (ks ++ k ∷ []) && not (Found q es))
-add_delete es ks k q b known found = by_keys (keys q k) ∙ ap (λ a. a && not (Found q es)) (sym (any-append q ks (k ∷ [])))
+add_delete es ks k q b known found = by_keys (keys q k) ∙ ap (λ a. a && not (Found q es)) (sym (list_any-append (key_eq q) ks (k ∷ [])))
   where
     no_more : (a : Bool) → a ≡ (a || (false || false))
     no_more true = refl
@@ -181,7 +174,7 @@ are_changes d plain once once_plain deleted = record { once = once_all; each = e
         ∙ ap (λ b. cond {A = Said} (Found q d.contents) (Some (lookup (key_eq q) d.contents)) (cond b (Some None) None)) (deleted q)
         ∙ by_found (list_any (key_eq q) (deletes_of d)) (lookup (key_eq q) d.contents)
         ∙ ap (λ b. cond {A = Said} (list_any (key_eq q) (deletes_of d) || b) (Some (says q d)) None) (found_key q d.contents)
-        ∙ ap (λ b. cond {A = Said} b (Some (says q d)) None) (sym (any-append q (deletes_of d) (keys_of d.contents)))
+        ∙ ap (λ b. cond {A = Said} b (Some (says q d)) None) (sym (list_any-append (key_eq q) (deletes_of d) (keys_of d.contents)))
 
 -- the changes of a deposit, from its parts as the code has them
 pub changes_made : (d : DepositValue) (contents : List (KeyName × ObjectValue)) (deletes plain : List KeyName) → contents ≡ d.contents → deletes ≡ deletes_of d → IsDistinct key_eq (keys_of contents) → IsDistinct key_eq plain

@@ -7,11 +7,11 @@ use Rattle.std.proofs.lemmas.Bool.{eqb-true}
 use Rattle.esc_tables.specs.KeyName.{KeyName, key_eq}
 use Rattle.esc_tables.specs.DepositValue.{DepositValue}
 use Rattle.esc_apply.specs.Tables.{mentions, says, mention_count}
-use Rattle.esc_apply.specs.Registry.{State, nothing, taken, changed, stepped, restored, IsEntriesOf}
+use Rattle.esc_apply.specs.Registry.{State, nothing, taken, stepped, restored, IsEntriesOf}
 use Rattle.esc_apply.specs.declared.registry.Keys.{Keys}
 use Rattle.esc_apply.specs.declared.registry.Keys.TheVariants.{Vacant, Unknown}
 use Rattle.esc_apply.specs.Changes.{Change, changed_by, AreNew, AreFirst, CanBePut, written_by}
-use Rattle.esc_apply.specs.ChangeLaws.{Noted, changed_by-append, content-written_by, content-changed_by, undo-changed_by, undo-changed_by_other, undo-written_by, new_rest, new_first, new_then, Returns}
+use Rattle.esc_apply.specs.ChangeLaws.{Noted, changed_by-append, content-written_by, content-changed_by, undo-changed_by, undo-changed_by_other, undo-written_by, new_first, new_then, Returns}
 
 -- ---- changes that can be made
 fresh_all : (s : State) (j : ℕ) (ks : List KeyName) → s.undo j ≡ nothing → AllByRecursion (λ k. s.undo j k ≡ None) ks
@@ -71,25 +71,6 @@ step_made Mid Held s j d es fs are none put removed =
     let all = new_all s j d (es ++ fs) are none in
     subst Held (sym (changed_by-append s j es fs) ∙ changed_by-all s j d (es ++ fs) are none)
     (removed (changed_by s j es) (put (new_first s j es fs all)) (new_then s j es fs all))
-
--- ---- a run of changes on a registry, of which these states are held
--- some state is held from which the changes that are left lead to the end
-pub record Leads (Held : State → Type 0) (end : State) (j : ℕ) (left : List Change) : Type 0 where
-  pub now : State
-  pub held : Held now
-  pub new : AreNew now j left
-  pub leads : changed_by now j left ≡ end
-
-pub leads_more : (Before After : State → Type 0) (end : State) (j : ℕ) (e : Change) (es left : List Change) → left ≡ e ∷ es → Leads Before end j left → ((t : State) → Before t → t.undo j e.0 ≡ None → After (changed t j e.0 e.1)) → Leads After end j es
-leads_more Before After end j e es left is going made =
-    let first : Leads Before end j (e ∷ es) = subst (λ (l : List Change). Leads Before end j l) is going in
-    record { now = changed first.now j e.0 e.1; held = made first.now first.held first.new.fresh.0; new = new_rest first.now j e es first.new; leads = first.leads }
-
--- all of them made
-pub leads_last : (Held : State → Type 0) (end : State) (j : ℕ) (left : List Change) → left ≡ [] → Leads Held end j left → Held end
-leads_last Held end j left is going =
-    let last : Leads Held end j [] = subst (λ (l : List Change). Leads Held end j l) is going in
-    subst Held last.leads last.held
 
 -- ---- the way back
 -- all that was noted for a step, written back

@@ -11,7 +11,6 @@ ghost use Rattle.std.specs.Prelude.{
   [],
   not,
   is_some,
-  Some,
   None,
   List,
   length,

@@ -8,7 +8,6 @@ ghost use Rattle.std.specs.Prelude.{
   ◌^◌,
   length,
   map,
-  Option,
   Some,
   None,
   IfOk,

@@ -4,10 +4,6 @@ use Rattle.esc_bundle.specs.declared.fault.Fault.{Fault}
 use Rattle.esc_bundle.specs.declared.fault.Fault.TheVariants.{Refused, NoMemory}
 use Rattle.esc_bundle.specs.Tests.{◌>>=◌, check, or_fault, Refuses}
 
--- ---- of two tests
-
--- ---- of a step
-
 -- a result without a fault
 abbrev pub done : {A : Type 0} → A → Result A ℕ
 done x = Ok x

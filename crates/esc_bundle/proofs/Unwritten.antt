@@ -1,20 +1,23 @@
 -- Why no bundle has some sections.
-use Rattle.std.proofs.Common.{◌≡◌, ℕ, ◌<◌, ◌≤◌, true, List, [], ◌∷◌, ◌++◌, length, Result, Ok, Err, refl, sym, ap, subst, ◌∙◌, arith, inl, inr}
-use Rattle.std.specs.Prelude.{IfErr, nat_le}
+use Rattle.std.proofs.Common.{◌≡◌, ◌⊎◌, ℕ, ◌<◌, ◌≤◌, true, List, [], ◌∷◌, ◌++◌, length, Result, Ok, Err, refl, sym, ap, subst, ◌∙◌, arith, inl, inr}
+use Rattle.std.specs.Prelude.{IfOk, IfErr, MatchResult, IsErrAnd, nat_le}
 use Rattle.std.specs.Global.{Vec}
 use Rattle.std.proofs.lemmas.Bool.{cases_lt}
 use Rattle.std.proofs.lemmas.Bool.Decides.{nat_tests}
 use Rattle.std.proofs.lemmas.List.{append-nil, length-append}
+use Rattle.std.proofs.lemmas.Result.{IfOk-weaker, IfErr-weaker}
 use Rattle.esc_bundle.specs.declared.fault.Fault.{Fault}
-use Rattle.esc_bundle.specs.declared.fault.Fault.TheVariants.{Refused}
-use Rattle.esc_bundle.specs.Bundle.{Named, limit, bundle_text, AreSections}
+use Rattle.esc_bundle.specs.declared.fault.Fault.TheVariants.{Refused, NoMemory}
+use Rattle.esc_bundle.specs.Bundle.{Named, limit, bundle_text, AreSections, IsBundle}
+use Rattle.esc_bundle.specs.Tests.{GivesOrNoMemory}
 use Rattle.esc_bundle.specs.Reading.{stands_at}
 use Rattle.esc_bundle.specs.Writing.{in_order, within_limit, bundle_of, FaultAmong, IsUnwritten}
+use Rattle.esc_bundle.proofs.Answered.{answered}
 use Rattle.esc_bundle.proofs.FaultNumbers.{stands_in_range}
 use Rattle.esc_bundle.proofs.OneReading.{may_follow, move_over}
 use Rattle.esc_bundle.proofs.SectionTexts.{sections_push, no_sections}
 use Rattle.esc_bundle.proofs.Standing.{stands_takes, stands_again}
-use Rattle.esc_bundle.proofs.Written.{in_order_takes, in_order_again, over_limit_is, bundle_of_none, bundle_of_some}
+use Rattle.esc_bundle.proofs.Written.{in_order_takes, in_order_again, over_limit_is, bundle_of_none, bundle_of_some, bundle_of_is_bundle, bundle_of_bundle, no_bundle}
 use Rattle.esc_bundle.specs.TestLaws.{bind_fault}
 
 within_limit_refuses : (text : List ℕ) (n : ℕ) → within_limit text ≡ Err n → (limit < length text) × (n ≡ 4)
@@ -78,6 +81,26 @@ unwritten_numbers ss n (inl (none, one)) = (omega (arith, one), omega (arith, on
 unwritten_numbers ss n (inr (inl f)) = (stands_in_range f.before f.section.name (length f.section.bytes)).range n f.fault
 unwritten_numbers ss n (inr (inr (all, some, long, four))) = (omega (arith, four), omega (arith, four))
 
-pub unwritten_of : (ss : List Named) (result : Result (Vec ℕ) Fault) → IfErr result (λ e. (n : ℕ) → e ≡ Refused n → bundle_of ss ≡ Err n) → IfErr result (λ e. (n : ℕ) → e ≡ Refused n → IsUnwritten ss n)
-unwritten_of ss (Ok v) told = tt
-unwritten_of ss (Err e) told = λ n same. is_unwritten ss n (told n same)
+-- ---- what is promised of a result for a list
+
+pub record Made (ss : List Named) (result : Result (Vec ℕ) Fault) : Type 0 where
+  pub written : IfOk result (λ v. IsBundle v.items ss)
+  pub refused : IfErr result (λ e. (n : ℕ) → e ≡ Refused n → (body : List ℕ) → IsBundle body ss → ⊥)
+  pub bundle_written : (body : List ℕ) → IsBundle body ss → MatchResult result (λ v. v.items ≡ body) (λ e. e ≡ NoMemory)
+  pub fault_told : (n : ℕ) → bundle_of ss ≡ Err n → IsErrAnd result (λ e. (e ≡ Refused n) ⊎ (e ≡ NoMemory))
+  pub made : IfOk result (λ v. bundle_of ss ≡ Ok v.items)
+  pub unmade : IfErr result (λ e. (n : ℕ) → e ≡ Refused n → bundle_of ss ≡ Err n)
+  pub unwritten : IfErr result (λ e. (n : ℕ) → e ≡ Refused n → IsUnwritten ss n)
+
+pub made_of : (ss : List Named) (result : Result (Vec ℕ) Fault) → GivesOrNoMemory (λ v. v.items) result (bundle_of ss) → Made ss result
+made_of ss result told =
+    let a = answered (λ (v : Vec ℕ). v.items) result (bundle_of ss) told in
+    record {
+      written = IfOk-weaker result _ _ (λ v is. bundle_of_is_bundle ss v.items is) a.given;
+      refused = IfErr-weaker result _ _ (λ e fault n same. no_bundle ss n (fault n same)) a.refused;
+      bundle_written = λ body is. a.value_given body (bundle_of_bundle ss body is);
+      fault_told = a.fault_told;
+      made = a.given;
+      unmade = a.refused;
+      unwritten = IfErr-weaker result _ _ (λ e fault n same. is_unwritten ss n (fault n same)) a.refused;
+    }

@@ -1,6 +1,6 @@
 -- Sections that are written in order.
-use Rattle.std.proofs.Common.{◌≡◌, ◌⊎◌, ℕ, ◌+◌, ◌<◌, ◌≤◌, true, false, List, [], ◌∷◌, ◌++◌, length, take, drop, get_or, map, Result, Ok, Err, refl, sym, ap, subst, ◌∙◌, arith, inl, inr}
-use Rattle.std.specs.Prelude.{String, nat_lt, nat_le, IfOk, IfErr, MatchResult, IsErrAnd}
+use Rattle.std.proofs.Common.{◌≡◌, ℕ, ◌+◌, ◌<◌, ◌≤◌, true, false, List, [], ◌∷◌, ◌++◌, length, take, drop, get_or, map, Ok, Err, refl, sym, ap, subst, ◌∙◌, arith}
+use Rattle.std.specs.Prelude.{String, nat_lt, nat_le}
 use Rattle.std.specs.Global.{Vec}
 use Rattle.std.specs.declared.alloc.Global.{Global}
 use Rattle.std.specs.List.{flat_map}
@@ -8,10 +8,8 @@ use Rattle.std.proofs.lemmas.Bool.Decides.{nat_tests}
 use Rattle.std.proofs.lemmas.Grind.{flat_map-append}
 use Rattle.std.proofs.lemmas.List.{flat_map_more, append-nil, drop_more, drop_all, take_all, take-append-drop, length-append, map-append, map_more, length-map}
 use Rattle.esc_bundle.specs.declared.section.Section.{Section}
-use Rattle.esc_bundle.specs.declared.fault.Fault.{Fault}
-use Rattle.esc_bundle.specs.declared.fault.Fault.TheVariants.{Refused, NoMemory}
 use Rattle.esc_bundle.specs.Bundle.{Named, view, views, limit, first_line, last_line, section_text, beginning_text, bundle_text, AreSections, IsBundle}
-use Rattle.esc_bundle.specs.Tests.{◌>>=◌, GivesOrNoMemory}
+use Rattle.esc_bundle.specs.Tests.{◌>>=◌}
 use Rattle.esc_bundle.specs.Reading.{stands_at}
 use Rattle.esc_bundle.specs.Writing.{named, in_order, within_limit, bundle_of}
 use Rattle.esc_bundle.proofs.StepFacts.{check_done, done, done_is, done_or_fault}
@@ -88,49 +86,10 @@ bundle_of_bundle ss body is =
 pub no_bundle : (ss : List Named) (n : ℕ) → bundle_of ss ≡ Err n → (body : List ℕ) → IsBundle body ss → ⊥
 no_bundle ss n fault body is = done_or_fault body n (sym (bundle_of_bundle ss body is) ∙ fault)
 
--- ---- what is promised of a result for a list
-
-abbrev fault_of : ℕ → Result (List ℕ) ℕ
-fault_of n = Err n
-
-pub record Made (ss : List Named) (result : Result (Vec ℕ) Fault) : Type 0 where
-  pub written : IfOk result (λ v. IsBundle v.items ss)
-  pub refused : IfErr result (λ e. (n : ℕ) → e ≡ Refused n → (body : List ℕ) → IsBundle body ss → ⊥)
-  pub bundle_written : (body : List ℕ) → IsBundle body ss → MatchResult result (λ v. v.items ≡ body) (λ e. e ≡ NoMemory)
-  pub fault_told : (n : ℕ) → bundle_of ss ≡ Err n → IsErrAnd result (λ e. (e ≡ Refused n) ⊎ (e ≡ NoMemory))
-  pub made : IfOk result (λ v. bundle_of ss ≡ Ok v.items)
-  pub unmade : IfErr result (λ e. (n : ℕ) → e ≡ Refused n → bundle_of ss ≡ Err n)
-
-bundle_or_no_memory : (ss : List Named) (body : List ℕ) (e : Fault) → ((n : ℕ) → e ≡ Refused n → bundle_of ss ≡ Err n) → bundle_of ss ≡ Ok body → e ≡ NoMemory
-bundle_or_no_memory ss body (Refused n) told made = absurd (done_or_fault body n (sym made ∙ told n refl))
-bundle_or_no_memory ss body NoMemory told made = refl
-
-fault_or_no_memory : (ss : List Named) (n : ℕ) (e : Fault) → ((m : ℕ) → e ≡ Refused m → bundle_of ss ≡ Err m) → bundle_of ss ≡ Err n → (e ≡ Refused n) ⊎ (e ≡ NoMemory)
-fault_or_no_memory ss n (Refused m) told made = let same : ◌≡◌ {A = Result (List ℕ) ℕ} (Err m) (Err n) = sym (told m refl) ∙ made in inl (cc)
-fault_or_no_memory ss n NoMemory told made = inr refl
-
-pub made_of : (ss : List Named) (result : Result (Vec ℕ) Fault) → GivesOrNoMemory (λ v. v.items) result (bundle_of ss) → Made ss result
-made_of ss (Ok v) told = record {
-  written = bundle_of_is_bundle ss v.items told;
-  refused = tt;
-  bundle_written = λ body is. done_is v.items body (sym told ∙ bundle_of_bundle ss body is);
-  fault_told = λ n fault. done_or_fault v.items n (sym told ∙ fault);
-  made = told;
-  unmade = tt;
-}
-made_of ss (Err e) told = record {
-  written = tt;
-  refused = λ n same. no_bundle ss n (told n same);
-  bundle_written = λ body is. bundle_or_no_memory ss body e told (bundle_of_bundle ss body is);
-  fault_told = λ n fault. fault_or_no_memory ss n e told fault;
-  made = tt;
-  unmade = told;
-}
-
 -- ---- the steps of `bundle_of` on a list of parts
 
 pub none_made : (list : List (String Global × Vec ℕ)) (n : ℕ) → length list ≡ 0 → 1 ≡ n → bundle_of (map named list) ≡ Err n
-none_made list n none one = bundle_of_none (map named list) (length-map list named ∙ none) ∙ ap (λ (m : ℕ). fault_of m) one
+none_made list n none one = bundle_of_none (map named list) (length-map list named ∙ none) ∙ ap (λ (m : ℕ). Err m) one
 
 pub disorder_made : (list : List (String Global × Vec ℕ)) (n : ℕ) → 0 < length list → in_order [] (map named list) ≡ Err n → bundle_of (map named list) ≡ Err n
 disorder_made list n some fault = bundle_of_some (map named list) (rw (length-map list named) some) ∙ rw fault refl

@@ -3,7 +3,6 @@
 ghost use Rattle.std.specs.Prelude.{
   ◌≡◌,
   ◌++◌,
-  ◌∷◌,
   [],
   ℕ,
   List,
@@ -18,7 +17,6 @@ ghost use Rattle.std.specs.Prelude.{
   ◌⊎◌,
   map,
 };
-ghost use Rattle.std.specs.Fmt.{decimal};
 ghost use Rattle.esc_bundle.specs.Bundle.{view, views, section_text, bundle_text, IsBundle};
 ghost use Rattle.esc_bundle.specs.Tests.{GivesOrNoMemory};
 ghost use Rattle.esc_bundle.specs.Writing.{named, in_order, within_limit, bundle_of, IsUnwritten};
@@ -48,22 +46,13 @@ fn in_order(alloc: Global, list: &[(String, Vec<u8>)]) -> Result<Vec<Section<'_>
     Ok(before)
 }
 
-// The line above the bytes of a section.
-fn push_line(alloc: Global, text: &mut Vec<u8>, section: &Section<'_>) -> Result<(), NoMemory>
-    ensures { OnOk result (text.new.items ≡ text.old.items ++ (section.now.name.now
-        ++ (32 ∷ (decimal (length section.now.bytes.now) ++ (10 ∷ []))))) }
+fn push_section(alloc: Global, text: &mut Vec<u8>, section: &Section<'_>) -> Result<(), NoMemory>
+    ensures { OnOk result (text.new.items ≡ text.old.items ++ section_text (view section.now)) }
 {
     let name = section.name;
     let len = section.bytes.len();
     let line = format!(in alloc; "{name} {len}\n")?;
     text.extend_from_slice(line.as_bytes())?;
-    Ok(())
-}
-
-fn push_section(alloc: Global, text: &mut Vec<u8>, section: &Section<'_>) -> Result<(), NoMemory>
-    ensures { OnOk result (text.new.items ≡ text.old.items ++ section_text (view section.now)) }
-{
-    push_line(alloc, text, section)?;
     text.extend_from_slice(section.bytes)?;
     text.push(b'\n')?;
     Ok(())

@@ -1,15 +1,14 @@
 -- A row that comes after all others, and builds on the end of their latest chain, goes at its end.
-use Rattle.std.proofs.Common.{◌≡◌, ◌⊎◌, inl, inr, ℕ, ℤ, ◌<◌, ◌≤◌, List, [], ◌∷◌, length, reverse, Option, refl, sym, ap, subst, ◌∙◌, arith}
+use Rattle.std.proofs.Common.{◌≡◌, inl, inr, ℕ, ℤ, ◌<◌, ◌≤◌, List, [], ◌∷◌, length, reverse, Option, refl, sym, ap, subst, ◌∙◌, arith}
 use Rattle.std.specs.Prelude.{slice_index}
 use Rattle.std.specs.List.{Contains}
 use Rattle.std.specs.FinSet as set
 use Rattle.std.specs.Cmp.{nat_cmp_total, eq_by_cmp_equiv}
-use Rattle.std.proofs.lemmas.Int.{ints}
 use Rattle.std.proofs.lemmas.List.{reverse-append, get_or_default}
 use Rattle.std.proofs.lemmas.Map.Lookups.{exact_unsigned}
 use Rattle.std.proofs.lemmas.Map.Views.{list_any-from_Contains, Contains-from_any, tells_apart}
 use Rattle.esc_envelope.specs.declared.place.Place.{Place}
-use Rattle.esc_envelope.specs.Place.{rank, IsBefore, IsUpTo}
+use Rattle.esc_envelope.specs.Place.{IsBefore, IsUpTo}
 use Rattle.esc_manifest.specs.declared.row.MRow.{MRow}
 use Rattle.esc_manifest.specs.ManifestRows.{place_at, resend_at}
 use Rattle.esc_manifest.specs.Accepted.{IsAccepted}
@@ -20,14 +19,11 @@ use Rattle.esc_chain.specs.Chain.{Rows, IsHeld, InRange, IsUsed, LeadsBack, IsLa
 use Rattle.esc_chain.specs.AtEnd.{ComesLast, GoesAtEnd, HasOneMore, LengthensLatest}
 use Rattle.esc_chain.proofs.Chains.{base_not_full, base_same}
 use Rattle.esc_chain.proofs.LatestEnd.{whole_is_full, unlisted_not_at}
+use Rattle.esc_chain.proofs.Places.{never_both}
 
 -- no place is before itself
 not_itself : (a b : Place) → IsBefore a b → a ≡ b → ⊥
-not_itself a b before same = by_parts (subst (IsBefore a) (sym same) before)
-  where
-    by_parts : IsBefore a a → ⊥
-    by_parts (inl lt) = omega (arith, ints)
-    by_parts (inr tie) = let lt : rank a.kind < rank a.kind = tie.1 in omega arith
+not_itself a b before same = let itself = subst (IsBefore a) (sym same) before in never_both a a itself itself
 
 -- the rows of a list, as a set
 in_list : (rows : List ℕ) (q : ℕ) → IsHeld (set.from_list rows) q → Contains rows q
@@ -64,11 +60,7 @@ module _ (m : List MRow) (rows : List ℕ) (t : Option ℤ) (r : ℕ) (last : Co
 
   -- another row of its place is no other row
   is_last : (q : ℕ) → IsHeld all q → place_at m q ≡ place_at m r → q ≡ r
-  is_last q held same = by_order (last.last q (in_list rows q held)).1
-    where
-      by_order : (q ≡ r) ⊎ IsBefore (place_at m q) (place_at m r) → q ≡ r
-      by_order (inl is) = is
-      by_order (inr before) = absurd (not_itself _ _ before same)
+  is_last q held same = elim (last.last q (in_list rows q held)).1 [ inl is ↦ is | inr before ↦ absurd (not_itself _ _ before same) ]
 
   used_last : IsUsed m all r
   used_last = record {
@@ -77,24 +69,22 @@ module _ (m : List MRow) (rows : List ℕ) (t : Option ℤ) (r : ℕ) (last : Co
   }
 
   used_still : (q : ℕ) → IsUsed m h q → IsUsed m all q
-  used_still q used = record { held = still_held q used.held; greatest = λ x held same. by_row x same ((more x).0 (in_list rows x held)) }
-    where
-      by_row : (x : ℕ) → place_at m x ≡ place_at m q → IsHeld h x ⊎ (x ≡ r) → resend_at m x ≤ resend_at m q
-      by_row x same (inl old) = used.greatest x old same
-      by_row x same (inr new) =
+  used_still q used = record {
+    held = still_held q used.held;
+    greatest = λ x held same. elim ((more x).0 (in_list rows x held)) [
+      | inl old ↦ used.greatest x old same
+      | inr new ↦
           let is : q ≡ r = is_last q (still_held q used.held) (sym same ∙ ap (place_at m) new) in
           subst (λ (y : ℕ). resend_at m x ≤ resend_at m y) (new ∙ sym is) (omega arith)
+    ];
+  }
 
   leads_still : (q : ℕ) (rest : List ℕ) → LeadsBack m h q rest → LeadsBack m all q rest
   leads_still q [] full = full
   leads_still q (s ∷ rest) leads = (leads.0, used_still s leads.1, leads_still s rest leads.2)
 
   none_later : (q : ℕ) → IsHeld all q → IsUpTo (place_at m q) (place_at m r)
-  none_later q held = by_order (last.last q (in_list rows q held)).1
-    where
-      by_order : (q ≡ r) ⊎ IsBefore (place_at m q) (place_at m r) → IsUpTo (place_at m q) (place_at m r)
-      by_order (inl is) = inr (ap (place_at m) is)
-      by_order (inr before) = inl before
+  none_later q held = elim (last.last q (in_list rows q held)).1 [ inl is ↦ inr (ap (place_at m) is) | inr before ↦ inl before ]
 
   lengthened : (s : ℕ) (rest : List ℕ) → IsBase m r (At (place_at m s)) → IsLatestBackAt m h t (s ∷ rest) → IsLatestBackAt m all t (r ∷ s ∷ rest)
   lengthened s rest base latest =

@@ -1,5 +1,6 @@
 -- From a row there is one way back, and there is one latest chain.
-use Rattle.std.proofs.Common.{◌≡◌, ◌↔◌, ℕ, ℤ, Bool, true, false, IsTrue, List, [], ◌∷◌, reverse, Option, refl, sym, ap, subst, ◌∙◌}
+use Rattle.std.proofs.Common.{◌≡◌, ◌↔◌, ℕ, ℤ, List, [], ◌∷◌, reverse, Option, refl, sym, ap, subst, ◌∙◌}
+use Rattle.std.specs.Bool.{one_answer}
 use Rattle.std.specs.FinSet as set
 use Rattle.std.specs.Cmp.{nat_cmp_total}
 use Rattle.std.proofs.lemmas.List.{reverse-reverse}
@@ -33,13 +34,7 @@ module _ (m : List MRow) (h : Rows) (ok : IsAccepted m) (range : InRange m h) wh
 
 -- sets of the same rows are one
 pub same_rows : (h g : Rows) → ((r : ℕ) → IsHeld h r ↔ IsHeld g r) → h ≡ g
-same_rows h g same = set.same_set nat_cmp_total set.nat_cmp-IsAntisymmetric h g (λ r. same_test _ _ (same r))
-  where
-    same_test : (a b : Bool) → IsTrue a ↔ IsTrue b → a ≡ b
-    same_test true true e = refl
-    same_test true false e = sym (e.0 refl)
-    same_test false true e = e.1 refl
-    same_test false false e = refl
+same_rows h g same = set.same_set nat_cmp_total set.nat_cmp-IsAntisymmetric h g (λ r. one_answer (set.contains h r) (set.contains g r) (same r) (λ held. held, λ held. held))
 
 -- there is one latest chain, by the rows that are held
 pub latest_at_is_one : (m : List MRow) (h g : Rows) (t : Option ℤ) (c d : List ℕ) → IsAccepted m → InRange m h

@@ -56,7 +56,7 @@ fn comes_last(listed: &[MRow], rows: &[usize], moment: Option<i64>, row: usize) 
 }
 
 // Whether the watermark of a place isn't later than a moment, if there is one.
-fn is_by(moment: Option<i64>, place: Place) -> bool
+pub(crate) fn is_by(moment: Option<i64>, place: Place) -> bool
     ensures { IsTrue result ↔ IsBy moment place.watermark }
 {
     match moment {

@@ -14,9 +14,10 @@ ghost use Rattle.esc_chain.specs.Chain.{
 };
 
 use crate::Held;
+use crate::at_end::is_by;
 use crate::bases::bases;
 use crate::predecessors::{Link, last_with_way, links};
-use crate::revision::{in_order, used_rows};
+use crate::revision::{in_order, place_of_row, used_rows};
 use esc_bundle::NoMemory;
 use esc_manifest::{MRow, Manifest};
 use std::alloc::Global;
@@ -103,12 +104,5 @@ fn is_until(rows: &[MRow], held: &Held, row: usize, moment: Option<i64>) -> bool
     requires { row < length rows.now }
     ensures { IsTrue result ↔ (IsHeld held.now row × IsBy moment (watermark_at rows.now row)) }
 {
-    if !held.contains(row) {
-        return false;
-    }
-    let header = &rows[row].header;
-    match moment {
-        Some(moment) => header.place.watermark <= moment,
-        None => true,
-    }
+    held.contains(row) && is_by(moment, place_of_row(rows, row))
 }

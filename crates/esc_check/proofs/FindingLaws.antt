@@ -2,7 +2,7 @@
 use Rattle.std.proofs.Common.{◌≡◌, ◌≢◌, ◌⊎◌, inl, inr, ℕ, ℤ, Bool, true, false, cond, not, ◌&&◌, List, [], ◌∷◌, ◌++◌, Option, Some, None, is_some, refl, sym, ap, subst, ◌∙◌, arith}
 use Rattle.std.specs.Prelude.{◌↔◌, codes, ◌<ℤ◌, ◌==◌, int_lt}
 use Rattle.std.proofs.lemmas.Int.{ints}
-use Rattle.std.proofs.lemmas.Bool.{and_parts, eqb-false, ne_eqb, false≢true}
+use Rattle.std.proofs.lemmas.Bool.{and_parts, eqb-false, false_from_ne_true, ne_eqb, not_from_false, false≢true}
 use Rattle.std.specs.List.{Contains, IsDistinct, flat_map, list_any}
 use Rattle.std.specs.List.Sorted.{IsStrictlySortedBy}
 use Rattle.std.specs.Map.{keys_of}
@@ -22,7 +22,7 @@ use Rattle.esc_check.specs.declared.field.LinkField.{LinkField}
 use Rattle.esc_check.specs.Export.{is_of_table}
 use Rattle.esc_check.specs.Fields.{cell, field_name, is_domain, parent_fields, child_field, status_table, created, expires}
 use Rattle.esc_check.specs.FindingValue.{FindingValue}
-use Rattle.esc_check.specs.Findings.{IsMissing, IsMiscounted, IsUnknown, IsMixed, IsLate, IsEarly, IsMalformed, IsOfDates, IsOwn, IsFinding, missing_target, miscounted, unknown_status, mixed_status, late, early, malformed}
+use Rattle.esc_check.specs.Findings.{IsMissing, IsMiscounted, IsUnknown, IsMixed, IsLate, IsEarly, IsMalformed, IsOwn, IsFinding, missing_target, miscounted, unknown_status, mixed_status, late, early, malformed}
 use Rattle.esc_check.specs.Gathered.{is_empty_text, text_links, field_links, row_links, child_links, links_of, is_present, link_findings, count_of_kind, count_findings, row_status, statuses_in, statuses_of, is_status, is_ok, is_mixed, one_unknown, status_findings, is_known_after, is_known_before, is_malformed, late_findings, early_findings, malformed_findings, moment_findings, form_findings, own_findings, object_findings}
 use Rattle.esc_check.specs.LinkValue.{LinkValue, link_to_name}
 use Rattle.esc_check.specs.Links.{LinksBy, IsLinkOf}
@@ -30,7 +30,7 @@ use Rattle.esc_check.specs.Statuses.{status_words, IsStatusOf}
 use Rattle.esc_check.specs.TableMap.{content_of_entries}
 use Rattle.esc_tables.specs.KeyLaws.{keys_alike, one_key}
 use Rattle.esc_check.proofs.Keys.{count_has, count_is}
-use Rattle.esc_check.proofs.Members.{from_pieces, in_pieces, from_chosen, in_chosen, from_any, any_from}
+use Rattle.esc_check.proofs.Members.{from_pieces, in_pieces, from_chosen, in_chosen, from_any, any_from, appended}
 
 lt_is : (a b : ℤ) → int_lt a b ≡ true → a <ℤ b
 lt_is a b h = grind (arith, ints)
@@ -39,21 +39,13 @@ is_lt : (a b : ℤ) → a <ℤ b → int_lt a b ≡ true
 is_lt a b h = grind (arith, ints)
 
 -- what one test gives
-given : (b : Bool) (x f : FindingValue) → Contains (cond b (x ∷ []) []) f → (b ≡ true) × (f ≡ x)
-given true x f h = (refl, sym (only x f h))
-given false x f h = absurd (nothing_in f h)
+given : (b : Bool) (x f : FindingValue) → Contains (cond b (x ∷ []) []) f ↔ ((b ≡ true) × (f ≡ x))
+given true x f = (λ h. (refl, sym (only x f h)), λ p. subst (λ (g : FindingValue). Contains (x ∷ []) g) (sym p.1) (first_in x []))
+given false x f = (λ h. absurd (nothing_in f h), λ p. absurd (false≢true p.0))
 
-give : (b : Bool) (x f : FindingValue) → b ≡ true → f ≡ x → Contains (cond b (x ∷ []) []) f
-give b x f holds is =
-    subst (λ (d : Bool). Contains (cond d (x ∷ []) []) f) (sym holds) (subst (λ (g : FindingValue). Contains (x ∷ []) g) (sym is) (first_in x []))
-
-unless : (b : Bool) (x f : FindingValue) → Contains (cond b [] (x ∷ [])) f → (b ≡ false) × (f ≡ x)
-unless false x f h = (refl, sym (only x f h))
-unless true x f h = absurd (nothing_in f h)
-
-give_unless : (b : Bool) (x f : FindingValue) → b ≡ false → f ≡ x → Contains (cond b [] (x ∷ [])) f
-give_unless b x f fails is =
-    subst (λ (d : Bool). Contains (cond d [] (x ∷ [])) f) (sym fails) (subst (λ (g : FindingValue). Contains (x ∷ []) g) (sym is) (first_in x []))
+unless : (b : Bool) (x f : FindingValue) → Contains (cond b [] (x ∷ [])) f ↔ ((b ≡ false) × (f ≡ x))
+unless false x f = (λ h. (refl, sym (only x f h)), λ p. subst (λ (g : FindingValue). Contains (x ∷ []) g) (sym p.1) (first_in x []))
+unless true x f = (λ h. absurd (nothing_in f h), λ p. absurd (false≢true (sym p.0)))
 
 gone : {X : Type 0} (o : Option X) → not (is_some o) ≡ true → o ≡ None
 gone None h = refl
@@ -80,25 +72,20 @@ row_names : (k : KeyName) (r : RowValue) (o : Option LinkField) (l : LinkValue) 
 row_names k r None l h = absurd (nothing_in l h)
 row_names k r (Some g) l h = (g, refl, names k g (cell (field_name g) r) l h)
 
-links_are : (k : KeyName) (o : ObjectValue) (l : LinkValue) → Contains (links_of k o) l → IsLinkOf k o l
-links_are k o l h = pick (Contains-append_cases (flat_map (field_links k o.parent) (parent_fields k.kind)) (flat_map (child_links k) o.children) l h)
-  where
-    pick : Contains (flat_map (field_links k o.parent) (parent_fields k.kind)) l ⊎ Contains (flat_map (child_links k) o.children) l → IsLinkOf k o l
-    pick (inl a) =
-        let r = from_pieces (field_links k o.parent) (parent_fields k.kind) l a in
-        inl (r.0, r.1, names k r.0 (cell (field_name r.0) o.parent) l r.2)
-    pick (inr b) =
-        let r = from_pieces (child_links k) o.children l b in
-        let n = row_names k r.0 (child_field k.kind r.0.table) l r.2 in
-        inr (r.0, n.0, r.1, n.1, n.2)
-
-are_links : (k : KeyName) (o : ObjectValue) (l : LinkValue) → IsLinkOf k o l → Contains (links_of k o) l
-are_links k o l (inl (g, has, by)) =
-    Contains-append_left (flat_map (field_links k o.parent) (parent_fields k.kind)) (flat_map (child_links k) o.children) l
-    (in_pieces (field_links k o.parent) (parent_fields k.kind) g l has (named k g (cell (field_name g) o.parent) l by.0 by.1))
-are_links k o l (inr (r, g, has, table, by)) =
-    Contains-append_right (flat_map (field_links k o.parent) (parent_fields k.kind)) (flat_map (child_links k) o.children) l
-    (in_pieces (child_links k) o.children r l has (subst (λ (x : Option LinkField). Contains (row_links k r x) l) (sym table) (named k g (cell (field_name g) r) l by.0 by.1)))
+links_are : (k : KeyName) (o : ObjectValue) (l : LinkValue) → Contains (links_of k o) l ↔ IsLinkOf k o l
+links_are k o l = appended (flat_map (field_links k o.parent) (parent_fields k.kind)) (flat_map (child_links k) o.children) l (
+  λ a. let (g, has, named_so) = from_pieces (field_links k o.parent) (parent_fields k.kind) l a in
+      (g, has, names k g (cell (field_name g) o.parent) l named_so),
+  λ p. let (g, has, by) = p in
+      in_pieces (field_links k o.parent) (parent_fields k.kind) g l has (named k g (cell (field_name g) o.parent) l by.0 by.1),
+) (
+  λ b. let (r, has, named_so) = from_pieces (child_links k) o.children l b in
+      let (g, table, by) = row_names k r (child_field k.kind r.table) l named_so in
+      (r, g, has, table, by),
+  λ p. let (r, g, has, table, by) = p in
+      in_pieces (child_links k) o.children r l has
+      (subst (λ (x : Option LinkField). Contains (row_links k r x) l) (sym table) (named k g (cell (field_name g) r) l by.0 by.1)),
+)
 
 from_of : (k : KeyName) (o : ObjectValue) (l : LinkValue) → IsLinkOf k o l → l.from ≡ k
 from_of k o l (inl (g, has, by)) = ap (λ (m : LinkValue). m.from) by.1
@@ -107,7 +94,7 @@ from_of k o l (inr (r, g, has, table, by)) = ap (λ (m : LinkValue). m.from) by.
 links_found : (es : List Entry) (k : KeyName) (o : ObjectValue) (f : FindingValue) → content_of_entries es k ≡ Some o → Contains (link_findings (is_present es) (links_of k o)) f → IsMissing (content_of_entries es) f
 links_found es k o f at h =
     let r = from_chosen (λ (l : LinkValue). not (is_present es l.to)) missing_target (links_of k o) f h in
-    let link = links_are k o r.0 r.1 in
+    let link = (links_are k o r.0).0 r.1 in
     let from = from_of k o r.0 link in (
       r.0,
       (o, subst (λ (q : KeyName). content_of_entries es q ≡ Some o) (sym from) at, subst (λ (q : KeyName). IsLinkOf q o r.0) (sym from) link),
@@ -120,7 +107,7 @@ found_links : (es : List Entry) (k : KeyName) (o : ObjectValue) (l : LinkValue) 
 found_links es k o l f link absent is =
     let lost : not (is_present es l.to) ≡ true = ap (λ (x : Option ObjectValue). not (is_some x)) absent in
     subst (λ (g : FindingValue). Contains (link_findings (is_present es) (links_of k o)) g) (sym is)
-    (in_chosen (λ (m : LinkValue). not (is_present es m.to)) missing_target (links_of k o) l (are_links k o l link) lost)
+    (in_chosen (λ (m : LinkValue). not (is_present es m.to)) missing_target (links_of k o) l ((links_are k o l).1 link) lost)
 
 -- V2
 
@@ -128,7 +115,7 @@ counts_found : (es : List Entry) (counts : List (Kind × ℕ)) (f : FindingValue
 counts_found es counts f apart h =
     let r = from_pieces (count_findings (keys_of es)) counts f h in
     let n = count_of_kind (keys_of es) r.0.0 in
-    let u = unless (n == r.0.1) (miscounted r.0.0 r.0.1 n) f r.2 in
+    let u = (unless (n == r.0.1) (miscounted r.0.0 r.0.1 n) f).0 r.2 in
     (r.0.0, r.0.1, n, r.1, count_has es r.0.0 apart, eqb-false n r.0.1 u.0, u.1)
 
 found_counts : (es : List Entry) (counts : List (Kind × ℕ)) (f : FindingValue) → IsDistinct key_eq (keys_of es) → IsMiscounted (content_of_entries es) counts f → Contains (flat_map (count_findings (keys_of es)) counts) f
@@ -136,7 +123,7 @@ found_counts es counts f apart (kind, declared, n, has, many, other, is) =
     let c = count_of_kind (keys_of es) kind in
     let same : n ≡ c = count_is es kind n apart many in
     in_pieces (count_findings (keys_of es)) counts (kind, declared) f has
-    (give_unless (c == declared) (miscounted kind declared c) f (ne_eqb c declared (subst (λ (m : ℕ). m ≢ declared) same other)) (is ∙ ap (miscounted kind declared) same))
+    ((unless (c == declared) (miscounted kind declared c) f).1 (ne_eqb c declared (subst (λ (m : ℕ). m ≢ declared) same other), is ∙ ap (miscounted kind declared) same))
 
 -- V3 and V4
 
@@ -178,13 +165,9 @@ unlisted : (k : Kind) (s : List ℕ) → is_status k s ≡ false → Contains (s
 unlisted k s h has = false≢true (sym h ∙ any_from (λ (w : List ℕ). bytes_eq w s) (status_words k) s has ((bytes_eq-Decides s s).1 refl))
 
 is_unlisted : (k : Kind) (s : List ℕ) → (Contains (status_words k) s → ⊥) → is_status k s ≡ false
-is_unlisted k s h = pick (is_status k s) refl
-  where
-    pick : (b : Bool) → is_status k s ≡ b → b ≡ false
-    pick false e = refl
-    pick true e =
-        let w = from_any (λ (w : List ℕ). bytes_eq w s) (status_words k) e in
-        absurd (h (subst (λ (t : List ℕ). Contains (status_words k) t) ((bytes_eq-Decides w.0 s).0 w.2) w.1))
+is_unlisted k s h = false_from_ne_true (is_status k s) (λ e.
+    let w = from_any (λ (w : List ℕ). bytes_eq w s) (status_words k) e in
+    h (subst (λ (t : List ℕ). Contains (status_words k) t) ((bytes_eq-Decides w.0 s).0 w.2) w.1))
 
 domain_is : (k : Kind) → is_domain k ≡ true → k ≡ Domain
 domain_is Domain h = refl
@@ -201,11 +184,7 @@ other_is : (s : List ℕ) → not (is_ok s) ≡ true → s ≢ codes "ok"
 other_is s h = λ e. false≢true (sym (ap (λ (t : List ℕ). not (is_ok t)) e) ∙ h)
 
 is_other : (s : List ℕ) → s ≢ codes "ok" → not (is_ok s) ≡ true
-is_other s h = pick (is_ok s) refl
-  where
-    pick : (b : Bool) → is_ok s ≡ b → not b ≡ true
-    pick true e = absurd (h (ok_is s e))
-    pick false e = refl
+is_other s h = not_from_false (is_ok s) (false_from_ne_true (is_ok s) (λ e. h (ok_is s e)))
 
 mixed_is : (k : KeyName) (o : ObjectValue) (f : FindingValue) → is_mixed k.kind (statuses_of k o) ≡ true → f ≡ mixed_status k → IsMixed k o f
 mixed_is k o f h is =
@@ -227,24 +206,18 @@ is_mixed_of k o f (domain, ok, (s, has, other), is) =
     let two : rest ≡ true = any_from (λ (t : List ℕ). not (is_ok t)) ss s (are_statuses k o s has) (is_other s other) in
     ap (λ (d : Kind). is_domain d && (list_any is_ok ss && rest)) domain ∙ ap (λ (b : Bool). b && rest) one ∙ two
 
-statuses_found : (k : KeyName) (o : ObjectValue) (f : FindingValue) → Contains (status_findings k (statuses_of k o)) f → IsUnknown k o f ⊎ IsMixed k o f
-statuses_found k o f h = pick (Contains-append_cases (flat_map (one_unknown k) (statuses_of k o)) (cond (is_mixed k.kind (statuses_of k o)) (mixed_status k ∷ []) []) f h)
-  where
-    pick : Contains (flat_map (one_unknown k) (statuses_of k o)) f ⊎ Contains (cond (is_mixed k.kind (statuses_of k o)) (mixed_status k ∷ []) []) f → IsUnknown k o f ⊎ IsMixed k o f
-    pick (inl a) =
-        let r = from_pieces (one_unknown k) (statuses_of k o) f a in
-        let u = unless (is_status k.kind r.0) (unknown_status k r.0) f r.2 in
-        inl (r.0, statuses_are k o r.0 r.1, unlisted k.kind r.0 u.0, u.1)
-    pick (inr b) =
-        let g = given (is_mixed k.kind (statuses_of k o)) (mixed_status k) f b in
-        inr (mixed_is k o f g.0 g.1)
-
-found_statuses : (k : KeyName) (o : ObjectValue) (f : FindingValue) → IsUnknown k o f ⊎ IsMixed k o f → Contains (status_findings k (statuses_of k o)) f
-found_statuses k o f (inl (s, has, other, is)) =
-    Contains-append_left (flat_map (one_unknown k) (statuses_of k o)) _ f
-    (in_pieces (one_unknown k) (statuses_of k o) s f (are_statuses k o s has) (give_unless (is_status k.kind s) (unknown_status k s) f (is_unlisted k.kind s other) is))
-found_statuses k o f (inr m) =
-    Contains-append_right (flat_map (one_unknown k) (statuses_of k o)) _ f (give (is_mixed k.kind (statuses_of k o)) (mixed_status k) f (is_mixed_of k o f m) m.3)
+statuses_found : (k : KeyName) (o : ObjectValue) (f : FindingValue) → Contains (status_findings k (statuses_of k o)) f ↔ (IsUnknown k o f ⊎ IsMixed k o f)
+statuses_found k o f =
+    let mixed = given (is_mixed k.kind (statuses_of k o)) (mixed_status k) f in
+    appended (flat_map (one_unknown k) (statuses_of k o)) (cond (is_mixed k.kind (statuses_of k o)) (mixed_status k ∷ []) []) f (
+      λ a. let (s, has, one) = from_pieces (one_unknown k) (statuses_of k o) f a in
+          let u = (unless (is_status k.kind s) (unknown_status k s) f).0 one in
+          (s, statuses_are k o s has, unlisted k.kind s u.0, u.1),
+      λ p. let (s, has, other, is) = p in
+          in_pieces (one_unknown k) (statuses_of k o) s f (are_statuses k o s has)
+          ((unless (is_status k.kind s) (unknown_status k s) f).1 (is_unlisted k.kind s other, is)),
+    )
+    (λ b. let g = mixed.0 b in mixed_is k o f g.0 g.1, λ m. mixed.1 (is_mixed_of k o f m, m.3))
 
 -- V5, V6 and V7
 
@@ -257,73 +230,45 @@ before_is None d h = absurd (false≢true h)
 before_is (Some m) None h = absurd (false≢true h)
 before_is (Some m) (Some n) h = (m, n, refl, refl, lt_is m n h)
 
-moments_found : (w : ℤ) (k : KeyName) (o : ObjectValue) (f : FindingValue) → Contains (moment_findings w (printed w) k (created k o) (expires k o)) f → IsLate w k o f ⊎ IsEarly k o f
-moments_found w k o f h = pick (Contains-append_cases (late_findings w (printed w) k (created k o)) (early_findings k (expires k o) (created k o)) f h)
-  where
-    pick : Contains (late_findings w (printed w) k (created k o)) f ⊎ Contains (early_findings k (expires k o) (created k o)) f → IsLate w k o f ⊎ IsEarly k o f
-    pick (inl a) =
-        let g = given (is_known_after (watermark_of (created k o)) w) (late k (created k o) (printed w)) f a in
-        let d = after_is (watermark_of (created k o)) w g.0 in
-        inl (d.0, d.1, d.2, g.1)
-    pick (inr b) =
-        let g = given (is_known_before (watermark_of (expires k o)) (watermark_of (created k o))) (early k (expires k o) (created k o)) f b in
-        let d = before_is (watermark_of (expires k o)) (watermark_of (created k o)) g.0 in
-        inr (d.0, d.1, d.2, d.3, d.4, g.1)
+moments_found : (w : ℤ) (k : KeyName) (o : ObjectValue) (f : FindingValue) → Contains (moment_findings w (printed w) k (created k o) (expires k o)) f ↔ (IsLate w k o f ⊎ IsEarly k o f)
+moments_found w k o f =
+    let creation : Option ℤ = watermark_of (created k o) in
+    let expiry : Option ℤ = watermark_of (expires k o) in
+    let after = given (is_known_after creation w) (late k (created k o) (printed w)) f in
+    let before = given (is_known_before expiry creation) (early k (expires k o) (created k o)) f in
+    appended (late_findings w (printed w) k (created k o)) (early_findings k (expires k o) (created k o)) f (
+      λ a. let g = after.0 a in
+          let (d, at, later) = after_is creation w g.0 in
+          (d, at, later, g.1),
+      λ p. let (d, at, later, is) = p in after.1 (ap (λ (x : Option ℤ). is_known_after x w) at ∙ is_lt w d later, is),
+    ) (
+      λ b. let g = before.0 b in
+          let (e, d, at_expiry, at_creation, sooner) = before_is expiry creation g.0 in
+          (e, d, at_expiry, at_creation, sooner, g.1),
+      λ p. let (e, d, at_expiry, at_creation, sooner, is) = p in
+          before.1 (ap (λ (x : Option ℤ). is_known_before x creation) at_expiry ∙ ap (is_known_before (Some e)) at_creation ∙ is_lt e d sooner, is),
+    )
 
-found_moments : (w : ℤ) (k : KeyName) (o : ObjectValue) (f : FindingValue) → IsLate w k o f ⊎ IsEarly k o f → Contains (moment_findings w (printed w) k (created k o) (expires k o)) f
-found_moments w k o f (inl (d, at, later, is)) =
-    Contains-append_left (late_findings w (printed w) k (created k o)) (early_findings k (expires k o) (created k o)) f
-    (give (is_known_after (watermark_of (created k o)) w) (late k (created k o) (printed w)) f (ap (λ (x : Option ℤ). is_known_after x w) at ∙ is_lt w d later) is)
-found_moments w k o f (inr (e, d, expiry, creation, sooner, is)) =
-    let holds : is_known_before (watermark_of (expires k o)) (watermark_of (created k o)) ≡ true =
-    ap (λ (x : Option ℤ). is_known_before x (watermark_of (created k o))) expiry ∙ ap (is_known_before (Some e)) creation ∙ is_lt e d sooner in
-    Contains-append_right (late_findings w (printed w) k (created k o)) (early_findings k (expires k o) (created k o)) f
-    (give (is_known_before (watermark_of (expires k o)) (watermark_of (created k o))) (early k (expires k o) (created k o)) f holds is)
-
-malformed_found : (k : KeyName) (field text : List ℕ) (f : FindingValue) → Contains (malformed_findings k field text) f → IsMalformed k field text f
-malformed_found k field text f h =
-    let g = given (is_malformed text) (malformed k field text) f h in
-    let p = and_parts _ _ g.0 in
-    (λ e. false≢true (sym (ap (λ (t : List ℕ). not (is_empty_text t)) e) ∙ p.0), gone (watermark_of text) p.1, g.1)
-
-found_malformed : (k : KeyName) (field text : List ℕ) (f : FindingValue) → IsMalformed k field text f → Contains (malformed_findings k field text) f
-found_malformed k field text f (some, none, is) =
-    let holds : is_malformed text ≡ true =
-    ap (λ (b : Bool). not b && not (is_some (watermark_of text))) (not_empty text some) ∙ ap (λ (x : Option ℤ). not (is_some x)) none in
-    give (is_malformed text) (malformed k field text) f holds is
-
-forms_found : (k : KeyName) (c e : List ℕ) (f : FindingValue) → Contains (form_findings k c e) f → IsMalformed k (codes "crDate") c f ⊎ IsMalformed k (codes "exDate") e f
-forms_found k c e f h = pick (Contains-append_cases (malformed_findings k (codes "crDate") c) (malformed_findings k (codes "exDate") e) f h)
-  where
-    pick : Contains (malformed_findings k (codes "crDate") c) f ⊎ Contains (malformed_findings k (codes "exDate") e) f → IsMalformed k (codes "crDate") c f ⊎ IsMalformed k (codes "exDate") e f
-    pick (inl a) = inl (malformed_found k (codes "crDate") c f a)
-    pick (inr b) = inr (malformed_found k (codes "exDate") e f b)
-
-found_forms : (k : KeyName) (c e : List ℕ) (f : FindingValue) → IsMalformed k (codes "crDate") c f ⊎ IsMalformed k (codes "exDate") e f → Contains (form_findings k c e) f
-found_forms k c e f (inl m) = Contains-append_left (malformed_findings k (codes "crDate") c) (malformed_findings k (codes "exDate") e) f (found_malformed k (codes "crDate") c f m)
-found_forms k c e f (inr m) = Contains-append_right (malformed_findings k (codes "crDate") c) (malformed_findings k (codes "exDate") e) f (found_malformed k (codes "exDate") e f m)
+malformed_found : (k : KeyName) (field text : List ℕ) (f : FindingValue) → Contains (malformed_findings k field text) f ↔ IsMalformed k field text f
+malformed_found k field text f =
+    let test = given (is_malformed text) (malformed k field text) f in (
+      λ h. let g = test.0 h in
+          let p = and_parts _ _ g.0 in
+          (λ e. false≢true (sym (ap (λ (t : List ℕ). not (is_empty_text t)) e) ∙ p.0), gone (watermark_of text) p.1, g.1),
+      λ m. let (some, none, is) = m in
+          test.1 (ap (λ (b : Bool). not b && not (is_some (watermark_of text))) (not_empty text some) ∙ ap (λ (x : Option ℤ). not (is_some x)) none, is),
+    )
 
 -- all of them
 
-own_found : (w : ℤ) (k : KeyName) (o : ObjectValue) (f : FindingValue) → Contains (own_findings w (printed w) k o) f → IsOwn w k o f
-own_found w k o f h = first (Contains-append_cases (status_findings k (statuses_of k o)) _ f h)
-  where
-    second : Contains (moment_findings w (printed w) k (created k o) (expires k o)) f ⊎ Contains (form_findings k (created k o) (expires k o)) f → IsOfDates w k o f
-    second (inl a) = inl (moments_found w k o f a)
-    second (inr b) = inr (forms_found k (created k o) (expires k o) f b)
-
-    first : Contains (status_findings k (statuses_of k o)) f ⊎ Contains (moment_findings w (printed w) k (created k o) (expires k o) ++ form_findings k (created k o) (expires k o)) f → IsOwn w k o f
-    first (inl a) = inl (statuses_found k o f a)
-    first (inr b) = inr (second (Contains-append_cases (moment_findings w (printed w) k (created k o) (expires k o)) _ f b))
-
-found_own : (w : ℤ) (k : KeyName) (o : ObjectValue) (f : FindingValue) → IsOwn w k o f → Contains (own_findings w (printed w) k o) f
-found_own w k o f (inl s) = Contains-append_left (status_findings k (statuses_of k o)) _ f (found_statuses k o f s)
-found_own w k o f (inr (inl m)) =
-    Contains-append_right (status_findings k (statuses_of k o)) _ f
-    (Contains-append_left (moment_findings w (printed w) k (created k o) (expires k o)) (form_findings k (created k o) (expires k o)) f (found_moments w k o f m))
-found_own w k o f (inr (inr m)) =
-    Contains-append_right (status_findings k (statuses_of k o)) _ f
-    (Contains-append_right (moment_findings w (printed w) k (created k o) (expires k o)) (form_findings k (created k o) (expires k o)) f (found_forms k (created k o) (expires k o) f m))
+own_found : (w : ℤ) (k : KeyName) (o : ObjectValue) (f : FindingValue) → Contains (own_findings w (printed w) k o) f ↔ IsOwn w k o f
+own_found w k o f =
+    let c : List ℕ = created k o in
+    let e : List ℕ = expires k o in
+    appended (status_findings k (statuses_of k o)) (moment_findings w (printed w) k c e ++ form_findings k c e) f (statuses_found k o f)
+    (appended (moment_findings w (printed w) k c e) (form_findings k c e) f (moments_found w k o f)
+    (appended (malformed_findings k (codes "crDate") c) (malformed_findings k (codes "exDate") e) f
+    (malformed_found k (codes "crDate") c f) (malformed_found k (codes "exDate") e f)))
 
 -- what is gathered of these entries, of which each has a key of its own
 module _ (es : List Entry) (w : ℤ) (counts : List (Kind × ℕ)) (apart : IsDistinct key_eq (keys_of es)) where
@@ -334,30 +279,28 @@ module _ (es : List Entry) (w : ℤ) (counts : List (Kind × ℕ)) (apart : IsDi
   declared = count_findings (keys_of es)
 
   object_found : (k : KeyName) (o : ObjectValue) (f : FindingValue) → content_of_entries es k ≡ Some o → Contains (pieces (k, o)) f → IsFinding (content_of_entries es) w counts f
-  object_found k o f at h = pick (Contains-append_cases (link_findings (is_present es) (links_of k o)) (own_findings w (printed w) k o) f h)
-    where
-      pick : Contains (link_findings (is_present es) (links_of k o)) f ⊎ Contains (own_findings w (printed w) k o) f → IsFinding (content_of_entries es) w counts f
-      pick (inl a) = inl (links_found es k o f at a)
-      pick (inr b) = inr (inr (k, o, at, own_found w k o f b))
+  object_found k o f at h = elim (Contains-append_cases (link_findings (is_present es) (links_of k o)) (own_findings w (printed w) k o) f h) [
+    | inl a ↦ inl (links_found es k o f at a)
+    | inr b ↦ inr (inr (k, o, at, (own_found w k o f).0 b))
+  ]
 
   found_in : (k : KeyName) (o : ObjectValue) (f : FindingValue) → content_of_entries es k ≡ Some o → Contains (pieces (k, o)) f → Contains (flat_map pieces es ++ flat_map declared counts) f
   found_in k o f at h = Contains-append_left (flat_map pieces es) (flat_map declared counts) f (in_pieces pieces es (k, o) f (Contains-from_lookup one_key k o es at) h)
 
   pub to_findings : (f : FindingValue) → Contains (flat_map pieces es ++ flat_map declared counts) f → IsFinding (content_of_entries es) w counts f
-  to_findings f h = pick (Contains-append_cases (flat_map pieces es) (flat_map declared counts) f h)
-    where
-      pick : Contains (flat_map pieces es) f ⊎ Contains (flat_map declared counts) f → IsFinding (content_of_entries es) w counts f
-      pick (inl a) =
-          let r = from_pieces pieces es f a in
-          object_found r.0.0 r.0.1 f (lookup-from_Contains keys_alike r.0.0 r.0.1 es apart r.1) r.2
-      pick (inr b) = inr (inl (counts_found es counts f apart b))
+  to_findings f h = elim (Contains-append_cases (flat_map pieces es) (flat_map declared counts) f h) [
+    | inl a ↦
+        let r = from_pieces pieces es f a in
+        object_found r.0.0 r.0.1 f (lookup-from_Contains keys_alike r.0.0 r.0.1 es apart r.1) r.2
+    | inr b ↦ inr (inl (counts_found es counts f apart b))
+  ]
 
   pub from_findings : (f : FindingValue) → IsFinding (content_of_entries es) w counts f → Contains (flat_map pieces es ++ flat_map declared counts) f
   from_findings f (inl (l, (o, at, link), absent, is)) =
       found_in l.from o f at (Contains-append_left (link_findings (is_present es) (links_of l.from o)) _ f (found_links es l.from o l f link absent is))
   from_findings f (inr (inl m)) = Contains-append_right (flat_map pieces es) (flat_map declared counts) f (found_counts es counts f apart m)
   from_findings f (inr (inr (k, o, at, own))) =
-      found_in k o f at (Contains-append_right (link_findings (is_present es) (links_of k o)) _ f (found_own w k o f own))
+      found_in k o f at (Contains-append_right (link_findings (is_present es) (links_of k o)) _ f ((own_found w k o f).1 own))
 
 -- what was gathered, as a set
 pub verified : (es : List Entry) (w at : ℤ) (shown : List ℕ) (counts : List (Kind × ℕ)) (before objects found v : List FindingValue) → IsStrictlySortedBy key_cmp (keys_of es)

@@ -1,13 +1,15 @@
 -- Keys that tie are one key, and how many of a list are of a kind.
-use Rattle.std.proofs.Common.{◌≡◌, ℕ, Bool, true, false, cond, List, [], ◌∷◌, length, filter, sym, ap, subst, ◌∙◌}
+use Rattle.std.proofs.Common.{◌≡◌, ℕ, Bool, true, false, List, length, filter, sym, ap, subst, ◌∙◌}
 use Rattle.std.specs.Prelude.{◌↔◌, IsSome}
 use Rattle.std.specs.Bool.{one_answer}
 use Rattle.std.proofs.lemmas.Bool.{eqb-true, eq-eqb}
 use Rattle.std.proofs.lemmas.List.{map-id}
 use Rattle.std.proofs.lemmas.List.Sums.{length-filter}
+use Rattle.std.proofs.lemmas.List.Kept.{AllPairs-filter}
+use Rattle.std.proofs.lemmas.Map.Keys.{apart_from_distinct, IsDistinct-from_apart}
 use Rattle.std.proofs.lemmas.Map.Made.{is_member-Decides, length-from_same_keys}
 use Rattle.std.proofs.lemmas.Map.Views.{IsSome-lookup_from_Contains, Contains-keys_from_lookup}
-use Rattle.std.specs.List.{Contains, IsDistinct, AllByRecursion}
+use Rattle.std.specs.List.{Contains, IsDistinct}
 use Rattle.std.specs.Map.{keys_of}
 use Rattle.esc_envelope.specs.declared.kind.Kind.{Kind}
 use Rattle.esc_envelope.specs.Kinds.{kind_rank, is_kind}
@@ -30,22 +32,9 @@ kind_itself k l e = eq-eqb (kind_rank k) (kind_rank l) (ap kind_rank e)
 
 -- what is kept of distinct keys is distinct
 
-all_kept : (P : KeyName → Type 0) (p : KeyName → Bool) (xs : List KeyName) → AllByRecursion P xs → AllByRecursion P (filter p xs)
-all_kept P p [] h = tt
-all_kept P p (x ∷ xs) h = pick (p x) (all_kept P p xs h.1)
-  where
-    pick : (b : Bool) → AllByRecursion P (filter p xs) → AllByRecursion P (cond b (x ∷ filter p xs) (filter p xs))
-    pick true rest = (h.0, rest)
-    pick false rest = rest
-
 distinct_kept : (p : KeyName → Bool) (xs : List KeyName) → IsDistinct key_eq xs → IsDistinct key_eq (filter p xs)
-unfolding IsDistinct
-distinct_kept p [] h = tt
-distinct_kept p (x ∷ xs) h = pick (p x) (all_kept (λ y. key_eq x y ≡ false) p xs h.0) (distinct_kept p xs h.1)
-  where
-    pick : (b : Bool) → AllByRecursion (λ y. key_eq x y ≡ false) (filter p xs) → IsDistinct key_eq (filter p xs) → IsDistinct key_eq (cond b (x ∷ filter p xs) (filter p xs))
-    pick true apart rest = (apart, rest)
-    pick false apart rest = rest
+distinct_kept p xs h =
+    IsDistinct-from_apart key_eq (filter p xs) (AllPairs-filter (λ x y. key_eq x y ≡ false) p xs (λ i j d lt below. apart_from_distinct key_eq xs i j d h lt below))
 
 -- the keys of a kind among those of entries
 

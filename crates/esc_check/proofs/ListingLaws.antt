@@ -1,9 +1,9 @@
 -- No two findings differ in nothing but what else they report, so they are in strict order.
-use Rattle.std.proofs.Common.{◌≡◌, inl, inr, ℕ, ℤ, cond, List, [], ◌∷◌, Option, Some, refl, sym, ap, subst, ◌∙◌}
+use Rattle.std.proofs.Common.{◌≡◌, inl, inr, ℕ, ℤ, ◌+◌, cond, List, [], ◌∷◌, get_or, Option, Some, refl, sym, ap, subst, ◌∙◌, arith}
 use Rattle.std.specs.Prelude.{◌↔◌, ◌==◌}
 use Rattle.std.specs.Cmp.Lexicographic.{slice_cmp}
 use Rattle.std.specs.Fmt.{decimal}
-use Rattle.std.specs.List.{Contains, IsDistinct, AllByRecursion}
+use Rattle.std.specs.List.{Contains, IsDistinct}
 use Rattle.std.specs.List.Sorted.{IsStrictlySortedBy}
 use Rattle.std.specs.Map.{keys_of}
 use Rattle.std.specs.Option.{option_map_or}
@@ -12,9 +12,9 @@ use Rattle.std.specs.Str.{bytes_eq}
 use Rattle.std.specs.declared.cmp.Ordering.{Ordering}
 use Rattle.std.specs.declared.cmp.Ordering.TheVariants.{Less, Equal, Greater}
 use Rattle.std.proofs.lemmas.Cmp.{nat_list_cmp_total, tied_itself}
-use Rattle.std.proofs.lemmas.Map.Keys.{IsDistinct-from_sorted}
+use Rattle.std.proofs.lemmas.Map.Keys.{IsDistinct-from_sorted, Less-from_sorted, sorted_from_all_adjacent}
+use Rattle.std.proofs.lemmas.List.Elements.{Contains-get_or}
 use Rattle.std.proofs.lemmas.Map.Lookups.{exact_unsigned, exact_bytes}
-use Rattle.esc_bundle.specs.ElementLaws.{first_in, later}
 use Rattle.esc_envelope.specs.declared.kind.Kind.{Kind}
 use Rattle.esc_envelope.specs.declared.kind.Kind.TheVariants.{Registrar, Contact, Host, Idn}
 use Rattle.esc_envelope.specs.Kinds.{kind_name, kind_rank}
@@ -32,6 +32,7 @@ use Rattle.esc_check.specs.LinkValue.{LinkValue}
 use Rattle.esc_check.specs.Links.{IsLinkOf}
 use Rattle.esc_check.specs.TableMap.{content_of_entries}
 use Rattle.esc_check.proofs.Keys.{count_is}
+use Rattle.esc_check.proofs.ListedLaws.{listing_total}
 use Rattle.esc_envelope.specs.KindLaws.{one_kind}
 
 -- orders
@@ -47,10 +48,7 @@ last Equal s less never = absurd (never refl less)
 last Greater s less never = absurd cc
 
 not_below : (xs ys : List ℕ) → xs ≡ ys → slice_cmp nat_cmp xs ys ≡ Less → ⊥
-not_below xs ys same less = apart (sym (subst (λ (zs : List ℕ). slice_cmp nat_cmp xs zs ≡ Equal) same (tied_itself nat_list_cmp_total xs)) ∙ less)
-  where
-    apart : Equal ≡ Less → ⊥
-    apart q = cc
+not_below xs ys same less = let apart : Equal ≡ Less = sym (subst (λ (zs : List ℕ). slice_cmp nat_cmp xs zs ≡ Equal) same (tied_itself nat_list_cmp_total xs)) ∙ less in cc
 
 -- below by six orders in turn, and not by the sixth alone: below by five
 below_by_five : (a b c d e f : Ordering) → ordering_then a (ordering_then b (ordering_then c (ordering_then d (ordering_then e f)))) ≡ Less
@@ -69,17 +67,13 @@ in_listing f g tell less =
     (tell (exact_unsigned f.code g.code codes_tie) (one_kind f.kind g.kind (exact_unsigned (kind_rank f.kind) (kind_rank g.kind) kinds_tie)) (exact_bytes f.key g.key keys_tie) (exact_bytes f.field g.field fields_tie))
     below)
 
-all_listed : (f : FindingValue) (gs : List FindingValue) → ((g : FindingValue) → Contains gs g → finding_cmp f g ≡ Less → listing_cmp f g ≡ Less)
-    → AllByRecursion (λ g. finding_cmp f g ≡ Less) gs → AllByRecursion (λ g. listing_cmp f g ≡ Less) gs
-all_listed f [] each h = tt
-all_listed f (g ∷ gs) each h = (each g (first_in g gs) h.0, all_listed f gs (λ k has. each k (later g k gs has)) h.1)
-
 listed : (fs : List FindingValue) → ((f g : FindingValue) → Contains fs f → Contains fs g → finding_cmp f g ≡ Less → listing_cmp f g ≡ Less) → IsStrictlySortedBy finding_cmp fs
     → IsStrictlySortedBy listing_cmp fs
 unfolding IsStrictlySortedBy
 listed [] each h = tt
-listed (f ∷ fs) each h =
-    (all_listed f fs (λ g has. each f g (first_in f fs) (later f g fs has)) h.0, listed fs (λ g k one other. each g k (later f g fs one) (later f k fs other)) h.1)
+listed (f ∷ fs) each h = sorted_from_all_adjacent listing_total (f ∷ fs) f (λ k below.
+    each (get_or (f ∷ fs) k f) (get_or (f ∷ fs) (k + 1) f) (Contains-get_or (f ∷ fs) k f (omega arith)) (Contains-get_or (f ∷ fs) (k + 1) f below)
+    (Less-from_sorted finding_cmp (f ∷ fs) k (k + 1) f h (omega arith) below))
 
 -- what else a finding reports follows from its code, kind, key and field
 

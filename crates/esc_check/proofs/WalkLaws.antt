@@ -11,6 +11,7 @@ use Rattle.std.specs.declared.cmp.Ordering.{Ordering}
 use Rattle.std.specs.declared.cmp.Ordering.TheVariants.{Less}
 use Rattle.std.proofs.lemmas.List.{map-append}
 use Rattle.std.proofs.lemmas.List.Elements.{filter-append, Contains-append_left, Contains-append_right, Contains-append_cases}
+use Rattle.std.proofs.lemmas.List.Folds.{list_any-append}
 use Rattle.std.proofs.lemmas.Map.Keys.{IsDistinct-from_sorted}
 use Rattle.std.proofs.lemmas.Map.Made.{is_some-lookup}
 use Rattle.esc_apply.specs.ObjectStreams.{Entry, InOrder}
@@ -26,7 +27,7 @@ use Rattle.esc_check.specs.LinkValue.{LinkValue}
 use Rattle.esc_check.specs.TableMap.{content_of_entries}
 use Rattle.esc_check.proofs.FindingLaws.{to_findings, from_findings}
 use Rattle.esc_tables.specs.KeyLaws.{keys_total}
-use Rattle.esc_check.proofs.Members.{from_pieces, in_pieces, from_chosen, in_chosen}
+use Rattle.esc_check.proofs.Members.{from_pieces, in_pieces, from_chosen, in_chosen, appended}
 use Rattle.esc_check.specs.WritingLaws.{front_added}
 
 -- keys that come in order are put after the others
@@ -46,12 +47,7 @@ put_last (x ∷ xs) ys k h =
 -- what was met stays met
 
 still_any : {X : Type 0} (test : X → Bool) (xs ys : List X) → list_any test xs ≡ true → list_any test (xs ++ ys) ≡ true
-still_any test [] ys h = absurd cc
-still_any {X} test (x ∷ xs) ys h = pick (test x) (still_any test xs ys) h
-  where
-    pick : (b : Bool) → (list_any test xs ≡ true → list_any test (xs ++ ys) ≡ true) → (b || list_any test xs) ≡ true → (b || list_any test (xs ++ ys)) ≡ true
-    pick true again h = refl
-    pick false again h = again h
+still_any test xs ys h = list_any-append test xs ys ∙ ap (λ (b : Bool). b || list_any test ys) h
 
 -- what is let go at once would be let go later
 
@@ -108,38 +104,38 @@ module _ (present : KeyName → Bool) (w : ℤ) (shown : List ℕ) where
   lost l = not (present l.to)
 
   to_each : (es : List Entry) (f : FindingValue) → Contains (flat_map own es ++ link_findings present (all_links es)) f → Contains (flat_map (object_findings present w shown) es) f
-  to_each es f h = pick (Contains-append_cases (flat_map own es) (link_findings present (all_links es)) f h)
-    where
-      pick : Contains (flat_map own es) f ⊎ Contains (link_findings present (all_links es)) f → Contains (flat_map (object_findings present w shown) es) f
-      pick (inl a) =
-          let r = from_pieces own es f a in
-          in_pieces (object_findings present w shown) es r.0 f r.1 (Contains-append_right (linked r.0) (own r.0) f r.2)
-      pick (inr b) =
-          let r = from_chosen lost missing_target (all_links es) f b in
-          let e = from_pieces (λ (e : Entry). links_of e.0 e.1) es r.0 r.1 in
-          let one = in_chosen lost missing_target (links_of e.0.0 e.0.1) r.0 e.2 r.2 in
-          in_pieces (object_findings present w shown) es e.0 f e.1
-          (Contains-append_left (linked e.0) (own e.0) f (subst (λ (x : FindingValue). Contains (linked e.0) x) (sym r.3) one))
+  to_each es f h = elim (Contains-append_cases (flat_map own es) (link_findings present (all_links es)) f h) [
+    | inl a ↦
+        let r = from_pieces own es f a in
+        in_pieces (object_findings present w shown) es r.0 f r.1 (Contains-append_right (linked r.0) (own r.0) f r.2)
+    | inr b ↦
+        let r = from_chosen lost missing_target (all_links es) f b in
+        let e = from_pieces (λ (e : Entry). links_of e.0 e.1) es r.0 r.1 in
+        let one = in_chosen lost missing_target (links_of e.0.0 e.0.1) r.0 e.2 r.2 in
+        in_pieces (object_findings present w shown) es e.0 f e.1
+        (Contains-append_left (linked e.0) (own e.0) f (subst (λ (x : FindingValue). Contains (linked e.0) x) (sym r.3) one))
+  ]
 
   from_each : (es : List Entry) (f : FindingValue) → Contains (flat_map (object_findings present w shown) es) f → Contains (flat_map own es ++ link_findings present (all_links es)) f
-  from_each es f h = all (from_pieces (object_findings present w shown) es f h)
-    where
-      pick : (e : Entry) → Contains es e → Contains (linked e) f ⊎ Contains (own e) f → Contains (flat_map own es ++ link_findings present (all_links es)) f
-      pick e has (inl a) =
-          let r = from_chosen lost missing_target (links_of e.0 e.1) f a in
-          let one = in_chosen lost missing_target (all_links es) r.0 (in_pieces (λ (x : Entry). links_of x.0 x.1) es e r.0 has r.1) r.2 in
-          Contains-append_right (flat_map own es) (link_findings present (all_links es)) f (subst (λ (x : FindingValue). Contains (link_findings present (all_links es)) x) (sym r.3) one)
-      pick e has (inr b) = Contains-append_left (flat_map own es) (link_findings present (all_links es)) f (in_pieces own es e f has b)
-
-      all : (e : Entry) × Contains es e × Contains (object_findings present w shown e) f → Contains (flat_map own es ++ link_findings present (all_links es)) f
-      all (e, has, one) = pick e has (Contains-append_cases (linked e) (own e) f one)
+  from_each es f h =
+      let (e, has, of_one) = from_pieces (object_findings present w shown) es f h in
+      elim (Contains-append_cases (linked e) (own e) f of_one) [
+        | inl a ↦
+            let r = from_chosen lost missing_target (links_of e.0 e.1) f a in
+            let one = in_chosen lost missing_target (all_links es) r.0 (in_pieces (λ (x : Entry). links_of x.0 x.1) es e r.0 has r.1) r.2 in
+            Contains-append_right (flat_map own es) (link_findings present (all_links es)) f (subst (λ (x : FindingValue). Contains (link_findings present (all_links es)) x) (sym r.3) one)
+        | inr b ↦ Contains-append_left (flat_map own es) (link_findings present (all_links es)) f (in_pieces own es e f has b)
+      ]
 
 -- what is gathered of these entries
 abbrev walked : List Entry → ℤ → List (Kind × ℕ) → List FindingValue
 walked es w counts = (flat_map (λ e. own_findings w (printed w) e.0 e.1) es ++ link_findings (is_present es) (all_links es)) ++ flat_map (count_findings (keys_of es)) counts
 
 walked_are : (es : List Entry) (w : ℤ) (counts : List (Kind × ℕ)) → IsDistinct key_eq (keys_of es) → (f : FindingValue) → Contains (walked es w counts) f ↔ IsFinding (content_of_entries es) w counts f
-walked_are es w counts apart f = (λ h. to_findings es w counts apart f (there h), λ h. back (from_findings es w counts apart f h))
+walked_are es w counts apart f = (
+  λ h. to_findings es w counts apart f (of_each.1 (of_first.0 h)),
+  λ h. of_first.1 (of_each.0 (from_findings es w counts apart f h)),
+)
   where
     first : List FindingValue
     first = flat_map (λ e. own_findings w (printed w) e.0 e.1) es ++ link_findings (is_present es) (all_links es)
@@ -150,19 +146,12 @@ walked_are es w counts apart f = (λ h. to_findings es w counts apart f (there h
     last : List FindingValue
     last = flat_map (count_findings (keys_of es)) counts
 
-    there : Contains (first ++ last) f → Contains (each ++ last) f
-    there h = pick (Contains-append_cases first last f h)
-      where
-        pick : Contains first f ⊎ Contains last f → Contains (each ++ last) f
-        pick (inl a) = Contains-append_left each last f (to_each (is_present es) w (printed w) es f a)
-        pick (inr b) = Contains-append_right each last f b
+    -- either list holds what is in `each` or in `last`
+    of_first : Contains (first ++ last) f ↔ (Contains each f ⊎ Contains last f)
+    of_first = appended first last f (to_each (is_present es) w (printed w) es f, from_each (is_present es) w (printed w) es f) (λ h. h, λ h. h)
 
-    back : Contains (each ++ last) f → Contains (first ++ last) f
-    back h = pick (Contains-append_cases each last f h)
-      where
-        pick : Contains each f ⊎ Contains last f → Contains (first ++ last) f
-        pick (inl a) = Contains-append_left first last f (from_each (is_present es) w (printed w) es f a)
-        pick (inr b) = Contains-append_right first last f b
+    of_each : Contains (each ++ last) f ↔ (Contains each f ⊎ Contains last f)
+    of_each = appended each last f (λ h. h, λ h. h) (λ h. h, λ h. h)
 
 -- at the end of the walk
 pub gathered_all : (w : ℤ) (g : Gathering) (es : List Entry) (counts : List (Kind × ℕ)) → Leads w (printed w) g [] es

@@ -1,6 +1,16 @@
 //! The declared numbers of objects (V2).
 
-ghost use Rattle.std.specs.Prelude.{◌≡◌, ◌∷◌, [], ◌++◌, OnOk, IfOk, string_bytes};
+ghost use Rattle.std.specs.Prelude.{
+  ◌≡◌,
+  ◌==◌,
+  ◌∷◌,
+  [],
+  ◌++◌,
+  OnOk,
+  IfOk,
+  if◌then◌else◌,
+  string_bytes,
+};
 ghost use Rattle.std.specs.List.{flat_map};
 ghost use Rattle.std.specs.Fmt.{decimal};
 ghost use Rattle.std.specs.Map.{keys_of};
@@ -27,7 +37,15 @@ fn decimal_text(alloc: Global, number: u64) -> Result<String, NoMemory>
     Ok(format!(in alloc; "{number}")?)
 }
 
-fn add_miscounted(
+// How many of these keys are of a kind.
+fn count_among(met: &BTreeSet<Key>, kind: Kind) -> u64
+    ensures { result ≡ count_of_kind met.now.keys kind }
+{
+    met.iter().filter(|key| key.kind == kind).count() as u64
+}
+
+// Adds the finding V2 of a declared number, if the number found is another one.
+fn check_count(
     alloc: Global,
     found: &mut Vec<Finding>,
     kind: Kind,
@@ -35,8 +53,11 @@ fn add_miscounted(
     count: u64,
 ) -> Result<(), NoMemory>
     ensures { OnOk result (found.new.items ≡ found.old.items
-        ++ miscounted kind declared count ∷ []) }
+        ++ (if count == declared then [] else miscounted kind declared count ∷ [])) }
 {
+    if count == declared {
+        return Ok(());
+    }
     found.push(Finding {
         code: 2,
         kind,
@@ -46,47 +67,6 @@ fn add_miscounted(
         other: decimal_text(alloc, count)?,
     })?;
     Ok(())
-}
-
-fn check_count(
-    alloc: Global,
-    found: &mut Vec<Finding>,
-    tables: &BTreeMap<Key, Object>,
-    kind: Kind,
-    declared: u64,
-) -> Result<(), NoMemory>
-    ensures { OnOk result (found.new.items ≡ found.old.items
-        ++ count_findings (keys_of tables.now.entries) (kind, declared)) }
-{
-    let count = count_of(tables, kind);
-    if count == declared {
-        return Ok(());
-    }
-    add_miscounted(alloc, found, kind, declared, count)
-}
-
-// How many of these keys are of a kind.
-fn count_among(met: &BTreeSet<Key>, kind: Kind) -> u64
-    ensures { result ≡ count_of_kind met.now.keys kind }
-{
-    met.iter().filter(|key| key.kind == kind).count() as u64
-}
-
-fn check_met_count(
-    alloc: Global,
-    found: &mut Vec<Finding>,
-    met: &BTreeSet<Key>,
-    kind: Kind,
-    declared: u64,
-) -> Result<(), NoMemory>
-    ensures { OnOk result (found.new.items ≡ found.old.items
-        ++ count_findings met.now.keys (kind, declared)) }
-{
-    let count = count_among(met, kind);
-    if count == declared {
-        return Ok(());
-    }
-    add_miscounted(alloc, found, kind, declared, count)
 }
 
 /// Adds the findings V2 of the declared numbers, if these are the keys of all objects.
@@ -100,7 +80,7 @@ pub fn check_met(
         ++ flat_map (count_findings met.now.keys) counts.now.entries) }
 {
     for (kind, declared) in counts.iter() {
-        check_met_count(alloc, found, met, *kind, *declared)?;
+        check_count(alloc, found, *kind, *declared, count_among(met, *kind))?;
     }
     Ok(())
 }
@@ -116,7 +96,7 @@ pub fn check_counts(
         ++ flat_map (count_findings (keys_of tables.now.entries)) counts.now.entries) }
 {
     for (kind, declared) in counts.iter() {
-        check_count(alloc, found, tables, *kind, *declared)?;
+        check_count(alloc, found, *kind, *declared, count_of(tables, *kind))?;
     }
     Ok(())
 }

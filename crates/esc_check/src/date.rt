@@ -64,10 +64,7 @@ fn is_before(expires: Option<i64>, created: Option<i64>) -> bool
 fn is_malformed(text: &str) -> bool
     ensures { result ≡ is_malformed text.now }
 {
-    if text.is_empty() {
-        return false;
-    }
-    moment_of(text).is_none()
+    !text.is_empty() && moment_of(text).is_none()
 }
 
 fn add_late(

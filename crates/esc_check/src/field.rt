@@ -75,16 +75,9 @@ pub fn child_field(kind: Kind, table: &str) -> Option<LinkField>
     ensures { result ≡ child_field kind table.now }
 {
     match kind {
-        Kind::Domain => {
-            if table == "domainContacts" {
-                return Some(LinkField::ContactId);
-            }
-            if table == "domainNs" {
-                return Some(LinkField::HostName);
-            }
-            None
-        }
-        Kind::Registrar | Kind::Contact | Kind::Host | Kind::Idn | Kind::Nndn => None,
+        Kind::Domain if table == "domainContacts" => Some(LinkField::ContactId),
+        Kind::Domain if table == "domainNs" => Some(LinkField::HostName),
+        _ => None,
     }
 }
 
@@ -92,10 +85,7 @@ pub fn child_field(kind: Kind, table: &str) -> Option<LinkField>
 pub fn is_domain(kind: Kind) -> bool
     ensures { result ≡ is_domain kind }
 {
-    match kind {
-        Kind::Domain => true,
-        Kind::Registrar | Kind::Contact | Kind::Host | Kind::Idn | Kind::Nndn => false,
-    }
+    matches!(kind, Kind::Domain)
 }
 
 /// The text of a field in a row: that of its first cell, and empty where there is none.
@@ -115,10 +105,10 @@ pub fn cell<'a>(row: &'a Row, field: &str) -> &'a str
 fn has_created(kind: Kind) -> bool
     ensures { result ≡ has_created kind }
 {
-    match kind {
-        Kind::Registrar | Kind::Contact | Kind::Host | Kind::Domain => true,
-        Kind::Idn | Kind::Nndn => false,
-    }
+    matches!(
+        kind,
+        Kind::Registrar | Kind::Contact | Kind::Host | Kind::Domain
+    )
 }
 
 /// The text of an object's date of creation, `crDate`; empty if there is none, or none to verify.

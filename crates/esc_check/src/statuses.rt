@@ -143,13 +143,7 @@ fn has_other(statuses: &[&str]) -> bool
 fn is_mixed(kind: Kind, statuses: &[&str]) -> bool
     ensures { result ≡ is_mixed kind (map (λ s. s.now) statuses.now) }
 {
-    if !is_domain(kind) {
-        return false;
-    }
-    if !has_ok(statuses) {
-        return false;
-    }
-    has_other(statuses)
+    is_domain(kind) && has_ok(statuses) && has_other(statuses)
 }
 
 fn add_unknown(

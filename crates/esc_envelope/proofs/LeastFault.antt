@@ -113,14 +113,10 @@ abbrev pub Told : List ℕ → Type 0
 Told text = ((e : EnvelopeValue) × (envelope_of text ≡ Ok e) × ((n : ℕ) → IsEnvelopeFault text n → ⊥)) ⊎ ((n : ℕ) × (envelope_of text ≡ Err n) × IsLeastEnvelopeFault text n)
 
 from_five : (text : List ℕ) (m : ℕ) → IsEnvelopeFault text m → 5 ≤ m
-from_five text m (inl s) = omega (arith, s.0)
-from_five text m (inr (inl s)) = omega (arith, s.0)
-from_five text m (inr (inr s)) = omega (arith, s.0)
+from_five text m stands = grind arith
 
 from_six : (text : List ℕ) (json : Data) → json_of text ≡ Some json → (m : ℕ) → IsEnvelopeFault text m → 6 ≤ m
-from_six text json is m (inl (five, none)) = absurd (cc)
-from_six text json is m (inr (inl s)) = omega (arith, s.0)
-from_six text json is m (inr (inr s)) = omega (arith, s.0)
+from_six text json is m stands = grind arith
 
 from_seven : (text : List ℕ) (json : Data) → json_of text ≡ Some json → HasMembers json → (m : ℕ) → IsEnvelopeFault text m → 7 ≤ m
 from_seven text json is members m (inl (five, none)) = absurd (cc)
@@ -163,38 +159,12 @@ pub least_is : (text : List ℕ) (n : ℕ) → IsLeastEnvelopeFault text n → e
 least_is text n = of_least text n (told text)
 
 pub number_of : (text : List ℕ) (n : ℕ) → IsEnvelopeFault text n → (5 ≤ n) × (n ≤ 7)
-number_of text n (inl s) = (omega (arith, s.0), omega (arith, s.0))
-number_of text n (inr (inl s)) = (omega (arith, s.0), omega (arith, s.0))
-number_of text n (inr (inr s)) = (omega (arith, s.0), omega (arith, s.0))
+number_of text n stands = (grind arith, grind arith)
 
 -- ---- what is promised of a result for a text
 
-pub record Answered (text : List ℕ) (result : Result EnvelopeValue Fault) : Type 0 where
-  pub envelope : IfOk result (λ e. envelope_of text ≡ Ok e)
-  pub refused : IfErr result (λ e. (n : ℕ) → e ≡ Refused n → envelope_of text ≡ Err n)
-  pub least : IfErr result (λ e. (n : ℕ) → e ≡ Refused n → IsLeastEnvelopeFault text n)
-  pub fault_told : (n : ℕ) → IsLeastEnvelopeFault text n → IsErrAnd result (λ e. (e ≡ Refused n) ⊎ (e ≡ NoMemory))
-  pub numbers : IfErr result (λ e. (n : ℕ) → e ≡ Refused n → (5 ≤ n) × (n ≤ 7))
-
-fault_or_no_memory : (text : List ℕ) (n : ℕ) (e : Fault) → ((m : ℕ) → e ≡ Refused m → envelope_of text ≡ Err m) → envelope_of text ≡ Err n → (e ≡ Refused n) ⊎ (e ≡ NoMemory)
-fault_or_no_memory text n (Refused m) told is = let same : ◌≡◌ {A = Result EnvelopeValue ℕ} (Err m) (Err n) = sym (told m refl) ∙ is in inl (cc)
-fault_or_no_memory text n NoMemory told is = inr refl
-
-envelope_or_fault : (text : List ℕ) (e : EnvelopeValue) (n : ℕ) → envelope_of text ≡ Ok e → envelope_of text ≡ Err n → ⊥
-envelope_or_fault text e n ok err = let both = sym ok ∙ err in absurd cc
-
-pub answered : (text : List ℕ) (result : Result EnvelopeValue Fault) → IfOk result (λ e. envelope_of text ≡ Ok e) → IfErr result (λ e. (n : ℕ) → e ≡ Refused n → envelope_of text ≡ Err n) → Answered text result
-answered text (Ok e) ok err = record {
-  envelope = ok;
-  refused = tt;
-  least = tt;
-  fault_told = λ n least. envelope_or_fault text e n ok (least_is text n least);
-  numbers = tt;
-}
-answered text (Err e) ok err = record {
-  envelope = tt;
-  refused = err;
-  least = λ n same. is_least text n (err n same);
-  fault_told = λ n least. fault_or_no_memory text n e err (least_is text n least);
-  numbers = λ n same. number_of text n (is_least text n (err n same)).0;
-}
+pub fault_told : (text : List ℕ) (result : Result EnvelopeValue Fault) → IfOk result (λ e. envelope_of text ≡ Ok e) → IfErr result (λ e. (n : ℕ) → e ≡ Refused n → envelope_of text ≡ Err n)
+    → (n : ℕ) → envelope_of text ≡ Err n → IsErrAnd result (λ e. (e ≡ Refused n) ⊎ (e ≡ NoMemory))
+fault_told text (Ok e) ok err n is = let both : ◌≡◌ {A = Result EnvelopeValue ℕ} (Ok e) (Err n) = sym ok ∙ is in absurd cc
+fault_told text (Err (Refused m)) ok err n is = let same : ◌≡◌ {A = Result EnvelopeValue ℕ} (Err m) (Err n) = sym (err m refl) ∙ is in inl (cc)
+fault_told text (Err NoMemory) ok err n is = inr refl

@@ -1,31 +1,22 @@
 -- What is read as a moment is its text, and the text of a moment is read.
-use Rattle.std.proofs.Common.{◌≡◌, ℕ, ◌+◌, ◌-◌, ◌*◌, ◌/◌, ◌%◌, ◌<◌, ◌≤◌, ◌&&◌, true, List, [], ◌∷◌, ◌++◌, length, take, drop, Option, Some, None, refl, sym, ap, subst, ◌∙◌, ◌↔◌, arith, ℤ, pos}
-use Rattle.std.specs.Prelude.{slice_index, ◌==◌, nat_le, nat_lt}
+use Rattle.std.proofs.Common.{◌≡◌, ℕ, ◌+◌, ◌-◌, ◌*◌, ◌/◌, ◌%◌, ◌<◌, ◌≤◌, ◌&&◌, true, List, [], ◌∷◌, ◌++◌, length, take, drop, Option, Some, refl, sym, ap, subst, ◌∙◌, ◌↔◌, arith, ℤ, pos}
+use Rattle.std.specs.Prelude.{slice_index, ◌==◌}
 use Rattle.std.specs.Char.{is_ascii_digit}
-use Rattle.std.proofs.lemmas.Bool.{eqb-true, leb-true, ltb-true, and_parts}
-use Rattle.std.proofs.lemmas.Option.{cond_some}
+use Rattle.std.proofs.lemmas.Bool.{eqb-true, and_parts}
+use Rattle.std.proofs.lemmas.Option.{cond_some, same_Some}
 use Rattle.std.proofs.lemmas.Bool.Decides.{nat_tests}
 use Rattle.std.proofs.lemmas.List.{take-append-drop, drop_more, drop_all, take_at, get_or_at, length-append}
-use Rattle.jiff_core.specs.Calendar.{days_in_month}
 use Rattle.jiff_core.proofs.CalendarLemmas.{days_in_month_bounds}
 use Rattle.jiff_fmt.specs.Reader.{fraction_value}
 use Rattle.jiff_fmt.proofs.ReaderLemmas.{fraction_value-nil}
 use Rattle.esc_envelope.specs.declared.parts.Day.{Day}
 use Rattle.esc_envelope.specs.declared.parts.Clock.{Clock}
 use Rattle.esc_envelope.specs.Moment.{two_digits, day_text, clock_text, fraction_text, is_day, is_clock, is_fraction, moment_value, IsWatermark}
-use Rattle.esc_envelope.specs.Sequences.{◌>>=◌}
+use Rattle.esc_envelope.specs.SequenceLaws.{bound}
 use Rattle.esc_envelope.specs.Watermark.{two_at, byte_at, before_z, day_at, clock_at, billionths_of, watermark_of}
-
--- the value of a step that has one
-pub step_some : {A B : Type 0} (o : Option A) (f : A → Option B) (y : B) → (o >>= f) ≡ Some y → (x : A) × (o ≡ Some x) × (f x ≡ Some y)
-step_some None f y e = absurd cc
-step_some (Some x) f y e = (x, refl, e)
 
 abbrev pub some_of : {A : Type 0} → A → Option A
 some_of x = Some x
-
-pub some_is : {A : Type 0} (x y : A) → some_of x ≡ some_of y → x ≡ y
-some_is x y e = cc
 
 -- ---- a text is read
 
@@ -45,21 +36,8 @@ pub record IsShortDay (d : Day) : Type 0 where
 
 pub short_day : (d : Day) → is_day d ≡ true → IsShortDay d
 short_day d real =
-    let last = and_parts _ (nat_le d.day (days_in_month (pos d.year) d.month)) real in
-    let first = and_parts _ (nat_le 1 d.day) last.0 in
-    let most = and_parts _ (nat_le d.month 12) first.0 in
-    let least = and_parts _ (nat_le 1 d.month) most.0 in
-    let years = and_parts (nat_le 1970 d.year) (nat_le d.year 2261) least.0 in
     let month_length = days_in_month_bounds (pos d.year) d.month in
-    let y : nat_le d.year 2261 ≡ true = years.1 in
-    let m : nat_le d.month 12 ≡ true = most.1 in
-    let t : nat_le d.day (days_in_month (pos d.year) d.month) ≡ true = last.1 in
-    let last_day : d.day ≤ days_in_month (pos d.year) d.month = leb-true _ _ t in
-    record {
-      year = omega (arith, leb-true _ _ y);
-      month = omega (arith, leb-true _ _ m);
-      day = omega (arith, last_day, month_length);
-    }
+    record { year = grind (arith, nat_tests); month = grind (arith, nat_tests); day = grind (arith, nat_tests, month_length) }
 
 pub day_again : (d : Day) (rest : List ℕ) → is_day d ≡ true → day_at (day_text d ++ rest) ≡ Some (d, rest)
 unfolding day_at
@@ -77,11 +55,9 @@ day_again d rest real =
 clock_again : (c : Clock) (rest : List ℕ) → is_clock c ≡ true → clock_at (clock_text c ++ rest) ≡ Some (c, rest)
 unfolding clock_at
 clock_again c rest timed =
-    let last = and_parts _ (nat_lt c.second 60) timed in
-    let first = and_parts (nat_lt c.hour 24) (nat_lt c.minute 60) last.0 in
-    let hour = ltb-true _ _ first.0 in
-    let minute = ltb-true _ _ first.1 in
-    let second = ltb-true _ _ last.1 in
+    let hour : c.hour < 24 = grind (arith, nat_tests) in
+    let minute : c.minute < 60 = grind (arith, nat_tests) in
+    let second : c.second < 60 = grind (arith, nat_tests) in
     rw (
       two_again c.hour (58 ∷ (two_digits c.minute ++ (58 ∷ (two_digits c.second ++ rest)))) (omega arith),
       two_again c.minute (58 ∷ (two_digits c.second ++ rest)) (omega arith),
@@ -114,10 +90,10 @@ watermark_again text w m =
 
 -- ---- what is read is a text
 
-two_takes : (text : List ℕ) (x : ℕ × List ℕ) → two_at text ≡ Some x → text ≡ two_digits x.0 ++ x.1
-two_takes [] x e = absurd cc
-two_takes (a ∷ []) x e = absurd cc
-two_takes (a ∷ b ∷ more) x e =
+two_parts : (text : List ℕ) (x : ℕ × List ℕ) → two_at text ≡ Some x → (text ≡ two_digits x.0 ++ x.1) × (x.0 < 100)
+two_parts [] x e = absurd cc
+two_parts (a ∷ []) x e = absurd cc
+two_parts (a ∷ b ∷ more) x e =
     let told = cond_some (is_ascii_digit a && is_ascii_digit b) ((a - 48) * 10 + (b - 48), more) x e in
     let digits = and_parts (is_ascii_digit a) (is_ascii_digit b) told.0 in
     let first : (48 ≤ a) × (a ≤ 57) = (grind (arith, nat_tests, digits.0), grind (arith, nat_tests, digits.0)) in
@@ -126,18 +102,11 @@ two_takes (a ∷ b ∷ more) x e =
     let rest : more ≡ x.1 = ap (λ (y : ℕ × List ℕ). y.1) told.1 in
     let tens : a ≡ 48 + x.0 / 10 = omega (arith, value, first, second) in
     let ones : b ≡ 48 + x.0 % 10 = omega (arith, value, first, second) in
-    ap (λ (c : ℕ). c ∷ b ∷ more) tens ∙ ap (λ (c : ℕ). (48 + x.0 / 10) ∷ c ∷ more) ones ∙ ap (λ (l : List ℕ). (48 + x.0 / 10) ∷ (48 + x.0 % 10) ∷ l) rest
+    let text : a ∷ b ∷ more ≡ two_digits x.0 ++ x.1 = ap (λ (c : ℕ). c ∷ b ∷ more) tens ∙ ap (λ (c : ℕ). (48 + x.0 / 10) ∷ c ∷ more) ones ∙ ap (λ (l : List ℕ). (48 + x.0 / 10) ∷ (48 + x.0 % 10) ∷ l) rest in
+    (text, omega (arith, value, first, second))
 
-two_small : (text : List ℕ) (x : ℕ × List ℕ) → two_at text ≡ Some x → x.0 < 100
-two_small [] x e = absurd cc
-two_small (a ∷ []) x e = absurd cc
-two_small (a ∷ b ∷ more) x e =
-    let told = cond_some (is_ascii_digit a && is_ascii_digit b) ((a - 48) * 10 + (b - 48), more) x e in
-    let digits = and_parts (is_ascii_digit a) (is_ascii_digit b) told.0 in
-    let first : (48 ≤ a) × (a ≤ 57) = (grind (arith, nat_tests, digits.0), grind (arith, nat_tests, digits.0)) in
-    let second : (48 ≤ b) × (b ≤ 57) = (grind (arith, nat_tests, digits.1), grind (arith, nat_tests, digits.1)) in
-    let value : x.0 ≡ (a - 48) * 10 + (b - 48) = ap (λ (y : ℕ × List ℕ). y.0) (sym told.1) in
-    omega (arith, value, first, second)
+two_takes : (text : List ℕ) (x : ℕ × List ℕ) → two_at text ≡ Some x → text ≡ two_digits x.0 ++ x.1
+two_takes text x e = (two_parts text x e).0
 
 byte_takes : (byte : ℕ) (text rest : List ℕ) → byte_at byte text ≡ Some rest → text ≡ byte ∷ rest
 byte_takes byte [] rest e = absurd cc
@@ -149,44 +118,44 @@ byte_takes byte (b ∷ more) rest e =
 day_takes : (text : List ℕ) (x : Day × List ℕ) → day_at text ≡ Some x → text ≡ day_text x.0 ++ x.1
 unfolding day_at
 day_takes text x e =
-    let century = step_some (two_at text) _ x e in
-    let year = step_some (two_at century.0.1) _ x century.2 in
-    let first = step_some (byte_at 45 year.0.1) _ x year.2 in
-    let month = step_some (two_at first.0) _ x first.2 in
-    let second = step_some (byte_at 45 month.0.1) _ x month.2 in
-    let day = step_some (two_at second.0) _ x second.2 in
-    let small = two_small century.0.1 year.0 year.1 in
-    let hundreds : (century.0.0 * 100 + year.0.0) / 100 ≡ century.0.0 = omega (arith, small) in
-    let left : (century.0.0 * 100 + year.0.0) % 100 ≡ year.0.0 = omega (arith, small) in
-    let made : Day × List ℕ = (record { year = century.0.0 * 100 + year.0.0; month = month.0.0; day = day.0.0 }, day.0.1) in
-    let text_is : text ≡ two_digits century.0.0 ++ (two_digits year.0.0 ++ (45 ∷ (two_digits month.0.0 ++ (45 ∷ (two_digits day.0.0 ++ day.0.1))))) =
-    two_takes text century.0 century.1
-    ∙ ap (λ (l : List ℕ). two_digits century.0.0 ++ l) (two_takes century.0.1 year.0 year.1
-    ∙ ap (λ (l : List ℕ). two_digits year.0.0 ++ l) (byte_takes 45 year.0.1 first.0 first.1
-    ∙ ap (λ (l : List ℕ). 45 ∷ l) (two_takes first.0 month.0 month.1
-    ∙ ap (λ (l : List ℕ). two_digits month.0.0 ++ l) (byte_takes 45 month.0.1 second.0 second.1
-    ∙ ap (λ (l : List ℕ). 45 ∷ l) (two_takes second.0 day.0 day.1))))) in
+    let century = bound (two_at text) _ x e in
+    let year = bound (two_at century.it.1) _ x century.goes in
+    let first = bound (byte_at 45 year.it.1) _ x year.goes in
+    let month = bound (two_at first.it) _ x first.goes in
+    let second = bound (byte_at 45 month.it.1) _ x month.goes in
+    let day = bound (two_at second.it) _ x second.goes in
+    let small = (two_parts century.it.1 year.it year.was).1 in
+    let hundreds : (century.it.0 * 100 + year.it.0) / 100 ≡ century.it.0 = omega (arith, small) in
+    let left : (century.it.0 * 100 + year.it.0) % 100 ≡ year.it.0 = omega (arith, small) in
+    let made : Day × List ℕ = (record { year = century.it.0 * 100 + year.it.0; month = month.it.0; day = day.it.0 }, day.it.1) in
+    let text_is : text ≡ two_digits century.it.0 ++ (two_digits year.it.0 ++ (45 ∷ (two_digits month.it.0 ++ (45 ∷ (two_digits day.it.0 ++ day.it.1))))) =
+    two_takes text century.it century.was
+    ∙ ap (λ (l : List ℕ). two_digits century.it.0 ++ l) (two_takes century.it.1 year.it year.was
+    ∙ ap (λ (l : List ℕ). two_digits year.it.0 ++ l) (byte_takes 45 year.it.1 first.it first.was
+    ∙ ap (λ (l : List ℕ). 45 ∷ l) (two_takes first.it month.it month.was
+    ∙ ap (λ (l : List ℕ). two_digits month.it.0 ++ l) (byte_takes 45 month.it.1 second.it second.was
+    ∙ ap (λ (l : List ℕ). 45 ∷ l) (two_takes second.it day.it day.was))))) in
     let whole : text ≡ day_text made.0 ++ made.1 = text_is
-    ∙ ap (λ (n : ℕ). two_digits n ++ (two_digits year.0.0 ++ (45 ∷ (two_digits month.0.0 ++ (45 ∷ (two_digits day.0.0 ++ day.0.1)))))) (sym hundreds)
-    ∙ ap (λ (n : ℕ). two_digits ((century.0.0 * 100 + year.0.0) / 100) ++ (two_digits n ++ (45 ∷ (two_digits month.0.0 ++ (45 ∷ (two_digits day.0.0 ++ day.0.1)))))) (sym left) in
-    subst (λ (y : Day × List ℕ). text ≡ day_text y.0 ++ y.1) (some_is made x day.2) whole
+    ∙ ap (λ (n : ℕ). two_digits n ++ (two_digits year.it.0 ++ (45 ∷ (two_digits month.it.0 ++ (45 ∷ (two_digits day.it.0 ++ day.it.1)))))) (sym hundreds)
+    ∙ ap (λ (n : ℕ). two_digits ((century.it.0 * 100 + year.it.0) / 100) ++ (two_digits n ++ (45 ∷ (two_digits month.it.0 ++ (45 ∷ (two_digits day.it.0 ++ day.it.1)))))) (sym left) in
+    subst (λ (y : Day × List ℕ). text ≡ day_text y.0 ++ y.1) (same_Some made x day.goes) whole
 
 clock_takes : (text : List ℕ) (x : Clock × List ℕ) → clock_at text ≡ Some x → text ≡ clock_text x.0 ++ x.1
 unfolding clock_at
 clock_takes text x e =
-    let hour = step_some (two_at text) _ x e in
-    let first = step_some (byte_at 58 hour.0.1) _ x hour.2 in
-    let minute = step_some (two_at first.0) _ x first.2 in
-    let second = step_some (byte_at 58 minute.0.1) _ x minute.2 in
-    let seconds = step_some (two_at second.0) _ x second.2 in
-    let made : Clock × List ℕ = (record { hour = hour.0.0; minute = minute.0.0; second = seconds.0.0 }, seconds.0.1) in
+    let hour = bound (two_at text) _ x e in
+    let first = bound (byte_at 58 hour.it.1) _ x hour.goes in
+    let minute = bound (two_at first.it) _ x first.goes in
+    let second = bound (byte_at 58 minute.it.1) _ x minute.goes in
+    let seconds = bound (two_at second.it) _ x second.goes in
+    let made : Clock × List ℕ = (record { hour = hour.it.0; minute = minute.it.0; second = seconds.it.0 }, seconds.it.1) in
     let text_is : text ≡ clock_text made.0 ++ made.1 =
-    two_takes text hour.0 hour.1
-    ∙ ap (λ (l : List ℕ). two_digits hour.0.0 ++ l) (byte_takes 58 hour.0.1 first.0 first.1
-    ∙ ap (λ (l : List ℕ). 58 ∷ l) (two_takes first.0 minute.0 minute.1
-    ∙ ap (λ (l : List ℕ). two_digits minute.0.0 ++ l) (byte_takes 58 minute.0.1 second.0 second.1
-    ∙ ap (λ (l : List ℕ). 58 ∷ l) (two_takes second.0 seconds.0 seconds.1)))) in
-    subst (λ (y : Clock × List ℕ). text ≡ clock_text y.0 ++ y.1) (some_is made x seconds.2) text_is
+    two_takes text hour.it hour.was
+    ∙ ap (λ (l : List ℕ). two_digits hour.it.0 ++ l) (byte_takes 58 hour.it.1 first.it first.was
+    ∙ ap (λ (l : List ℕ). 58 ∷ l) (two_takes first.it minute.it minute.was
+    ∙ ap (λ (l : List ℕ). two_digits minute.it.0 ++ l) (byte_takes 58 minute.it.1 second.it second.was
+    ∙ ap (λ (l : List ℕ). 58 ∷ l) (two_takes second.it seconds.it seconds.was)))) in
+    subst (λ (y : Clock × List ℕ). text ≡ clock_text y.0 ++ y.1) (same_Some made x seconds.goes) text_is
 
 -- where the last byte is a `Z` there is one
 z_inside : (text : List ℕ) → slice_index text (length text - 1) ≡ 90 → length text - 1 < length text
@@ -214,7 +183,7 @@ dotted b [] same form = absurd cc
 dotted b (d ∷ ds) same form = ap (λ (c : ℕ). c ∷ d ∷ ds) same
 
 billionths_takes : (text : List ℕ) (n : ℕ) → billionths_of text ≡ Some n → IsFractionOf text n
-billionths_takes [] n e = record { digits = []; form = λ some. absurd (omega arith); written = refl; value = sym (some_is 0 n e) ∙ sym (fraction_value-nil 9) }
+billionths_takes [] n e = record { digits = []; form = λ some. absurd (omega arith); written = refl; value = sym (same_Some 0 n e) ∙ sym (fraction_value-nil 9) }
 billionths_takes (b ∷ digits) n e =
     let told = cond_some ((b == 46) && is_fraction digits) (fraction_value 9 digits) n e in
     let parts = and_parts (b == 46) (is_fraction digits) told.0 in
@@ -223,28 +192,28 @@ billionths_takes (b ∷ digits) n e =
 watermark_takes : (text : List ℕ) (w : ℤ) → watermark_of text ≡ Some w → IsWatermark text w
 unfolding watermark_of
 watermark_takes text w e =
-    let moment = step_some (before_z text) _ w e in
-    let day = step_some (day_at moment.0) _ w moment.2 in
-    let after = step_some (byte_at 84 day.0.1) _ w day.2 in
-    let clock = step_some (clock_at after.0) _ w after.2 in
-    let fraction = step_some (billionths_of clock.0.1) _ w clock.2 in
-    let told = cond_some (is_day day.0.0 && is_clock clock.0.0) (moment_value day.0.0 clock.0.0 fraction.0) w fraction.2 in
-    let real = and_parts (is_day day.0.0) (is_clock clock.0.0) told.0 in
-    let parts = billionths_takes clock.0.1 fraction.0 fraction.1 in
-    let inner : moment.0 ≡ day_text day.0.0 ++ (84 ∷ (clock_text clock.0.0 ++ fraction_text parts.digits)) =
-    day_takes moment.0 day.0 day.1
-    ∙ ap (λ (l : List ℕ). day_text day.0.0 ++ l) (byte_takes 84 day.0.1 after.0 after.1
-    ∙ ap (λ (l : List ℕ). 84 ∷ l) (clock_takes after.0 clock.0 clock.1
-    ∙ ap (λ (l : List ℕ). clock_text clock.0.0 ++ l) parts.written)) in
+    let moment = bound (before_z text) _ w e in
+    let day = bound (day_at moment.it) _ w moment.goes in
+    let after = bound (byte_at 84 day.it.1) _ w day.goes in
+    let clock = bound (clock_at after.it) _ w after.goes in
+    let fraction = bound (billionths_of clock.it.1) _ w clock.goes in
+    let told = cond_some (is_day day.it.0 && is_clock clock.it.0) (moment_value day.it.0 clock.it.0 fraction.it) w fraction.goes in
+    let real = and_parts (is_day day.it.0) (is_clock clock.it.0) told.0 in
+    let parts = billionths_takes clock.it.1 fraction.it fraction.was in
+    let inner : moment.it ≡ day_text day.it.0 ++ (84 ∷ (clock_text clock.it.0 ++ fraction_text parts.digits)) =
+    day_takes moment.it day.it day.was
+    ∙ ap (λ (l : List ℕ). day_text day.it.0 ++ l) (byte_takes 84 day.it.1 after.it after.was
+    ∙ ap (λ (l : List ℕ). 84 ∷ l) (clock_takes after.it clock.it clock.was
+    ∙ ap (λ (l : List ℕ). clock_text clock.it.0 ++ l) parts.written)) in
     record {
-      day = day.0.0;
-      clock = clock.0.0;
+      day = day.it.0;
+      clock = clock.it.0;
       fraction = parts.digits;
       real = real.0;
       timed = real.1;
       digits = parts.form;
-      written = z_takes text moment.0 moment.1 ∙ ap (λ (l : List ℕ). l ++ (90 ∷ [])) inner;
-      value = sym told.1 ∙ ap (moment_value day.0.0 clock.0.0) parts.value;
+      written = z_takes text moment.it moment.was ∙ ap (λ (l : List ℕ). l ++ (90 ∷ [])) inner;
+      value = sym told.1 ∙ ap (moment_value day.it.0 clock.it.0) parts.value;
     }
 
 pub watermark_exact : (text : List ℕ) (w : ℤ) → (watermark_of text ≡ Some w) ↔ IsWatermark text w

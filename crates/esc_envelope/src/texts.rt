@@ -90,9 +90,5 @@ pub(crate) fn fields_in(alloc: Global, values: &[Value]) -> Result<Option<Vec<St
     let Some(fields) = all_fields(alloc, values)? else {
         return Ok(None);
     };
-    if are_distinct(fields.as_slice()) {
-        Ok(Some(fields))
-    } else {
-        Ok(None)
-    }
+    Ok(are_distinct(fields.as_slice()).then_some(fields))
 }

@@ -7,58 +7,44 @@ use Rattle.esc_manifest.specs.declared.row.MRow.{MRow}
 use Rattle.esc_manifest.specs.LeastFault.{has_fault, IsManifestFault, IsLeastManifestFault}
 use Rattle.esc_manifest.specs.RowFaults.{most_manifest_rows, has_bad_id, has_bad_watermark, lacks_prev, has_bad_resend, same_revision, moved_id, follows_later, same_digest, first_against_earlier, first_against_any, fault_or, rows_fault}
 use Rattle.esc_manifest.specs.ManifestRows.{no_row}
-use Rattle.esc_manifest.proofs.LeastFrom.{first_of_list, first_of_numbers, LeastFrom, AtLeastRow, up, found, step, lower, fault_or_is, at_row, least_of, is_least, IsFirst}
+use Rattle.esc_manifest.proofs.LeastFrom.{first_of_list, first_of_numbers, LeastFrom, up, found, step, lower, fault_or_is, at_row, least_of, is_least, IsFirst}
 
 -- M1 of rows
 abbrev above : List MRow → ℕ → ℕ → Type 0
 above m code row = (code ≡ 1) × (row ≡ 0) × (most_manifest_rows < length m)
 
 -- numbers that no row has
-low_number : (m : List MRow) (k r : ℕ) → k < 4 → has_fault m k r ≡ false
-low_number m k r lt =
-    let e4 : (k == 4) ≡ false = grind (arith, nat_tests) in
-    let e6 : (k == 6) ≡ false = grind (arith, nat_tests) in
-    let e7 : (k == 7) ≡ false = grind (arith, nat_tests) in
-    let e8 : (k == 8) ≡ false = grind (arith, nat_tests) in
-    let e10 : (k == 10) ≡ false = grind (arith, nat_tests) in
-    let e11 : (k == 11) ≡ false = grind (arith, nat_tests) in
-    let e12 : (k == 12) ≡ false = grind (arith, nat_tests) in
-    let e13 : (k == 13) ≡ false = grind (arith, nat_tests) in
+other_number : (m : List MRow) (k r : ℕ) → ((n : ℕ) → 4 ≤ n → n ≤ 13 → (k == n) ≡ false) → has_fault m k r ≡ false
+other_number m k r other =
+    let e4 = other 4 (omega arith) (omega arith) in
+    let e6 = other 6 (omega arith) (omega arith) in
+    let e7 = other 7 (omega arith) (omega arith) in
+    let e8 = other 8 (omega arith) (omega arith) in
+    let e10 = other 10 (omega arith) (omega arith) in
+    let e11 = other 11 (omega arith) (omega arith) in
+    let e12 = other 12 (omega arith) (omega arith) in
+    let e13 = other 13 (omega arith) (omega arith) in
     rw (e4, e6, e7, e8, e10, e11, e12, e13) refl
 
+low_number : (m : List MRow) (k r : ℕ) → k < 4 → has_fault m k r ≡ false
+low_number m k r lt = other_number m k r (λ n low high. grind (arith, nat_tests))
+
 high_number : (m : List MRow) (k r : ℕ) → 13 < k → has_fault m k r ≡ false
-high_number m k r lt =
-    let e4 : (k == 4) ≡ false = grind (arith, nat_tests) in
-    let e6 : (k == 6) ≡ false = grind (arith, nat_tests) in
-    let e7 : (k == 7) ≡ false = grind (arith, nat_tests) in
-    let e8 : (k == 8) ≡ false = grind (arith, nat_tests) in
-    let e10 : (k == 10) ≡ false = grind (arith, nat_tests) in
-    let e11 : (k == 11) ≡ false = grind (arith, nat_tests) in
-    let e12 : (k == 12) ≡ false = grind (arith, nat_tests) in
-    let e13 : (k == 13) ≡ false = grind (arith, nat_tests) in
-    rw (e4, e6, e7, e8, e10, e11, e12, e13) refl
+high_number m k r lt = other_number m k r (λ n low high. grind (arith, nat_tests))
 
 absent : (m : List MRow) (k s : ℕ) → (k ≡ 1 → ⊥) → ((r : ℕ) → has_fault m k r ≡ false) → IsManifestFault m k s → ⊥
 absent m k s other free (inl there) = other there.0
 absent m k s other free (inr (r, lt, is, holds)) = let fails = free r in absurd cc
 
-absent_five : (m : List MRow) (k s : ℕ) → k ≡ 5 → IsManifestFault m k s → ⊥
-absent_five m k s five there = absent m 5 s (λ e. absurd (omega arith)) (λ r. refl) (subst (λ (x : ℕ). IsManifestFault m x s) five there)
-
-absent_nine : (m : List MRow) (k s : ℕ) → k ≡ 9 → IsManifestFault m k s → ⊥
-absent_nine m k s nine there = absent m 9 s (λ e. absurd (omega arith)) (λ r. refl) (subst (λ (x : ℕ). IsManifestFault m x s) nine there)
-
 none_past : (m : List MRow) → LeastFrom (IsManifestFault m) 14 None
 none_past m = record { none = λ e k s le. absent m k s (λ one. absurd (omega arith)) (λ r. high_number m k r (omega arith)); some = λ c r e. absurd cc }
 
--- one number at its rows
-at : (m : List MRow) (code : ℕ) (o : Option ℕ) → (code ≡ 1 → ⊥) → IsFirst (has_fault m code) (length m) o → AtLeastRow (IsManifestFault m) code (up o)
-at m code o other first = at_row (above m) (has_fault m) (length m) code o (λ s there. other there.0) first
-
+-- one number at its rows, and those from the next one on
 next_number : (m : List MRow) (code high : ℕ) (o : Option ℕ) (next : Option (ℕ × ℕ)) → code < high → (code ≡ 1 → ⊥) → ((k s : ℕ) → code < k → k < high → IsManifestFault m k s → ⊥)
     → IsFirst (has_fault m code) (length m) o → LeastFrom (IsManifestFault m) high next → LeastFrom (IsManifestFault m) code (fault_or code o next)
 next_number m code high o next lt other gap first later =
-    subst (LeastFrom (IsManifestFault m) code) (sym (fault_or_is code o next)) (step (IsManifestFault m) code high (up o) next lt gap (at m code o other first) later)
+    subst (LeastFrom (IsManifestFault m) code) (sym (fault_or_is code o next)) (step (IsManifestFault m) code high (up o) next lt gap
+    (at_row (above m) (has_fault m) (length m) code o (λ s there. other there.0) first) later)
 
 -- M4 and on
 abbrev pub chain : List MRow → Option (ℕ × ℕ)
@@ -72,21 +58,16 @@ chain m =
     (fault_or 12 (first_against_any follows_later m)
     (fault_or 13 (first_against_earlier same_digest m) None)))))))
 
-last_numbers : (m : List MRow) → LeastFrom (IsManifestFault m) 10
-    (fault_or 10 (first_against_earlier same_revision m) (fault_or 11 (first_against_earlier moved_id m)
-    (fault_or 12 (first_against_any follows_later m) (fault_or 13 (first_against_earlier same_digest m) None))))
-last_numbers m =
+all_numbers : (m : List MRow) → LeastFrom (IsManifestFault m) 4 (chain m)
+all_numbers m =
     let n13 = next_number m 13 14 (first_against_earlier same_digest m) None (omega arith) (λ e. absurd (omega arith)) (λ k s over below. absurd (omega arith)) (first_of_numbers (has_fault m 13) (length m)) (none_past m) in
     let n12 = next_number m 12 13 (first_against_any follows_later m) _ (omega arith) (λ e. absurd (omega arith)) (λ k s over below. absurd (omega arith)) (first_of_list _ m no_row) n13 in
     let n11 = next_number m 11 12 (first_against_earlier moved_id m) _ (omega arith) (λ e. absurd (omega arith)) (λ k s over below. absurd (omega arith)) (first_of_numbers (has_fault m 11) (length m)) n12 in
-    next_number m 10 11 (first_against_earlier same_revision m) _ (omega arith) (λ e. absurd (omega arith)) (λ k s over below. absurd (omega arith)) (first_of_numbers (has_fault m 10) (length m)) n11
-
-all_numbers : (m : List MRow) → LeastFrom (IsManifestFault m) 4 (chain m)
-all_numbers m =
-    let n8 = next_number m 8 10 (position has_bad_resend m) _ (omega arith) (λ e. absurd (omega arith)) (λ k s over below. absent_nine m k s (omega arith)) (first_of_list has_bad_resend m no_row) (last_numbers m) in
+    let n10 = next_number m 10 11 (first_against_earlier same_revision m) _ (omega arith) (λ e. absurd (omega arith)) (λ k s over below. absurd (omega arith)) (first_of_numbers (has_fault m 10) (length m)) n11 in
+    let n8 = next_number m 8 10 (position has_bad_resend m) _ (omega arith) (λ e. absurd (omega arith)) (λ k s over below. absent m k s (λ e. absurd (omega arith)) (λ r. let nine : k ≡ 9 = omega arith in rw nine refl)) (first_of_list has_bad_resend m no_row) n10 in
     let n7 = next_number m 7 8 (position lacks_prev m) _ (omega arith) (λ e. absurd (omega arith)) (λ k s over below. absurd (omega arith)) (first_of_list lacks_prev m no_row) n8 in
     let n6 = next_number m 6 7 (position has_bad_watermark m) _ (omega arith) (λ e. absurd (omega arith)) (λ k s over below. absurd (omega arith)) (first_of_list has_bad_watermark m no_row) n7 in
-    next_number m 4 6 (position has_bad_id m) _ (omega arith) (λ e. absurd (omega arith)) (λ k s over below. absent_five m k s (omega arith)) (first_of_list has_bad_id m no_row) n6
+    next_number m 4 6 (position has_bad_id m) _ (omega arith) (λ e. absurd (omega arith)) (λ k s over below. absent m k s (λ e. absurd (omega arith)) (λ r. let five : k ≡ 5 = omega arith in rw five refl)) (first_of_list has_bad_id m no_row) n6
 
 -- M1 first
 from_one : (m : List MRow) (k s : ℕ) → IsManifestFault m k s → (1 < k) ⊎ ((1 ≡ k) × (0 ≤ s))

@@ -15,25 +15,21 @@ use Rattle.esc_manifest.proofs.RowLeast as rows
 use Rattle.esc_manifest.proofs.WholeReading.{whole_list, are_whole}
 
 -- numbers that no record below the heading has
-low_number : (fields : List (List ℕ)) (k : ℕ) → k < 4 → is_faulty fields k ≡ false
-low_number fields k lt =
-    let e4 : (k == 4) ≡ false = grind (arith, nat_tests) in
-    let e5 : (k == 5) ≡ false = grind (arith, nat_tests) in
-    let e6 : (k == 6) ≡ false = grind (arith, nat_tests) in
-    let e7 : (k == 7) ≡ false = grind (arith, nat_tests) in
-    let e8 : (k == 8) ≡ false = grind (arith, nat_tests) in
-    let e9 : (k == 9) ≡ false = grind (arith, nat_tests) in
+other_number : (fields : List (List ℕ)) (k : ℕ) → ((n : ℕ) → 4 ≤ n → n ≤ 9 → (k == n) ≡ false) → is_faulty fields k ≡ false
+other_number fields k other =
+    let e4 = other 4 (omega arith) (omega arith) in
+    let e5 = other 5 (omega arith) (omega arith) in
+    let e6 = other 6 (omega arith) (omega arith) in
+    let e7 = other 7 (omega arith) (omega arith) in
+    let e8 = other 8 (omega arith) (omega arith) in
+    let e9 = other 9 (omega arith) (omega arith) in
     rw (e4, e5, e6, e7, e8, e9) refl
 
+low_number : (fields : List (List ℕ)) (k : ℕ) → k < 4 → is_faulty fields k ≡ false
+low_number fields k lt = other_number fields k (λ n low high. grind (arith, nat_tests))
+
 high_number : (fields : List (List ℕ)) (k : ℕ) → 9 < k → is_faulty fields k ≡ false
-high_number fields k lt =
-    let e4 : (k == 4) ≡ false = grind (arith, nat_tests) in
-    let e5 : (k == 5) ≡ false = grind (arith, nat_tests) in
-    let e6 : (k == 6) ≡ false = grind (arith, nat_tests) in
-    let e7 : (k == 7) ≡ false = grind (arith, nat_tests) in
-    let e8 : (k == 8) ≡ false = grind (arith, nat_tests) in
-    let e9 : (k == 9) ≡ false = grind (arith, nat_tests) in
-    rw (e4, e5, e6, e7, e8, e9) refl
+high_number fields k lt = other_number fields k (λ n low high. grind (arith, nat_tests))
 
 -- M4 and on are at records below the heading alone
 not_above : (text : List ℕ) (code s : ℕ) → 3 < code → IsFaultAbove text code s → ⊥

@@ -2,7 +2,7 @@
 use Rattle.std.proofs.Common.{◌≡◌, ◌⊎◌, ℕ, suc, ◌+◌, ◌-◌, ◌<◌, ◌≤◌, Bool, true, false, List, ◌++◌, length, take, get_or, Option, Some, None, refl, sym, ap, ap₂, ◌∙◌, subst, arith, inl, inr}
 use Rattle.std.specs.Prelude.{◌==◌, ◌&&◌, ◌||◌, not, position, filter, if◌then◌else◌}
 use Rattle.std.specs.List.{list_any, All, AllPairs}
-use Rattle.std.proofs.lemmas.Bool.{cases_Bool, cases_lt, eqb-true, and_parts, and_from, or_cases, or_parts, not-true}
+use Rattle.std.proofs.lemmas.Bool.{cases_Bool, cases_lt, eqb-true, and_parts, and_from, or_cases, or_parts, or_left, or_right, not-true, not_from_false, and_right}
 use Rattle.std.proofs.lemmas.List.{get_or_append_left, get_or-append_right, get_or-take, length-append, length-take, get_or_default}
 use Rattle.std.proofs.lemmas.List.Elements.{All-filter, filter_passes}
 use Rattle.std.proofs.lemmas.List.Folds.{Any-from_list_any, list_any_at}
@@ -52,14 +52,6 @@ contradicts code m x holds = elim (one_number code 10 _ _ holds) [
   ]
 ]
 
-or_left : (a b : Bool) → a ≡ true → (a || b) ≡ true
-or_left true b e = refl
-or_left false b e = absurd cc
-
-or_right : (a b : Bool) → b ≡ true → (a || b) ≡ true
-or_right true b e = refl
-or_right false b e = e
-
 is_blamed_for : (code : ℕ) (m : List MRow) (x : MRow) (q : ℕ) → q < length m → Contradict code (row_at m q) x → is_blamed code m x ≡ true
 is_blamed_for code m x q lt (inl (e, is)) = subst (λ (n : ℕ). is_blamed n m x ≡ true) (sym e) (list_any_at (λ q. same_revision q x) m q no_row lt is)
 is_blamed_for code m x q lt (inr (inl (e, is))) = subst (λ (n : ℕ). is_blamed n m x ≡ true) (sym e) (list_any_at (λ q. moved_id q x) m q no_row lt is)
@@ -69,13 +61,9 @@ is_blamed_for code m x q lt (inr (inr (inl (e, inr is)))) =
     subst (λ (n : ℕ). is_blamed n m x ≡ true) (sym e) (or_right (list_any (λ q. follows_later q x) m) _ (list_any_at (λ q. follows_later x q) m q no_row lt is))
 is_blamed_for code m x q lt (inr (inr (inr (e, is)))) = subst (λ (n : ℕ). is_blamed n m x ≡ true) (sym e) (list_any_at (λ q. same_digest q x) m q no_row lt is)
 
-is_unlisted : (listed : Bool) → listed ≡ false → not listed ≡ true
-is_unlisted true e = absurd cc
-is_unlisted false e = refl
-
 passes : (code : ℕ) (m more : List MRow) (k : ℕ) → IsBlamed m more code k → test code m (row_at more k) ≡ true
 passes code m more k (lt, new, (q, in_m, against)) =
-    and_from (not (is_listed m (row_at more k))) (is_blamed code m (row_at more k)) (is_unlisted (is_listed m (row_at more k)) new) (is_blamed_for code m (row_at more k) q in_m against)
+    and_from (not (is_listed m (row_at more k))) (is_blamed code m (row_at more k)) (not_from_false (is_listed m (row_at more k)) new) (is_blamed_for code m (row_at more k) q in_m against)
 
 is_blamed_at : (code : ℕ) (m more : List MRow) (r : ℕ) → r < length more → test code m (row_at more r) ≡ true → IsBlamed m more code r
 is_blamed_at code m more r lt holds =
@@ -261,11 +249,7 @@ module _ (m more : List MRow) (listed : IsAccepted m) (added : IsAccepted more) 
       ]
 
   of_whole : blamed 1 m more ≡ 0
-  of_whole = ap row_or_whole (no_first (test 1 m) more no_row (λ k lt. never (not (is_listed m (row_at more k)))))
-    where
-      never : (new : Bool) → (new && false) ≡ false
-      never true = refl
-      never false = refl
+  of_whole = ap row_or_whole (no_first (test 1 m) more no_row (λ k lt. and_right (not (is_listed m (row_at more k))) false refl))
 
   pub reported_at : (code s : ℕ) → IsManifestFault (extended m more) code s → IsReportedAt m more code (blamed code m more)
   reported_at code s (inl (one, whole, many)) = inl (one, subst (λ (n : ℕ). blamed n m more ≡ 0) (sym one) of_whole)

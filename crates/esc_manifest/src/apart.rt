@@ -16,9 +16,7 @@ ghost use Rattle.esc_manifest.specs.RowFaults.{
 };
 
 use crate::row::MRow;
-use crate::rows::{
-    first_after_later, first_moved_id, first_repeated_digest, first_repeated_revision,
-};
+use crate::rows::{first_after_later, first_against_earlier};
 use esc_bundle::NoMemory;
 use esc_envelope::{DepositType, Place};
 use std::alloc::Global;
@@ -124,7 +122,7 @@ pub(crate) fn repeated_revision(alloc: Global, rows: &[MRow]) -> Option<usize>
 {
     match have_own_revisions(alloc, rows) {
         Ok(true) => None,
-        _ => first_repeated_revision(rows),
+        _ => first_against_earlier(10, rows),
     }
 }
 
@@ -135,7 +133,7 @@ pub(crate) fn repeated_digest(alloc: Global, rows: &[MRow]) -> Option<usize>
 {
     match have_own_digests(alloc, rows) {
         Ok(true) => None,
-        _ => first_repeated_digest(rows),
+        _ => first_against_earlier(13, rows),
     }
 }
 
@@ -160,7 +158,7 @@ pub(crate) fn id_in_two_places(
 {
     match places {
         Some(_) => None,
-        None => first_moved_id(rows),
+        None => first_against_earlier(11, rows),
     }
 }
 

@@ -16,11 +16,9 @@ ghost use Rattle.std.specs.Prelude.{
   option_map,
   string_bytes,
 };
-ghost use Rattle.std.specs.List.{list_any};
 ghost use Rattle.esc_manifest.specs.declared.fault.MFault.TheVariants as MFault;
 ghost use Rattle.esc_manifest.specs.Accepted.{IsAccepted};
 ghost use Rattle.esc_manifest.specs.LeastFault.{IsLeastOfUnion};
-ghost use Rattle.esc_manifest.specs.RowFaults.{follows_later};
 ghost use Rattle.esc_manifest.specs.Extension.{
   same_prev,
   same_row,
@@ -34,10 +32,7 @@ ghost use Rattle.esc_manifest.specs.Extension.{
 use crate::fault::MFault;
 use crate::manifest::Manifest;
 use crate::row::{MRow, copy_rows};
-use crate::rows::{
-    follows_any_later, follows_later, is_same_place, moves_id, repeats_digest, repeats_revision,
-    rows_fault,
-};
+use crate::rows::{is_blamed, is_same_place, rows_fault};
 use esc_bundle::NoMemory;
 use std::alloc::Global;
 
@@ -80,26 +75,6 @@ fn union_of(alloc: Global, rows: &[MRow], more: &[MRow]) -> Result<Vec<MRow>, No
         union.push(row.copy(alloc)?)?;
     }
     Ok(union)
-}
-
-// Whether a Differential of these rows names this row, though its watermark isn't earlier.
-fn is_named_late(rows: &[MRow], row: &MRow) -> bool
-    ensures { result ≡ list_any (λ q. follows_later row.now q) rows.now }
-{
-    rows.iter().any(|q| follows_later(row, q))
-}
-
-// Whether a row repeats or contradicts one of these rows, by the fault of this number.
-fn is_blamed(code: u8, rows: &[MRow], row: &MRow) -> bool
-    ensures { result ≡ is_blamed code rows.now row.now }
-{
-    match code {
-        10 => repeats_revision(rows, row),
-        11 => moves_id(rows, row),
-        12 => follows_any_later(rows, row) || is_named_late(rows, row),
-        13 => repeats_digest(rows, row),
-        _ => false,
-    }
 }
 
 fn first_blamed(code: u8, rows: &[MRow], more: &[MRow]) -> Option<usize>

@@ -5,11 +5,9 @@ ghost use Rattle.std.specs.Prelude.{
   ◌<◌,
   ◌≤◌,
   ◌+◌,
-  ◌++◌,
   ℕ,
   length,
   IfOk,
-  OnOk,
   Err,
 };
 ghost use Rattle.esc_csv.specs.Records.{records_of};
@@ -21,30 +19,6 @@ use crate::rows::MOST_LISTED_ROWS;
 use esc_csv::{Record, Records};
 use std::alloc::Global;
 
-// Appends to `records` those that are still to be read; M1 if there are too many then.
-fn push_all(
-    alloc: Global,
-    unread: &mut Records<'_>,
-    records: &mut Vec<Record>,
-) -> Result<(), MFault>
-    requires { length records.old.items ≤ most_manifest_rows + 1 }
-    ensures all { OnOk result (records.new.items ≡ records.old.items ++ unread.old) }
-    ensures few { OnOk result (length records.new.items ≤ most_manifest_rows + 1) }
-    ensures refused { (code row : ℕ) → result ≡ Err (MFault.Refused code row)
-        → (code ≡ 1) × (row ≡ 0)
-        × (most_manifest_rows + 1 < length (records.old.items ++ unread.old)) }
-{
-    let mut fields = Record::new(alloc);
-    while unread.next(&mut fields)? {
-        if records.len() > MOST_LISTED_ROWS {
-            return Err(MFault::Refused { code: 1, row: 0 });
-        }
-        records.push(fields)?;
-        fields = Record::new(alloc);
-    }
-    Ok(())
-}
-
 /// The records of a text, with the heading; M1 if there are more than a heading and 4,096 rows.
 pub(crate) fn read_records(alloc: Global, text: &[u8]) -> Result<Vec<Record>, MFault>
     ensures all { IfOk result (λ v. v.items ≡ records_of text.now) }
@@ -54,6 +28,13 @@ pub(crate) fn read_records(alloc: Global, text: &[u8]) -> Result<Vec<Record>, MF
 {
     let mut unread = Records::of(alloc, text);
     let mut records = Vec::new(alloc);
-    push_all(alloc, &mut unread, &mut records)?;
+    let mut fields = Record::new(alloc);
+    while unread.next(&mut fields)? {
+        if records.len() > MOST_LISTED_ROWS {
+            return Err(MFault::Refused { code: 1, row: 0 });
+        }
+        records.push(fields)?;
+        fields = Record::new(alloc);
+    }
     Ok(records)
 }

@@ -8,6 +8,7 @@ ghost use Rattle.std.specs.Prelude.{
   length,
   position,
   IfSome,
+  take,
   Some,
   None,
   Ok,
@@ -16,7 +17,9 @@ ghost use Rattle.std.specs.Prelude.{
 ghost use Rattle.std.specs.List.{list_any};
 ghost use Rattle.esc_envelope.specs.Id.{is_id};
 ghost use Rattle.esc_manifest.specs.declared.fault.MFault.TheVariants as MFault;
+ghost use Rattle.esc_manifest.specs.Extension.{is_blamed};
 ghost use Rattle.esc_manifest.specs.LeastFault.{IsLeastManifestFault};
+ghost use Rattle.esc_manifest.specs.ManifestRows.{row_at};
 ghost use Rattle.esc_manifest.specs.RowFaults.{
   has_bad_id,
   has_bad_watermark,
@@ -27,7 +30,7 @@ ghost use Rattle.esc_manifest.specs.RowFaults.{
   moved_id,
   follows_later,
   same_digest,
-  first_against_earlier,
+  least,
   first_against_any,
   rows_fault,
 };
@@ -59,20 +62,13 @@ fn has_bad_id(row: &MRow) -> bool
 fn has_bad_watermark(row: &MRow) -> bool
     ensures { result ≡ has_bad_watermark row.now }
 {
-    if row.header.place.watermark < 0 {
-        return true;
-    }
-    row.header.place.watermark >= END_OF_YEARS
+    row.header.place.watermark < 0 || row.header.place.watermark >= END_OF_YEARS
 }
 
 fn lacks_prev(row: &MRow) -> bool
     ensures { result ≡ lacks_prev row.now }
 {
-    match row.header.place.kind {
-        DepositType::Diff => row.header.prev.is_none(),
-        DepositType::Incr => false,
-        DepositType::Full => false,
-    }
+    row.header.place.kind == DepositType::Diff && row.header.prev.is_none()
 }
 
 pub(crate) fn is_same_place(a: Place, b: Place) -> bool
@@ -84,22 +80,17 @@ pub(crate) fn is_same_place(a: Place, b: Place) -> bool
 fn is_same_revision(other: &MRow, row: &MRow) -> bool
     ensures { result ≡ same_revision other.now row.now }
 {
-    if other.header.resend != row.header.resend {
-        return false;
-    }
-    is_same_place(other.header.place, row.header.place)
+    is_same_place(other.header.place, row.header.place) && other.header.resend == row.header.resend
 }
 
 fn has_moved_id(other: &MRow, row: &MRow) -> bool
     ensures { result ≡ moved_id other.now row.now }
 {
-    if other.header.id.as_str() != row.header.id.as_str() {
-        return false;
-    }
-    !is_same_place(other.header.place, row.header.place)
+    other.header.id.as_str() == row.header.id.as_str()
+        && !is_same_place(other.header.place, row.header.place)
 }
 
-pub(crate) fn follows_later(other: &MRow, row: &MRow) -> bool
+fn follows_later(other: &MRow, row: &MRow) -> bool
     ensures { result ≡ follows_later other.now row.now }
 {
     if row.header.place.kind != DepositType::Diff {
@@ -122,28 +113,48 @@ fn has_same_digest(other: &MRow, row: &MRow) -> bool
     other.digest == row.digest
 }
 
-pub(crate) fn repeats_revision(earlier: &[MRow], row: &MRow) -> bool
-    ensures { result ≡ list_any (λ q. same_revision q row.now) earlier.now }
+fn repeats_revision(rows: &[MRow], row: &MRow) -> bool
+    ensures { result ≡ list_any (λ q. same_revision q row.now) rows.now }
 {
-    earlier.iter().any(|q| is_same_revision(q, row))
+    rows.iter().any(|q| is_same_revision(q, row))
 }
 
-pub(crate) fn moves_id(earlier: &[MRow], row: &MRow) -> bool
-    ensures { result ≡ list_any (λ q. moved_id q row.now) earlier.now }
+fn moves_id(rows: &[MRow], row: &MRow) -> bool
+    ensures { result ≡ list_any (λ q. moved_id q row.now) rows.now }
 {
-    earlier.iter().any(|q| has_moved_id(q, row))
+    rows.iter().any(|q| has_moved_id(q, row))
 }
 
-pub(crate) fn follows_any_later(rows: &[MRow], row: &MRow) -> bool
+fn follows_any_later(rows: &[MRow], row: &MRow) -> bool
     ensures { result ≡ list_any (λ q. follows_later q row.now) rows.now }
 {
     rows.iter().any(|q| follows_later(q, row))
 }
 
-pub(crate) fn repeats_digest(earlier: &[MRow], row: &MRow) -> bool
-    ensures { result ≡ list_any (λ q. same_digest q row.now) earlier.now }
+// Whether a Differential of these rows names this row, though its watermark isn't earlier.
+fn is_named_late(rows: &[MRow], row: &MRow) -> bool
+    ensures { result ≡ list_any (λ q. follows_later row.now q) rows.now }
 {
-    earlier.iter().any(|q| has_same_digest(q, row))
+    rows.iter().any(|q| follows_later(row, q))
+}
+
+fn repeats_digest(rows: &[MRow], row: &MRow) -> bool
+    ensures { result ≡ list_any (λ q. same_digest q row.now) rows.now }
+{
+    rows.iter().any(|q| has_same_digest(q, row))
+}
+
+/// Whether a row repeats or contradicts one of these rows, by the fault of this number.
+pub(crate) fn is_blamed(code: u8, rows: &[MRow], row: &MRow) -> bool
+    ensures { result ≡ is_blamed code rows.now row.now }
+{
+    match code {
+        10 => repeats_revision(rows, row),
+        11 => moves_id(rows, row),
+        12 => follows_any_later(rows, row) || is_named_late(rows, row),
+        13 => repeats_digest(rows, row),
+        _ => false,
+    }
 }
 
 fn first_bad_id(rows: &[MRow]) -> Option<usize>
@@ -174,24 +185,14 @@ fn first_bad_resend(rows: &[MRow]) -> Option<usize>
     rows.iter().position(|row| row.header.resend > MOST_RESEND)
 }
 
-pub(crate) fn first_repeated_revision(rows: &[MRow]) -> Option<usize>
-    ensures first { result ≡ first_against_earlier same_revision rows.now }
+/// The least row that repeats or contradicts an earlier one, by the fault of this number.
+pub(crate) fn first_against_earlier(code: u8, rows: &[MRow]) -> Option<usize>
+    ensures first { result ≡ least (λ r. is_blamed code (take r rows.now) (row_at rows.now r))
+        (length rows.now) }
     ensures within { IfSome result (λ r. r < length rows.now) }
 {
     for (i, row) in rows.iter().enumerate() {
-        if repeats_revision(&rows[..i], row) {
-            return Some(i);
-        }
-    }
-    None
-}
-
-pub(crate) fn first_moved_id(rows: &[MRow]) -> Option<usize>
-    ensures first { result ≡ first_against_earlier moved_id rows.now }
-    ensures within { IfSome result (λ r. r < length rows.now) }
-{
-    for (i, row) in rows.iter().enumerate() {
-        if moves_id(&rows[..i], row) {
+        if is_blamed(code, &rows[..i], row) {
             return Some(i);
         }
     }
@@ -203,18 +204,6 @@ pub(crate) fn first_after_later(rows: &[MRow]) -> Option<usize>
     ensures within { IfSome result (λ r. r < length rows.now) }
 {
     rows.iter().position(|row| follows_any_later(rows, row))
-}
-
-pub(crate) fn first_repeated_digest(rows: &[MRow]) -> Option<usize>
-    ensures first { result ≡ first_against_earlier same_digest rows.now }
-    ensures within { IfSome result (λ r. r < length rows.now) }
-{
-    for (i, row) in rows.iter().enumerate() {
-        if repeats_digest(&rows[..i], row) {
-            return Some(i);
-        }
-    }
-    None
 }
 
 #[tactic(auto, unfolding(crate::specs::RowFaults::rows_fault))]

@@ -17,21 +17,13 @@ no_more one n bytes i done rest so_far below none =
     let e : n - i ≡ suc (n - (i + 1)) = omega (arith, so_far.within) in
     sym (so_far.rest_is ∙ rw (e, none) refl)
 
-with_one : {A : Type 0} → A → Option (List A × List ℕ) → Option (List A × List ℕ)
-with_one x None = None
-with_one x (Some p) = Some (x ∷ p.0, p.1)
-
-bound : {A : Type 0} (x : A) (o : Option (List A × List ℕ)) → (o >>= (λ xs. Some (x ∷ xs.0, xs.1))) ≡ with_one x o
-unfolding with_one
-bound x None = refl
-bound x (Some p) = refl
+abbrev with_one : {A : Type 0} → A → Option (List A × List ℕ) → Option (List A × List ℕ)
+with_one x o = o >>= (λ xs. Some (x ∷ xs.0, xs.1))
 
 many_more : {A : Type 0} (one : List ℕ → Option (A × List ℕ)) (m : ℕ) (rest behind : List ℕ) (x : A) → one rest ≡ Some (x, behind) → many one (suc m) rest ≡ with_one x (many one m behind)
-unfolding with_one
-many_more one m rest behind x some = rw some (bound x (many one m behind))
+many_more one m rest behind x some = rw some refl
 
 joined : {A : Type 0} (done : List A) (x : A) (o : Option (List A × List ℕ)) → option_map (behind_done done) (with_one x o) ≡ option_map (behind_done (done ++ (x ∷ []))) o
-unfolding with_one
 joined done x None = refl
 joined {A} done x (Some p) = let same : done ++ (x ∷ p.0) ≡ (done ++ (x ∷ [])) ++ p.0 = sym (append_assoc done (x ∷ []) p.0) in rw same refl
 

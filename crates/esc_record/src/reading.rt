@@ -43,10 +43,7 @@ fn number_at(bytes: &[u8]) -> Option<(u32, &[u8])>
 fn cut(count: usize, bytes: &[u8]) -> Option<(&[u8], &[u8])>
     ensures { option_map (λ p. (p.0.now, p.1.now)) result ≡ cut count bytes.now }
 {
-    if bytes.len() < count {
-        return None;
-    }
-    Some((&bytes[..count], &bytes[count..]))
+    bytes.split_at_checked(count)
 }
 
 // The text that bytes are, if they are UTF-8.

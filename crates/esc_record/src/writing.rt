@@ -121,9 +121,5 @@ pub fn to_record(alloc: Global, object: &Object) -> Result<Option<Vec<u8>>, NoMe
     ensures { IfOk result (λ bytes. option_map (λ b. b.items) bytes ≡ record_of object.now) }
 {
     let mut bytes = Vec::with_capacity(alloc, USUAL_LENGTH)?;
-    if push_object(&mut bytes, object)? {
-        Ok(Some(bytes))
-    } else {
-        Ok(None)
-    }
+    Ok(push_object(&mut bytes, object)?.then_some(bytes))
 }

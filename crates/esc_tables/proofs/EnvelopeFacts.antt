@@ -5,11 +5,12 @@ use Rattle.esc_bundle.specs.declared.fault.Fault.{Fault}
 use Rattle.esc_bundle.specs.declared.fault.Fault.TheVariants.{Refused, NoMemory}
 use Rattle.esc_bundle.specs.Bundle.{Named}
 use Rattle.esc_bundle.specs.Frame.{frame}
+use Rattle.esc_bundle.specs.TestLaws.{bind_done}
 use Rattle.esc_envelope.specs.EnvelopeValue.{EnvelopeValue}
 use Rattle.esc_envelope.specs.Envelope.{envelope_of}
 use Rattle.esc_tables.specs.DepositValue.{DepositValue}
 use Rattle.esc_tables.specs.Reading.{deposit_of_files, deposit_in, sections_deposit, reading, sections_envelope, bundled_envelope}
-use Rattle.esc_tables.proofs.ExactFacts.{steps_of, parts_of, same_ok}
+use Rattle.esc_tables.proofs.ExactFacts.{parts_of, same_ok}
 
 pub unframed : (body : List ℕ) (n : ℕ) → frame body ≡ Err n → bundled_envelope body ≡ Err n
 unfolding bundled_envelope
@@ -32,12 +33,12 @@ first_heads : (body : List ℕ) (ss : List Named) (d : DepositValue) → frame b
 unfolding sections_deposit
 first_heads body [] d framed h = absurd cc
 first_heads body (first ∷ files) d framed h =
-    let step = steps_of (envelope_of first.bytes) (deposit_in files) d h in
+    let step = bind_done (envelope_of first.bytes) (deposit_in files) d h in
     (step.0, same_envelope body first files framed ∙ step.1, made_heads files step.0 d (parts_of files step.0 d step.2).2)
 
 envelope_heads : (body : List ℕ) (d : DepositValue) → reading body ≡ Ok d → (e : EnvelopeValue) × (bundled_envelope body ≡ Ok e) × Heads e d
 unfolding reading
-envelope_heads body d h = let step = steps_of (frame body) sections_deposit d h in first_heads body step.0 d step.1 step.2
+envelope_heads body d h = let step = bind_done (frame body) sections_deposit d h in first_heads body step.0 d step.1 step.2
 
 same_heads : (e f : EnvelopeValue) (d : DepositValue) → e ≡ f → Heads f d → Heads e d
 same_heads e f d same heads = (ap (λ (x : EnvelopeValue). x.header) same ∙ heads.0, ap (λ (x : EnvelopeValue). x.counts) same ∙ heads.1)

@@ -1,5 +1,5 @@
 -- The reading of a body is what the relations say.
-use Rattle.std.proofs.Common.{◌≡◌, ◌∙◌, ◌≤◌, ◌<◌, ℕ, Bool, true, false, List, [], ◌∷◌, length, refl, sym, ap, subst, arith, inl, inr}
+use Rattle.std.proofs.Common.{◌≡◌, ◌∙◌, ◌≤◌, ◌<◌, ℕ, true, false, List, [], ◌∷◌, length, refl, sym, ap, subst, arith, inl, inr}
 use Rattle.std.specs.Prelude.{Result, Ok, Err, ◌↔◌, nat_le, ◌⊎◌}
 use Rattle.std.specs.List.{list_all}
 use Rattle.std.proofs.lemmas.Bool.{cases_Bool}
@@ -8,6 +8,7 @@ use Rattle.esc_bundle.specs.Bundle.{Named, IsBundle}
 use Rattle.esc_bundle.specs.Reading.{IsFault}
 use Rattle.esc_bundle.specs.Frame.{frame}
 use Rattle.esc_bundle.specs.Tests.{◌>>=◌, check}
+use Rattle.esc_bundle.specs.TestLaws.{bind_done, bind_fault, check_passed}
 use Rattle.esc_envelope.specs.EnvelopeValue.{EnvelopeValue}
 use Rattle.esc_envelope.specs.Envelope.{envelope_of}
 use Rattle.esc_tables.specs.DepositValue.{DepositValue}
@@ -39,17 +40,6 @@ made_only files e d made =
 
 -- ---- the tests in order
 
-abbrev pub Steps : {A B : Type 0} → Result A ℕ → (A → Result B ℕ) → B → Type 0
-Steps {A} r next y = (x : A) × (r ≡ Ok x) × (next x ≡ Ok y)
-
-pub steps_of : {A B : Type 0} (r : Result A ℕ) (next : A → Result B ℕ) (y : B) → (r >>= next) ≡ Ok y → Steps r next y
-steps_of (Ok x) next y h = (x, refl, h)
-steps_of (Err n) next y h = absurd cc
-
-passes : (b : Bool) (n : ℕ) → check b n ≡ Ok tt → b ≡ true
-passes true n h = refl
-passes false n h = absurd cc
-
 pub record Right (rows : List TableRow) : Type 0 where
   pub whole : list_all is_whole rows ≡ true
   pub named : list_all has_key rows ≡ true
@@ -58,10 +48,10 @@ pub record Right (rows : List TableRow) : Type 0 where
 pub right_rows : (rows : List TableRow) → check_rows rows ≡ Ok tt → Right rows
 unfolding check_rows
 right_rows rows h =
-    let first = steps_of (check (list_all is_whole rows) 9) (λ _. check (list_all has_key rows) 10 >>= λ _. check (nat_le (length rows) most_rows) 11) tt h in
-    let second = steps_of (check (list_all has_key rows) 10) (λ _. check (nat_le (length rows) most_rows) 11) tt first.2 in
-    let test = passes (nat_le (length rows) most_rows) 11 second.2 in
-    record { whole = passes (list_all is_whole rows) 9 first.1; named = passes (list_all has_key rows) 10 second.1; few = grind (arith, nat_tests) }
+    let first = bind_done (check (list_all is_whole rows) 9) _ tt h in
+    let second = bind_done (check (list_all has_key rows) 10) _ tt first.2 in
+    let test = check_passed (nat_le (length rows) most_rows) 11 tt second.2 in
+    record { whole = check_passed (list_all is_whole rows) 9 first.0 first.1; named = check_passed (list_all has_key rows) 10 second.0 second.1; few = grind (arith, nat_tests) }
 
 rows_right : (rows : List TableRow) → list_all is_whole rows ≡ true → list_all has_key rows ≡ true → length rows ≤ most_rows → check_rows rows ≡ Ok tt
 unfolding check_rows
@@ -78,9 +68,9 @@ Parts files e d = (are_filed files (tables_of e) ≡ true) × (check_rows (all_r
 pub parts_of : (files : List Named) (e : EnvelopeValue) (d : DepositValue) → deposit_in files e ≡ Ok d → Parts files e d
 unfolding deposit_in
 parts_of files e d h =
-    let first = steps_of (check (are_filed files (tables_of e)) 8) (λ _. check_rows (all_rows files e) >>= λ _. Ok (deposit_of_files files e)) d h in
-    let second = steps_of (check_rows (all_rows files e)) (λ _. Ok (deposit_of_files files e)) d first.2 in
-    (passes (are_filed files (tables_of e)) 8 first.1, second.1, sym (same_ok (deposit_of_files files e) d second.2))
+    let first = bind_done (check (are_filed files (tables_of e)) 8) _ d h in
+    let second = bind_done (check_rows (all_rows files e)) _ d first.2 in
+    (check_passed (are_filed files (tables_of e)) 8 first.0 first.1, second.1, sym (same_ok (deposit_of_files files e) d second.2))
 
 is_deposit_in : (body : List ℕ) (first : Named) (files : List Named) (e : EnvelopeValue) (d : DepositValue) → IsBundle body (first ∷ files) → envelope_of first.bytes ≡ Ok e → Parts files e d → IsDepositOf body d
 is_deposit_in body first files e d bundle told parts =
@@ -102,7 +92,7 @@ is_deposit_at : (body : List ℕ) (ss : List Named) (d : DepositValue) → IsBun
 unfolding sections_deposit
 is_deposit_at body [] d bundle h = absurd cc
 is_deposit_at body (first ∷ files) d bundle h =
-    let step = steps_of (envelope_of first.bytes) (deposit_in files) d h in
+    let step = bind_done (envelope_of first.bytes) (deposit_in files) d h in
     is_deposit_in body first files step.0 d bundle step.1 (parts_of files step.0 d step.2)
 
 abbrev pub FrameIsExact : Type 0
@@ -110,7 +100,7 @@ FrameIsExact = (body : List ℕ) (ss : List Named) → (frame body ≡ Ok ss) �
 
 is_deposit : FrameIsExact → (body : List ℕ) (d : DepositValue) → reading body ≡ Ok d → IsDepositOf body d
 unfolding reading
-is_deposit exact body d h = let step = steps_of (frame body) sections_deposit d h in is_deposit_at body step.0 d ((exact body step.0).0 step.1) step.2
+is_deposit exact body d h = let step = bind_done (frame body) sections_deposit d h in is_deposit_at body step.0 d ((exact body step.0).0 step.1) step.2
 
 reads : FrameIsExact → (body : List ℕ) (d : DepositValue) → IsDepositOf body d → reading body ≡ Ok d
 reads exact body d is =
@@ -129,10 +119,6 @@ NoneStands files e = (m : ℕ) → IsDepositFault files e m → ⊥
 abbrev Told : List Named → EnvelopeValue → Type 0
 Told files e = ((deposit_in files e ≡ Ok (deposit_of_files files e)) × NoneStands files e) ⊎ ((n : ℕ) × (deposit_in files e ≡ Err n) × IsLeastDepositFault files e n)
 
--- a test that passes and fails
-never : {P : Type 0} (b : Bool) → b ≡ true → b ≡ false → P
-never b passed failed = absurd cc
-
 nameless_rows : (rows : List TableRow) → list_all is_whole rows ≡ true → list_all has_key rows ≡ false → check_rows rows ≡ Err 10
 unfolding check_rows
 nameless_rows rows whole nameless = rw (whole, nameless) refl
@@ -145,34 +131,19 @@ abbrev Below : List Named → EnvelopeValue → ℕ → Type 0
 Below files e n = (m : ℕ) → IsDepositFault files e m → n ≤ m
 
 below_8 : (files : List Named) (e : EnvelopeValue) → Below files e 8
-below_8 files e m (inl h) = omega (arith, h.0)
-below_8 files e m (inr (inl h)) = omega (arith, h.0)
-below_8 files e m (inr (inr (inl h))) = omega (arith, h.0)
-below_8 files e m (inr (inr (inr h))) = omega (arith, h.0)
+below_8 files e m stands = grind arith
 
 below_9 : (files : List Named) (e : EnvelopeValue) → are_filed files (tables_of e) ≡ true → Below files e 9
-below_9 files e filed m (inl h) = never (are_filed files (tables_of e)) filed h.1
-below_9 files e filed m (inr (inl h)) = omega (arith, h.0)
-below_9 files e filed m (inr (inr (inl h))) = omega (arith, h.0)
-below_9 files e filed m (inr (inr (inr h))) = omega (arith, h.0)
+below_9 files e filed m stands = grind arith
 
 below_10 : (files : List Named) (e : EnvelopeValue) → are_filed files (tables_of e) ≡ true → list_all is_whole (all_rows files e) ≡ true → Below files e 10
-below_10 files e filed whole m (inl h) = never (are_filed files (tables_of e)) filed h.1
-below_10 files e filed whole m (inr (inl h)) = never (list_all is_whole (all_rows files e)) whole h.1
-below_10 files e filed whole m (inr (inr (inl h))) = omega (arith, h.0)
-below_10 files e filed whole m (inr (inr (inr h))) = omega (arith, h.0)
+below_10 files e filed whole m stands = grind arith
 
 below_11 : (files : List Named) (e : EnvelopeValue) → are_filed files (tables_of e) ≡ true → list_all is_whole (all_rows files e) ≡ true → list_all has_key (all_rows files e) ≡ true → Below files e 11
-below_11 files e filed whole named m (inl h) = never (are_filed files (tables_of e)) filed h.1
-below_11 files e filed whole named m (inr (inl h)) = never (list_all is_whole (all_rows files e)) whole h.1
-below_11 files e filed whole named m (inr (inr (inl h))) = never (list_all has_key (all_rows files e)) named h.1
-below_11 files e filed whole named m (inr (inr (inr h))) = omega (arith, h.0)
+below_11 files e filed whole named m stands = grind arith
 
 none_stands : (files : List Named) (e : EnvelopeValue) → are_filed files (tables_of e) ≡ true → list_all is_whole (all_rows files e) ≡ true → list_all has_key (all_rows files e) ≡ true → length (all_rows files e) ≤ most_rows → NoneStands files e
-none_stands files e filed whole named few m (inl h) = never (are_filed files (tables_of e)) filed h.1
-none_stands files e filed whole named few m (inr (inl h)) = never (list_all is_whole (all_rows files e)) whole h.1
-none_stands files e filed whole named few m (inr (inr (inl h))) = never (list_all has_key (all_rows files e)) named h.1
-none_stands files e filed whole named few m (inr (inr (inr h))) = omega (arith, h.1)
+none_stands files e filed whole named few m stands = grind arith
 
 told_number : (files : List Named) (e : EnvelopeValue) → are_filed files (tables_of e) ≡ true → list_all is_whole (all_rows files e) ≡ true → list_all has_key (all_rows files e) ≡ true → Told files e
 told_number files e filed whole named = elim (cases_Bool (nat_le (length (all_rows files e)) most_rows)) [
@@ -222,32 +193,26 @@ refused_from files e n (inr wrong) least =
 
 -- ---- a body is refused
 
-abbrev Stops : {A B : Type 0} → Result A ℕ → (A → Result B ℕ) → ℕ → Type 0
-Stops {A} r next n = (r ≡ Err n) ⊎ ((x : A) × (r ≡ Ok x) × (next x ≡ Err n))
-
-stops_of : {A B : Type 0} (r : Result A ℕ) (next : A → Result B ℕ) (n : ℕ) → (r >>= next) ≡ Err n → Stops r next n
-stops_of (Ok x) next n h = inr (x, refl, h)
-stops_of (Err m) next n h = inl (ap (λ (k : ℕ). Err k) (same_number (Err m) m n refl h))
-
-refused_envelope : (first : Named) (files : List Named) (n : ℕ) → Stops (envelope_of first.bytes) (deposit_in files) n → IsRefusedAt first files n
-refused_envelope first files n (inl wrong) = inl wrong
-refused_envelope first files n (inr step) = inr (step.0, step.1, least_from files step.0 n (told files step.0) step.2)
+refused_envelope : (first : Named) (files : List Named) (n : ℕ) → (envelope_of first.bytes >>= deposit_in files) ≡ Err n → IsRefusedAt first files n
+refused_envelope first files n h = elim (bind_fault (envelope_of first.bytes) (deposit_in files) n h) [
+  | inl wrong ↦ inl wrong
+  | inr (e, is, wrong) ↦ inr (e, is, least_from files e n (told files e) wrong)
+]
 
 refused_sections : (body : List ℕ) (ss : List Named) (n : ℕ) → IsBundle body ss → sections_deposit ss ≡ Err n → IsRefused body n
 unfolding sections_deposit
 refused_sections body [] n bundle h = absurd (omega (arith, bundle.some))
-refused_sections body (first ∷ files) n bundle h = inr (first, files, bundle, refused_envelope first files n (stops_of (envelope_of first.bytes) (deposit_in files) n h))
+refused_sections body (first ∷ files) n bundle h = inr (first, files, bundle, refused_envelope first files n h)
 
 abbrev pub FaultIsExact : Type 0
 FaultIsExact = (body : List ℕ) (n : ℕ) → (frame body ≡ Err n) ↔ IsFault body n
 
-refused_frame : FrameIsExact → FaultIsExact → (body : List ℕ) (n : ℕ) → Stops (frame body) sections_deposit n → IsRefused body n
-refused_frame exact fault body n (inl wrong) = inl ((fault body n).0 wrong)
-refused_frame exact fault body n (inr step) = refused_sections body step.0 n ((exact body step.0).0 step.1) step.2
-
 is_refused : FrameIsExact → FaultIsExact → (body : List ℕ) (n : ℕ) → reading body ≡ Err n → IsRefused body n
 unfolding reading
-is_refused exact fault body n h = refused_frame exact fault body n (stops_of (frame body) sections_deposit n h)
+is_refused exact fault body n h = elim (bind_fault (frame body) sections_deposit n h) [
+  | inl wrong ↦ inl ((fault body n).0 wrong)
+  | inr (ss, is, wrong) ↦ refused_sections body ss n ((exact body ss).0 is) wrong
+]
 
 refuses_at : (body : List ℕ) (first : Named) (files : List Named) (n : ℕ) → frame body ≡ Ok (first ∷ files) → IsRefusedAt first files n → reading body ≡ Err n
 refuses_at body first files n framed (inl wrong) = no_envelope body first files n framed wrong

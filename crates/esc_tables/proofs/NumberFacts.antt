@@ -1,6 +1,6 @@
 -- The refusals of a body are 1 to 11, and those of its envelope 1 to 7.
 use Rattle.std.proofs.Common.{◌≡◌, ℕ, ◌≤◌, Bool, true, false, List, [], ◌∷◌, subst, arith}
-use Rattle.std.specs.Prelude.{Result, Ok, Err, ◌↔◌, nat_le, length}
+use Rattle.std.specs.Prelude.{Result, Ok, Err, nat_le, length}
 use Rattle.std.specs.List.{list_all}
 use Rattle.esc_bundle.specs.Bundle.{Named}
 use Rattle.esc_bundle.specs.Frame.{frame}
@@ -11,6 +11,7 @@ use Rattle.esc_envelope.specs.EnvelopeValue.{EnvelopeValue}
 use Rattle.esc_tables.specs.Reading.{tables_of, check_rows, deposit_in, sections_deposit, reading, sections_envelope, bundled_envelope, most_rows}
 use Rattle.esc_tables.specs.TableRow.{TableRow, are_filed, is_whole, has_key}
 use Rattle.esc_tables.specs.DepositOf.{all_rows}
+use Rattle.esc_tables.proofs.ExactFacts.{FaultIsExact}
 
 -- ---- one step
 
@@ -47,9 +48,6 @@ files_number files e n h =
 abbrev pub FrameNumbers : Type 0
 FrameNumbers = (body : List ℕ) (n : ℕ) → IsFault body n → (1 ≤ n) × (n ≤ 4)
 
-abbrev pub FrameIsExact : Type 0
-FrameIsExact = (body : List ℕ) (n : ℕ) → (frame body ≡ Err n) ↔ IsFault body n
-
 abbrev pub EnvelopeNumbers : Type 0
 EnvelopeNumbers = (text : List ℕ) (n : ℕ) → envelope_of text ≡ Err n → (5 ≤ n) × (n ≤ 7)
 
@@ -59,7 +57,7 @@ sections_number envelope [] n h = let same : 5 ≡ n = cc in subst IsNumber same
 sections_number envelope (first ∷ files) n h =
     later IsNumber (envelope_of first.bytes) (deposit_in files) n (λ m e. let k = envelope first.bytes m e in (omega (arith, k.0), omega (arith, k.1))) (λ e w. files_number files e n w) h
 
-pub reading_number : FrameIsExact → FrameNumbers → EnvelopeNumbers → (body : List ℕ) (n : ℕ) → reading body ≡ Err n → (1 ≤ n) × (n ≤ 11)
+pub reading_number : FaultIsExact → FrameNumbers → EnvelopeNumbers → (body : List ℕ) (n : ℕ) → reading body ≡ Err n → (1 ≤ n) × (n ≤ 11)
 unfolding reading
 reading_number exact numbers envelope body n h =
     later IsNumber (frame body) sections_deposit n (λ m e. let k = numbers body m ((exact body m).0 e) in (k.0, omega (arith, k.1))) (λ ss w. sections_number envelope ss n w) h
@@ -69,7 +67,7 @@ unfolding sections_envelope
 first_number envelope [] n h = let same : 5 ≡ n = cc in subst IsFirstNumber same (omega arith, omega arith)
 first_number envelope (first ∷ files) n h = let k = envelope first.bytes n h in (omega (arith, k.0), k.1)
 
-pub envelope_number : FrameIsExact → FrameNumbers → EnvelopeNumbers → (body : List ℕ) (n : ℕ) → bundled_envelope body ≡ Err n → (1 ≤ n) × (n ≤ 7)
+pub envelope_number : FaultIsExact → FrameNumbers → EnvelopeNumbers → (body : List ℕ) (n : ℕ) → bundled_envelope body ≡ Err n → (1 ≤ n) × (n ≤ 7)
 unfolding bundled_envelope
 envelope_number exact numbers envelope body n h =
     later IsFirstNumber (frame body) sections_envelope n (λ m e. let k = numbers body m ((exact body m).0 e) in (k.0, omega (arith, k.1))) (λ ss w. first_number envelope ss n w) h

@@ -1,5 +1,5 @@
 -- A deposit has at most as many deletes and objects as its bundle has rows.
-use Rattle.std.proofs.Common.{◌≡◌, ◌∙◌, ℕ, suc, ◌+◌, ◌≤◌, Bool, true, false, cond, List, [], ◌∷◌, length, map, filter, sym, ap, subst, arith}
+use Rattle.std.proofs.Common.{◌≡◌, ◌∙◌, ℕ, suc, ◌+◌, ◌≤◌, Bool, true, false, cond, List, [], ◌∷◌, ◌++◌, length, map, filter, sym, ap, subst, arith}
 use Rattle.std.specs.Prelude.{Ok}
 use Rattle.std.specs.List.{fold}
 use Rattle.std.specs.FinMap.Entries.{put, by_order}
@@ -9,6 +9,7 @@ use Rattle.std.proofs.lemmas.List.{length-append, length-map}
 use Rattle.std.proofs.lemmas.Grind.{flat_map-append}
 use Rattle.esc_bundle.specs.Bundle.{Named}
 use Rattle.esc_bundle.specs.Frame.{frame}
+use Rattle.esc_bundle.specs.TestLaws.{bind_done}
 use Rattle.esc_envelope.specs.EnvelopeValue.{EnvelopeValue, TableValue}
 use Rattle.esc_envelope.specs.Envelope.{envelope_of}
 use Rattle.esc_tables.specs.KeyName.{KeyName, key_cmp}
@@ -19,7 +20,7 @@ use Rattle.esc_tables.specs.Objects.{at_key, with_children, last_by_key, objects
 use Rattle.esc_tables.specs.Reading.{placed, is_before, by_name, deposit_of_files, deposit_in, sections_deposit, reading, most_rows, parent_rows, child_rows}
 use Rattle.esc_tables.specs.DepositOf.{all_rows}
 use Rattle.esc_tables.proofs.ObjectFacts.{putting}
-use Rattle.esc_tables.proofs.ExactFacts.{Parts, parts_of, steps_of, right_rows}
+use Rattle.esc_tables.proofs.ExactFacts.{Parts, parts_of, right_rows}
 
 -- ---- no more objects than parent rows
 
@@ -73,18 +74,18 @@ same_length files ts = omega (arith, all_placed files ts [])
 
 -- ---- the deposit
 
+pub joined_length : (files : List Named) (cs ds : List TableValue) → length (rows_in files (cs ++ ds)) ≡ length (rows_in files cs) + length (rows_in files ds)
+joined_length files cs ds = ap (λ (rows : List TableRow). length rows) (flat_map-append (table_rows files) cs ds) ∙ length-append (rows_in files cs) (rows_in files ds)
+
 pub few_contents : (files : List Named) (e : EnvelopeValue) → length (rows_in files e.contents) ≤ length (all_rows files e)
-few_contents files e =
-    let all : length (all_rows files e) ≡ length (rows_in files e.contents) + length (rows_in files e.deletes) = ap (λ (rows : List TableRow). length rows) (flat_map-append (table_rows files) e.contents e.deletes) ∙ length-append (rows_in files e.contents) (rows_in files e.deletes) in
-    omega (arith, all)
+few_contents files e = omega (arith, joined_length files e.contents e.deletes)
 
 few_in : (files : List Named) (e : EnvelopeValue) → length (deposit_of_files files e).deletes + length (deposit_of_files files e).contents ≤ length (all_rows files e)
 unfolding deposit_of_files
 few_in files e =
-    let all : length (all_rows files e) ≡ length (rows_in files e.contents) + length (rows_in files e.deletes) = ap (λ (rows : List TableRow). length rows) (flat_map-append (table_rows files) e.contents e.deletes) ∙ length-append (rows_in files e.contents) (rows_in files e.deletes) in
     let deletes : length (map key_of (rows_in files e.deletes)) ≡ length (rows_in files e.deletes) = length-map (rows_in files e.deletes) key_of in
     let parents : length (parent_rows files e) ≡ length (rows_in files (filter (λ t. t.parent) e.contents)) = length-map (rows_in files (filter (λ t. t.parent) e.contents)) keyed in
-    omega (arith, all, deletes, parents, few_objects (parent_rows files e) (child_rows files e), fewer_tables files (λ t. t.parent) e.contents)
+    omega (arith, joined_length files e.contents e.deletes, deletes, parents, few_objects (parent_rows files e) (child_rows files e), fewer_tables files (λ t. t.parent) e.contents)
 
 few_parts : (files : List Named) (e : EnvelopeValue) (d : DepositValue) → Parts files e d → length d.deletes + length d.contents ≤ most_rows
 few_parts files e d parts = subst (λ (x : DepositValue). length x.deletes + length x.contents ≤ most_rows) (sym parts.2) (omega (arith, few_in files e, (right_rows (all_rows files e) parts.1).few))
@@ -93,9 +94,9 @@ few_at : (ss : List Named) (d : DepositValue) → sections_deposit ss ≡ Ok d �
 unfolding sections_deposit
 few_at [] d h = absurd cc
 few_at (first ∷ files) d h =
-    let step = steps_of (envelope_of first.bytes) (deposit_in files) d h in
+    let step = bind_done (envelope_of first.bytes) (deposit_in files) d h in
     few_parts files step.0 d (parts_of files step.0 d step.2)
 
 pub few_mentions : (body : List ℕ) (d : DepositValue) → reading body ≡ Ok d → length d.deletes + length d.contents ≤ most_rows
 unfolding reading
-few_mentions body d h = let step = steps_of (frame body) sections_deposit d h in few_at step.0 d step.2
+few_mentions body d h = let step = bind_done (frame body) sections_deposit d h in few_at step.0 d step.2

@@ -9,14 +9,15 @@ use Rattle.std.specs.declared.cmp.Ordering.TheVariants.{Less, Equal, Greater}
 use Rattle.std.proofs.lemmas.Bool.{cases_Bool, and_parts}
 use Rattle.std.proofs.lemmas.Bool.Decides.{nat_tests}
 use Rattle.std.proofs.lemmas.List.{length-map}
-use Rattle.std.proofs.lemmas.List.Elements.{All-from_recursion, recursion_from_All, All-tail, All-filter}
+use Rattle.std.proofs.lemmas.List.Elements.{All-from_recursion, recursion_from_All, All-append, All-tail, All-filter}
 use Rattle.esc_bundle.specs.Bundle.{Named, limit, IsBundle}
 use Rattle.esc_bundle.specs.Frame.{frame}
+use Rattle.esc_bundle.specs.TestLaws.{bind_done}
 use Rattle.esc_csv.specs.Records.{records_of}
 use Rattle.esc_envelope.specs.EnvelopeValue.{EnvelopeValue, TableValue}
 use Rattle.esc_envelope.specs.Envelope.{envelope_of}
 use Rattle.esc_envelope.specs.Id.{is_id, is_id_byte}
-use Rattle.esc_envelope.specs.DeclaredTables.{IsTable, is_table_name, is_table_name_byte}
+use Rattle.esc_envelope.specs.DeclaredTables.{IsTable, is_table_name_byte}
 use Rattle.esc_tables.specs.DepositOf.{all_rows}
 use Rattle.esc_tables.specs.DepositValue.{DepositValue}
 use Rattle.esc_tables.specs.KeyName.{KeyName, key_cmp, key_eq}
@@ -25,7 +26,7 @@ use Rattle.esc_tables.specs.Objects.{at_key, with_children, last_by_key, objects
 use Rattle.esc_tables.specs.Reading.{by_name, deposit_of_files, deposit_in, sections_deposit, reading, most_rows, parent_rows, child_rows}
 use Rattle.esc_tables.specs.SmallObject.{IsSmallRow, IsSmallObject}
 use Rattle.esc_tables.specs.TableRow.{TableRow, in_table, bytes_named, table_rows, rows_in, row_as_cells, keyed}
-use Rattle.esc_tables.proofs.ExactFacts.{Parts, parts_of, steps_of, right_rows}
+use Rattle.esc_tables.proofs.ExactFacts.{Parts, parts_of, right_rows}
 use Rattle.esc_tables.proofs.ObjectFacts.{putting}
 use Rattle.esc_tables.proofs.OrderFacts.{by_name_all}
 use Rattle.esc_tables.proofs.SizeFacts.{fewer_tables, same_length, few_contents}
@@ -53,31 +54,23 @@ rows_of_table : (t : TableValue) (n : ℕ) (records : List (List (List ℕ))) �
 rows_of_table t n [] table fits all = tt
 rows_of_table t n (r ∷ rs) table fits all = (record { table = table; texts = λ k d below. omega (arith, fits, all.0 k d below) }, rows_of_table t n rs table fits all.1)
 
-all_joined : {X : Type 0} (P : X → Type 0) (xs ys : List X) → AllByRecursion P xs → AllByRecursion P ys → AllByRecursion P (xs ++ ys)
-all_joined P [] ys a b = b
-all_joined P (x ∷ xs) ys a b = (a.0, all_joined P xs ys a.1 b)
-
 rows_of_tables : FieldsFit → (files : List Named) (ts : List TableValue) → AreSmall files → All IsTable ts → AllByRecursion IsOfTable (rows_in files ts)
 rows_of_tables fit files [] small all = tt
 rows_of_tables fit files (t ∷ ts) small all =
     let text = bytes_named files t.file in
     let here = rows_of_table t (length text) (records_of text) (all 0 t (omega arith)) (named_small files t.file small) (recursion_from_All (λ r. All (λ f. length f ≤ length text) r) (records_of text) (fit text)) in
-    all_joined IsOfTable (table_rows files t) (rows_in files ts) here (rows_of_tables fit files ts small (All-tail IsTable t ts all))
+    let others = All-from_recursion IsOfTable (rows_in files ts) (rows_of_tables fit files ts small (All-tail IsTable t ts all)) in
+    recursion_from_All IsOfTable (rows_in files (t ∷ ts)) (All-append IsOfTable (table_rows files t) (rows_in files ts) (All-from_recursion IsOfTable (table_rows files t) here) others)
 
 -- ---- one row
 
 abbrev IsSmallCell : List ℕ × List ℕ → Type 0
 IsSmallCell c = (length c.0 ≤ 64) × (length c.1 ≤ limit)
 
-name_small : (name : List ℕ) → is_table_name name ≡ true → length name ≤ 64
-name_small name is =
-    let sized = and_parts (nat_lt 0 (length name) && nat_le (length name) 64) (list_all is_table_name_byte name) is in
-    let few = (and_parts (nat_lt 0 (length name)) (nat_le (length name) 64) sized.0).1 in
-    grind (arith, nat_tests)
-
-id_small : (name : List ℕ) → is_id name ≡ true → length name ≤ 64
-id_small name is =
-    let sized = and_parts (nat_lt 0 (length name) && nat_le (length name) 64) (list_all is_id_byte name) is in
+-- of 1 to 64 bytes that pass a test
+short_text : (name : List ℕ) (passed : Bool) → (nat_lt 0 (length name) && nat_le (length name) 64 && passed) ≡ true → length name ≤ 64
+short_text name passed is =
+    let sized = and_parts (nat_lt 0 (length name) && nat_le (length name) 64) passed is in
     let few = (and_parts (nat_lt 0 (length name)) (nat_le (length name) 64) sized.0).1 in
     grind (arith, nat_tests)
 
@@ -86,7 +79,7 @@ cells_small [] texts ids short = tt
 cells_small (f ∷ fs) [] ids short = tt
 cells_small (f ∷ fs) (t ∷ ts) ids short =
     let parts = and_parts (is_id f) (list_all is_id fs) ids in
-    ((id_small f parts.0, short 0 t (omega arith)), cells_small fs ts parts.1 (All-tail (λ f. length f ≤ limit) t ts short))
+    ((short_text f (list_all is_id_byte f) parts.0, short 0 t (omega arith)), cells_small fs ts parts.1 (All-tail (λ f. length f ≤ limit) t ts short))
 
 few_cells : (fields texts : List (List ℕ)) → length (zip fields texts) ≤ length fields
 few_cells [] texts = omega arith
@@ -95,7 +88,7 @@ few_cells (f ∷ fs) (t ∷ ts) = omega (arith, few_cells fs ts)
 
 small_row : (r : TableRow) → IsOfTable r → IsSmallRow (row_as_cells r)
 small_row r is = record {
-  table = name_small r.table.name is.table.named;
+  table = short_text r.table.name (list_all is_table_name_byte r.table.name) is.table.named;
   few = omega (arith, few_cells r.table.fields r.fields, is.table.few);
   cells = All-from_recursion IsSmallCell (zip r.table.fields r.fields) (cells_small r.table.fields r.fields is.table.formed is.texts);
 }
@@ -170,7 +163,7 @@ small_at : FieldsFit → TablesFit → (ss : List Named) (d : DepositValue) → 
 unfolding sections_deposit AreSmall
 small_at fit forms [] d small h = absurd cc
 small_at fit forms (first ∷ files) d small h =
-    let step = steps_of (envelope_of first.bytes) (deposit_in files) d h in
+    let step = bind_done (envelope_of first.bytes) (deposit_in files) d h in
     let e = step.0 in
     let all = recursion_from_All IsTable (e.contents ++ e.deletes) (forms first.bytes e step.1) in
     small_parts fit files e d small.1 (All-from_recursion IsTable e.contents (front_all IsTable e.contents e.deletes all)) (parts_of files e d step.2)
@@ -178,6 +171,6 @@ small_at fit forms (first ∷ files) d small h =
 pub small_deposit : FieldsFit → TablesFit → ((body : List ℕ) (ss : List Named) → (frame body ≡ Ok ss) ↔ IsBundle body ss) → (body : List ℕ) (d : DepositValue) → reading body ≡ Ok d → All (λ e. IsSmallObject e.1) d.contents
 unfolding reading AreSmall
 small_deposit fit forms exact body d h =
-    let step = steps_of (frame body) sections_deposit d h in
+    let step = bind_done (frame body) sections_deposit d h in
     let bundle = (exact body step.0).0 step.1 in
     All-from_recursion HasSmallObject d.contents (small_at fit forms step.0 d (recursion_from_All (λ s. length s.bytes ≤ limit) step.0 bundle.sections.small) step.2)

@@ -33,7 +33,7 @@ pub all_in_each : {A B : Type 0} (test : B → Bool) (f : A → List B) (xs : Li
 all_in_each test f [] = refl
 all_in_each test f (x ∷ xs) = list_all-append test (f x) (flat_map f xs) ∙ ap (λ (b : Bool). list_all test (f x) && b) (all_in_each test f xs)
 
-and_true : (b : Bool) → b ≡ (b && true)
+pub and_true : (b : Bool) → b ≡ (b && true)
 and_true true = refl
 and_true false = refl
 

@@ -7,7 +7,7 @@ use Rattle.std.proofs.lemmas.List.{length-append}
 use Rattle.std.proofs.lemmas.List.Folds.{list_all-append}
 use Rattle.std.proofs.lemmas.List.Sums.{fold-append}
 use Rattle.std.proofs.lemmas.Grind.{flat_map-append}
-use Rattle.std.proofs.Math.Bool.{and_assoc}
+use Rattle.std.proofs.Math.Bool.{and_assoc, and-false}
 use Rattle.esc_bundle.specs.Bundle.{Named}
 use Rattle.esc_bundle.specs.declared.fault.Fault.{Fault}
 use Rattle.esc_bundle.specs.declared.fault.Fault.TheVariants.{Refused}
@@ -16,8 +16,8 @@ use Rattle.esc_tables.specs.declared.survey.Survey.{Survey}
 use Rattle.esc_tables.specs.TableRow.{TableRow, table_rows, rows_in, is_whole, has_key}
 use Rattle.esc_tables.specs.Reading.{placed, by_name, is_before, check_rows}
 use Rattle.esc_tables.specs.Survey.{surveyed, unseen, verdict, AreSurveyed, IsFaultOf}
-use Rattle.esc_tables.proofs.SizeFacts.{same_length}
-use Rattle.esc_tables.proofs.SurveyFacts.{all_in_each, SeenOf, seen_is, judged, told_9}
+use Rattle.esc_tables.proofs.SizeFacts.{same_length, joined_length}
+use Rattle.esc_tables.proofs.SurveyFacts.{all_in_each, and_true, SeenOf, seen_is, judged, told_9}
 
 -- ---- a test of tables in turn
 
@@ -35,10 +35,6 @@ past true b c = refl
 past false true c = refl
 past false false c = refl
 
-with_true : (b : Bool) → b ≡ (b && true)
-with_true true = refl
-with_true false = refl
-
 placed_tested : (test : TableValue → Bool) (us : List TableValue) (t : TableValue) → list_all test (placed us t) ≡ (test t && list_all test us)
 placed_tested test [] t = refl
 placed_tested test (u ∷ us) t = elim (cases_Bool (is_before t u)) [
@@ -47,7 +43,7 @@ placed_tested test (u ∷ us) t = elim (cases_Bool (is_before t u)) [
 ]
 
 onward_tested : (test : TableValue → Bool) (ts us : List TableValue) → list_all test (fold placed us ts) ≡ (list_all test us && list_all test ts)
-onward_tested test [] us = with_true (list_all test us)
+onward_tested test [] us = and_true (list_all test us)
 onward_tested test (t ∷ ts) us =
     onward_tested test ts (placed us t) ∙ ap (λ (b : Bool). b && list_all test ts) (placed_tested test us t)
     ∙ and_assoc (test t) (list_all test us) (list_all test ts) ∙ past (test t) (list_all test us) (list_all test ts)
@@ -105,8 +101,7 @@ parts_tested files cs ds test =
 
 parts_length : (files : List Named) (cs ds : List TableValue) → length (in_parts files cs ds) ≡ length (rows_in files (cs ++ ds))
 parts_length files cs ds =
-    let all : length (rows_in files (cs ++ ds)) ≡ length (rows_in files cs) + length (rows_in files ds) = ap (λ (rows : List TableRow). length rows) (flat_map-append (table_rows files) cs ds) ∙ length-append (rows_in files cs) (rows_in files ds) in
-    omega (arith, all, parted_length files cs, same_length files (filter is_child cs), length-append (rows_in files (filter is_parent cs)) (rows_in files (by_name (filter is_child cs)) ++ rows_in files ds), length-append (rows_in files (by_name (filter is_child cs))) (rows_in files ds))
+    omega (arith, joined_length files cs ds, parted_length files cs, same_length files (filter is_child cs), length-append (rows_in files (filter is_parent cs)) (rows_in files (by_name (filter is_child cs)) ++ rows_in files ds), length-append (rows_in files (by_name (filter is_child cs))) (rows_in files ds))
 
 same_faults : (files : List Named) (cs ds : List TableValue) → check_rows (rows_in files (cs ++ ds)) ≡ check_rows (in_parts files cs ds)
 unfolding check_rows
@@ -133,10 +128,6 @@ judged_in_turn files contents deletes {u = u} first second third =
     let whole : list_all is_whole (ps ++ (cs ++ ds)) ≡ true = rw (list_all-append is_whole ps (cs ++ ds), list_all-append is_whole cs ds, first.whole, second.whole, third.whole) refl in
     same_faults files contents deletes ∙ judged (ps ++ (cs ++ ds)) u whole (seen_in_parts ps cs ds first.seen second.seen third.seen)
 
-and_false : (b : Bool) → (b && false) ≡ false
-and_false true = refl
-and_false false = refl
-
 -- they are refused where one of the parts is
 pub refused_in_first : (rows more : List TableRow) (fault : Fault) → IsFaultOf rows fault → IsFaultOf (rows ++ more) fault
 refused_in_first rows more fault told = λ n same.
@@ -146,7 +137,7 @@ refused_in_first rows more fault told = λ n same.
 pub refused_in_rest : (rows more : List TableRow) (fault : Fault) → IsFaultOf more fault → IsFaultOf (rows ++ more) fault
 refused_in_rest rows more fault told = λ n same.
     let one = told n same in
-    (one.0, rw (list_all-append is_whole rows more, one.1) (and_false (list_all is_whole rows)))
+    (one.0, rw (list_all-append is_whole rows more, one.1) (and-false (list_all is_whole rows)))
 
 pub refused_in_turn : (files : List Named) (contents deletes : List TableValue) (fault : Fault) → IsFaultOf (in_parts files contents deletes) fault
     → (n : ℕ) → fault ≡ Refused n → check_rows (rows_in files (contents ++ deletes)) ≡ Err n

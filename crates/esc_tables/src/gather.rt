@@ -23,10 +23,8 @@ fn put(objects: &mut BTreeMap<Key, Object>, key: Key, object: Object) -> Result<
         (objects.new.entries ≡ insert_entry key_cmp objects.old.entries key object) }
     ensures ordered { OnOk result (IsOrdered key_cmp objects.new) }
 {
-    match objects.insert(key, object) {
-        Ok(_) => Ok(()),
-        Err(_) => Err(NoMemory),
-    }
+    objects.insert(key, object)?;
+    Ok(())
 }
 
 // Each key's last parent row, with no child row yet.
@@ -48,10 +46,8 @@ fn with_parents(alloc: Global, rows: Vec<(Key, Row)>) -> Result<BTreeMap<Key, Ob
 fn push_child(object: &mut Object, row: Row) -> Result<(), NoMemory>
     ensures { OnOk result (object.new ≡ with_child row object.old) }
 {
-    match object.children.push(row) {
-        Ok(()) => Ok(()),
-        Err(_) => Err(NoMemory),
-    }
+    object.children.push(row)?;
+    Ok(())
 }
 
 // Adds a child row to the object of its key, and returns whether there is such an object.

@@ -65,10 +65,7 @@ fn shared(alloc: Global, name: &str, fields: StringRecord) -> Result<Rc<Heading>
         ≡ record { name = name.now; fields = fields_of fields }) }
 {
     let name = String::from_str(alloc, name)?;
-    match Rc::new(alloc, Heading { name, fields }) {
-        Ok(heading) => Ok(heading),
-        Err(_) => Err(NoMemory),
-    }
+    Ok(Rc::new(alloc, Heading { name, fields })?)
 }
 
 // Appends the fields' names and the texts of these cells.

@@ -1,18 +1,15 @@
-use Rattle.std.proofs.Common.{◌≡◌, ℕ, ◌+◌, ◌≤◌, ◌++◌, List, length, take, sum_by, ap₂, subst, ◌∙◌, arith, length-take}
-use Rattle.esc_tables.specs.DepositValue.{DepositValue}
+use Rattle.std.proofs.Common.{ℕ, ◌+◌, ◌≤◌, ◌++◌, length, take, sum_by, ap₂, subst, ◌∙◌, arith, length-take}
 use Rattle.esc_apply.specs.Tables.{mention_count}
 use Rattle.esc_apply.specs.Images.{chain_state}
 use Rattle.esc_apply.specs.Moves.{undone_of, work_of}
 use Rattle.esc_apply.proofs.moves.move_chain.Goals as goal
 
-length_front : (k : List DepositValue) (f steps : ℕ) → length k ≡ steps → f ≤ steps → length (take f k) ≡ f
-length_front k f steps len within = omega (arith, len, within, length-take f k)
-
 pub returns-clause-moved : goal.returns-clause-moved
 returns-clause-moved g c = λ honest k len held.
     let front = c.common_front-front.result in
     let back = c.in_ok-back.ensures.gone (g.met.R.Registry.was_honest _ _ c.in_ok-forth.ensures.follows honest) k len held in
-    let moved = c.in_ok-forth.ensures.applied honest (take front k) (length_front k front _ len c.common_front-front.ensures.longest.common.in_old) back.0 in
+    let within : front ≤ length c.args.old.now = c.common_front-front.ensures.longest.common.in_old in
+    let moved = c.in_ok-forth.ensures.applied honest (take front k) (omega (arith, len, within, length-take front k)) back.0 in
     subst (λ (f : ℕ). g.R.Registry.holds c.apply_all.new.registry (chain_state (take f k ++ c.args.deposits.now))) c.common_front-front.ensures.front moved
 
 pub returns-clause-cost : goal.returns-clause-cost

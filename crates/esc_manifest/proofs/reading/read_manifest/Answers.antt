@@ -1,13 +1,14 @@
-use Rattle.esc_manifest.proofs.Answered.{text_told, text_in_range}
+use Rattle.esc_manifest.proofs.TextLeast.{text_least, text_numbers}
 use Rattle.esc_manifest.proofs.reading.read_manifest.Goals as goal
 
 pub returns : goal.returns
 returns c =
+    let text = c.args.text.now in
     let read = c.manifest_from.ensures in
     record {
       accepted = read.accepted;
       refused = read.refused;
-      least = text_told c.args.text.now c.manifest_from.result read.refused;
-      numbers = text_in_range c.args.text.now c.manifest_from.result read.refused;
+      least = λ code row e. text_least text code row (read.refused code row e);
+      numbers = λ code row e. text_numbers text code row (text_least text code row (read.refused code row e));
       over_limit = read.over_limit;
     }

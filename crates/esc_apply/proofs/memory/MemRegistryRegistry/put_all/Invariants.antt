@@ -2,7 +2,8 @@ use Rattle.std.proofs.Common.{◌≡◌, ◌+◌, map, length}
 use Rattle.esc_apply.specs.Registry.{State, saturated}
 use Rattle.esc_apply.specs.Changes.{with_object, changed_by, AreNew}
 use Rattle.esc_apply.specs.Memory.{Keeps}
-use Rattle.esc_apply.proofs.Runs.{Leads}
+use Rattle.esc_apply.specs.ChangeLaws.{Fills}
+use Rattle.esc_apply.specs.declared.registry.Keys.TheVariants.{Unknown}
 use Rattle.esc_apply.proofs.memory.MemRegistryRegistry.put_all.Given as goal
 
 -- the entries that are left lead to where all of them lead
@@ -12,5 +13,5 @@ invariant-loop-key l =
     record {
       counted : saturated (l.self.count + length l.key-iterator) ≡ saturated (l.fn.self.count + length l.objects.entries);
       leads : (s : State) → Keeps l.fn.self.objects.entries l.fn.self.notes.entries s → AreNew s l.step all
-          → Leads (Keeps l.self.objects.entries l.self.notes.entries) (changed_by s l.step all) l.step (map with_object l.key-iterator);
+          → Fills (Keeps l.self.objects.entries l.self.notes.entries) Unknown (changed_by s l.step all) l.step (map with_object l.key-iterator);
     }

@@ -1,13 +1,20 @@
-use Rattle.esc_manifest.proofs.Answered.{union_told, union_in_range}
+use Rattle.esc_manifest.specs.Extension.{extended}
+use Rattle.esc_manifest.proofs.Answered.{union_least}
+use Rattle.esc_manifest.proofs.RowLeast.{numbers}
 use Rattle.esc_manifest.proofs.manifest.Manifest.extend.Goals as goal
 
 pub returns : goal.returns
 returns c =
+    let m = c.args.self.now in
+    let more = c.args.more.now in
     let u = c.union_with.ensures in
     record {
       accepted = u.accepted;
       union = u.union;
       refused = u.refused;
-      least = union_told c.args.self.now c.args.more.now u.both.0 u.both.1 c.union_with.result u.refused;
-      numbers = union_in_range c.args.self.now c.args.more.now u.both.0 u.both.1 c.union_with.result u.refused u.within;
+      least = λ code row e. union_least m more u.both.0 u.both.1 code row (u.refused code row e);
+      numbers = λ code row e.
+          let ((s, least), _) = union_least m more u.both.0 u.both.1 code row (u.refused code row e) in
+          let range = numbers (extended m more) code s least in
+          (range.0, range.1, u.within code row e);
     }
