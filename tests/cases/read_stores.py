@@ -1,15 +1,15 @@
 """Reports and exports of stores with a row that no store writes, with an index that lies, and with a log that was not copied: what they read of
-the tables alone, and what is tested first for a desk."""
+the tables alone, and what is tested first for a desk. And commands on a store that is not there."""
 import contextlib, sqlite3
-from dataclasses import dataclass
 
+from cases.handovers import names_in
 from support.files import read
 from support.formats import KINDS
 from support.messages import put
 from support.reports import report
 from support.sockets import response_to, serve
-from support.stage import Failed, Wanted, case, compare
-from support.steps import Copy, FirstStore, Folder, Text
+from support.stage import Failed, Wanted, case, compare, compare_all
+from support.steps import Copy, FirstStore, Folder, Link, Text
 from support.stores import EMPTY_LOG, REPORTS, change_row, contents, copy, is_whole, run
 
 # The deposits that come, under the numbers 1 to 4; then a body that no row lists.
@@ -60,31 +60,22 @@ def check_refused(stage, store):
         raise Failed(f'{store} is changed')
 
 
-# ---- a row that no store writes
-
-
-@dataclass(frozen=True)
-class Foreign:
-    """A statement that makes a row one that no store writes, the reports and exports that read it, and whether a desk is refused: its list of
-    rows is read as the store is opened, and where a row leads to another, that is there."""
-    statement: str
-    refused: tuple = ()
-    has_no_desk: bool = False
-
-
+# Statements that make a row one that no store writes, the reports and exports that read it, and whether a desk is refused: its list of rows is
+# read as the store is opened, and where a row leads to another, that is there.
+OF_RECEIPTS = ('receipts', 'status', 'gaps')
 FOREIGN = {
-    'a verdict': Foreign('UPDATE receipt SET verdict = 9 WHERE receipt = 3', ('receipts',)),
-    'a number that is no text': Foreign("UPDATE receipt SET number = X'31' WHERE receipt = 1", ('receipts',)),
-    'a count of orphans that is a text': Foreign("UPDATE receipt SET orphans = 'none' WHERE receipt = 1", ('receipts',)),
-    'a receipt of no listed row': Foreign('UPDATE receipt SET row = 7 WHERE receipt = 2', ('receipts',), True),
-    'a type': Foreign('UPDATE listed SET type = 9 WHERE row = 1', READ, True),
-    'a short digest': Foreign("UPDATE listed SET digest = X'00' WHERE row = 1", READ, True),
-    'a step of no held row': Foreign("UPDATE step SET row = 'one' WHERE pos = 1", ('status', 'links'), True),
-    'a key that is a text': Foreign("UPDATE object SET key = 'b.example' WHERE key = CAST('b.example' AS BLOB)", ('links', 'domain')),
-    'a record that is none': Foreign("UPDATE object SET record = X'00' WHERE key = CAST('b.example' AS BLOB)", ('links', 'domain')),
-    'a parked body that is a text': Foreign("UPDATE parked SET body = 'abc'", ('parked',)),
-    'a moment that is a text': Foreign("UPDATE moment SET watermark = 'noon'", ('moment', 'gaps')),
-    'a before-image of another kind': Foreign("UPDATE undo SET kind = 9 WHERE pos = 1 AND key = CAST('a.example' AS BLOB)"),
+    'a verdict': ('UPDATE receipt SET verdict = 9 WHERE receipt = 3', OF_RECEIPTS, False),
+    'a number that is no text': ("UPDATE receipt SET number = X'31' WHERE receipt = 1", OF_RECEIPTS, False),
+    'a count of orphans that is a text': ("UPDATE receipt SET orphans = 'none' WHERE receipt = 1", OF_RECEIPTS, False),
+    'a receipt of no listed row': ('UPDATE receipt SET row = 7 WHERE receipt = 2', OF_RECEIPTS, True),
+    'a type': ('UPDATE listed SET type = 9 WHERE row = 1', READ, True),
+    'a short digest': ("UPDATE listed SET digest = X'00' WHERE row = 1", READ, True),
+    'a step of no held row': ("UPDATE step SET row = 'one' WHERE pos = 1", ('status', 'links'), True),
+    'a key that is a text': ("UPDATE object SET key = 'b.example' WHERE key = CAST('b.example' AS BLOB)", ('links', 'domain'), False),
+    'a record that is none': ("UPDATE object SET record = X'00' WHERE key = CAST('b.example' AS BLOB)", ('links', 'domain'), False),
+    'a parked body that is a text': ("UPDATE parked SET body = 'abc'", ('parked',), False),
+    'a moment that is a text': ("UPDATE moment SET watermark = 'noon'", ('moment', 'gaps'), False),
+    'a before-image of another kind': ("UPDATE undo SET kind = 9 WHERE pos = 1 AND key = CAST('a.example' AS BLOB)", (), False),
 }
 
 
@@ -92,18 +83,16 @@ def test_foreign_rows(stage):
     """A row that no store writes is `S1` to each report and export that reads it, which prints nothing, and to no other."""
     told = put_store(stage)
     Folder('nothing').do(stage)
-    for name, foreign in FOREIGN.items():
+    for name, (statement, refused, has_no_desk) in FOREIGN.items():
         with case(name):
             copy(stage.at('a.db'), stage.at('b.db'))
-            change_row(stage, 'b.db', foreign.statement, ())
-            check_reports(stage, 'b.db', told, foreign.refused)
-            if foreign.has_no_desk:
+            change_row(stage, 'b.db', statement, ())
+            check_reports(stage, 'b.db', told, refused)
+            if has_no_desk:
                 check_refused(stage, 'b.db')
             else:
                 stage.check('take --store b.db nothing', NO_RECEIPTS)
 
-
-# ---- an index that lies
 
 NUMBERS, UNIQUE = 'sqlite_autoindex_receipt_1', ', UNIQUE (number, digest)'
 COLUMNS = 'rowid, type, name, tbl_name, rootpage, sql'
@@ -141,24 +130,17 @@ def test_lying_index(stage):
     check_refused(stage, 'a.db')
 
 
-# ---- a log
-
-
-def copy_in_use(stage, store):
-    """Copies the two files of a store while a desk on a port has taken the first deposit."""
-    child, port = serve(stage, 'a.db', 2)
-    response_to(port, put('1', read(stage.at('deposits/1'))))
-    copy(stage.at('a.db'), stage.at(store))
-    stage.check('report --store a.db status', S1)
-    child.kill()
-    child.wait()
-
-
 def test_log_that_was_not_copied(stage):
     """A report of what a stopped command left reads the log, too, and leaves both files as they are. A desk, which copies it, says the same."""
     put_files(stage)
     Folder('nothing').do(stage)
-    copy_in_use(stage, 'stopped.db')
+    # The two files of a store are copied while a desk on a port has taken the first deposit.
+    child, port = serve(stage, 'a.db', 2)
+    response_to(port, put('1', read(stage.at('deposits/1'))))
+    copy(stage.at('a.db'), stage.at('stopped.db'))
+    stage.check('report --store a.db status', S1)
+    child.kill()
+    child.wait()
     before, told = contents(stage.at('stopped.db')), told_of(stage, 'stopped.db')
     if len(before[1]) <= EMPTY_LOG or contents(stage.at('stopped.db')) != before:
         raise Failed('the log is empty, or a file is changed')
@@ -169,11 +151,25 @@ def test_log_that_was_not_copied(stage):
     check_reports(stage, 'stopped.db', told)
 
 
-# ---- a store of version 1
-
-
 def test_first_version(stage):
     """A store of version 1 is `S3` to each report and export."""
     FirstStore('a.db', 'first.csv', (('n1', 'f1.bundle'),)).do(stage)
     for what in READ:
         stage.check(command_of('a.db', what), S3)
+
+
+# The words of each command that is for a store, around the file; which is not there, nor is what a link leads to, nor its folder.
+COMMANDS = ('take --store {} deposits', 'serve --store {} --port 65535 --count 1', 'report --store {} status', 'export --store {} domain',
+            'amend --store {} --manifest listed.csv', 'as-of --store {} latest', 'as-of --store {} 2024-03-04T00:00:00Z', 'migrate --store {}')
+
+
+def test_no_store_is_made(stage):
+    """No command but `init` makes a file where there is no store."""
+    Folder('deposits').do(stage)
+    Copy('deposits/n1', 'f1.bundle').do(stage)
+    Copy('listed.csv', 'first.csv').do(stage)
+    Link('link.db', 'absent.db').do(stage)
+    before = names_in(stage.room.name)
+    for line in (command.format(file) for command in COMMANDS for file in ('absent.db', 'link.db', 'nowhere/absent.db')):
+        stage.check(line, S3)
+        compare_all(f'$ restore {line}\nfiles', before, names_in(stage.room.name))

@@ -1,11 +1,17 @@
 //! The reads of a desk's events by the trees of its store, without SQL.
 
-ghost use Rattle.std.specs.Prelude.{◌≡◌, List, IfErr};
+ghost use Rattle.std.specs.Prelude.{◌≡◌, List, IfOk, IfErr};
 ghost use Rattle.sha2.specs.Sha256.{sha256};
 ghost use Rattle.esc_tables.specs.Reading.{reading};
 ghost use Rattle.esc_store.specs.Faults.{IsS1OrS2};
-ghost use Rattle.esc_store.specs.Reading.{ReaderRepresents, rows_listed_by};
-ghost use Rattle.esc_store.specs.StoreState.{StoreState};
+ghost use Rattle.esc_store.specs.Holding.{HasReceipts};
+ghost use Rattle.esc_store.specs.Reading.{
+  IsHonestReader,
+  IsReadOnly,
+  ReaderRepresents,
+  rows_listed_by,
+};
+ghost use Rattle.esc_store.specs.StoreState.{StoreState, AreHeld};
 ghost use Rattle.esc_events.specs.Events.{EventValue, union, last_moment};
 ghost use Rattle.esc_events.specs.StateAfter.{IsStateAfter};
 ghost use Rattle.esc_desk.specs.Readers.{
@@ -68,8 +74,21 @@ impl<S: Store> DeskReader<S> {
         self.store.receipts(alloc)
     }
 
-    /// The listed rows that have a body, as indices from 0 in ascending order. Each body is read,
-    /// one at a time. `S1`, `S2`.
+    // The rows that are held. The receipts tell which: so each of them is tested first.
+    #[tactic(auto, using(crate::proofs::ReaderLemmas::reads_stay))]
+    fn held_here(&mut self, alloc: Global) -> Result<Vec<usize>, SFault>
+        ensures same { IsReadOnly S.Store self.old.store self.new.store result }
+        ensures rows { IsHonestReader S.Store self.new.store → (k : StoreState)
+            → ReaderRepresents S.Store self.old.store k → HasReceipts k
+            → IfOk result (λ rows. AreHeld k.bodies rows.items) }
+        ensures cause { IfErr result IsS1OrS2 }
+    {
+        self.store.receipts(alloc)?;
+        self.store.held(alloc)
+    }
+
+    /// The listed rows that have a body, as indices from 0 in ascending order. Each receipt is
+    /// read, and of the bodies only those that no row listed when they arrived. `S1`, `S2`.
     #[tactic(auto, using(crate::specs::ReaderLaws::reader_stays))]
     pub fn held(&mut self, alloc: Global) -> Result<Vec<usize>, SFault>
         ensures stays { IsUnchangedReader S.Store self.old self.new result }
@@ -77,7 +96,7 @@ impl<S: Store> DeskReader<S> {
             (λ e rows. AreHeldOf e rows.items) }
         ensures cause { IfErr result IsS1OrS2 }
     {
-        self.store.held(alloc)
+        self.held_here(alloc)
     }
 
     /// The bodies that no row lists, each as its digest and length, in the order of digests. They
@@ -125,7 +144,7 @@ impl<S: Store> DeskReader<S> {
     }
 
     /// The counts of the store, and the end of its latest chain. Reads what [`DeskReader::held`]
-    /// reads, each receipt and step, and the kind of each object. `S1`, `S2`.
+    /// reads, each step, and the kind of each object. `S1`, `S2`.
     #[tactic(auto, using(crate::proofs::ReaderLemmas::reads_stay))]
     pub fn status(&mut self, alloc: Global) -> Result<Status, SFault>
         ensures stays { IsUnchangedReader S.Store self.old self.new result }
@@ -134,7 +153,7 @@ impl<S: Store> DeskReader<S> {
         ensures cause { IfErr result IsS1OrS2 }
     {
         let receipts = self.store.receipt_count(alloc)?;
-        let held = self.store.held(alloc)?;
+        let held = self.held_here(alloc)?;
         let steps = self.store.chain(alloc)?;
         let objects = self.store.counts_by_kind(alloc)?;
         let listed = self.store.manifest().rows().len();

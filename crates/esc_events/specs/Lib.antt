@@ -5,7 +5,6 @@ pub mod Events
 pub mod Assessment
 pub mod FirstVersion
 pub mod Cache
-pub mod Notes
 pub mod Parks
 pub mod Plans
 pub mod LatestTables

@@ -3,7 +3,6 @@
 use Rattle.std.specs.Prelude.{
   ℕ,
   Bool,
-  true,
   false,
   ◌&&◌,
   ◌==◌,

@@ -39,14 +39,11 @@ module _ (e : List EventValue) (x : EventValue) where
   abbrev pub IsWorkOf : Work → Type 0
   IsWorkOf work = WhereApart (e ++ x ∷ []) (IsCostOf work)
 
-  -- the event adds no row to those that are held
-  abbrev pub AddsNoRow : Type 0
-  AddsNoRow = held_rows sha256 reading (e ++ x ∷ []) ≡ held_rows sha256 reading e
-
-  -- if the event adds no row, no work was done. This is said of arrivals alone: a moment may move
-  -- the chain without a new row
+  -- if the event adds no row to those that are held, no work was done. This is said of arrivals
+  -- alone: a moment may move the chain without a new row
   abbrev pub IsIdle : Work → Type 0
-  IsIdle work = WhereApart (e ++ x ∷ []) (AddsNoRow → work ≡ no_work)
+  IsIdle work = WhereApart (e ++ x ∷ [])
+      (held_rows sha256 reading (e ++ x ∷ []) ≡ held_rows sha256 reading e → work ≡ no_work)
 
 -- each deposit that is read mentions no more keys than a bundle may have rows, 100,000
 abbrev pub MentionsFew : Type 0

@@ -4,12 +4,8 @@ use Rattle.sqlite_trees.specs.declared.store.Store.{Ghosts}
 use Rattle.sqlite_catalog.proofs.QuietLemmas.{quiet_then}
 use Rattle.esc_store.specs.Reading.{ReaderRepresents}
 use Rattle.esc_store.specs.StoreState.{StoreState}
-use Rattle.esc_desk.specs.ReaderLaws.{
-  reader_stays,
-  read_only_made,
-  read_only_failed,
-  read_only_then,
-}
+use Rattle.esc_store.specs.ReadingLaws.{read_only_made, read_only_failed, read_only_then}
+use Rattle.esc_desk.specs.ReaderLaws.{reader_stays}
 use Rattle.esc_desk.specs.declared.reader.DeskReader.{DeskReader}
 use Rattle.esc_desk.specs.declared.reader.walk.KeysLeft.{KeysLeft}
 use Rattle.esc_desk.specs.declared.reader.walk.ReaderWalk.{ReaderWalk}

@@ -90,33 +90,46 @@ module _ (size t : ℕ) (pages : PageMap) (low : t < 65536) where
 abbrev pub IsTableAt : List Wanted → TableOf → Type 0
 IsTableAt wanted table = (table.tree < 65536) × (shape_at wanted table.tree ≡ Table) × (reals_at wanted table.tree ≡ table_reals table)
 
+abbrev pub IsIndexAt : List Wanted → Schema → IndexOf → Type 0
+IsIndexAt wanted schema index = (index.tree < 65536) × (shape_at wanted index.tree ≡ Index index.order) × HasReals schema index (reals_at wanted index.tree)
+
 -- the schema that a database lists shapes the trees
-pub shaped_by : (size : ℕ) (wanted : List Wanted) (pages : PageMap) (schema : Schema) (db : Trees) → db ≡ file_trees size wanted pages → IsSound schema db
-    → (table : TableOf) → Has schema.tables table → IsTableAt wanted table
-shaped_by size wanted pages schema db is sound table has =
-    let objects = listed_from 0 wanted in
-    let same : db catalog_tree ≡ objects = ap (λ d. d catalog_tree) is ∙ catalog_rows size wanted _ in
-    let lists = subst (λ xs. Lists xs schema) same sound.lists in
-    let v : View = record {
-      trees = λ _. objects;
-      committed = db;
-      cursors = λ _. None;
-      shape = all_shapes wanted;
-      reals = all_reals wanted;
-      committed_shape = all_shapes wanted;
-      committed_reals = all_reals wanted;
-      marks = [];
-      is_numbered = true;
-      has_sums = false;
-      is_open = true;
-      is_broken = false;
-      is_clean = true;
-    } in
-    let shaped = shaped_of v schema (is_listed wanted) (listing_shaped 0 wanted) lists in
-    let it = all_has (IsTableShaped v) schema.tables table shaped.tables has in
-    let low = (LL.table_row (is_listed wanted) (listing_shaped 0 wanted).0 lists.listed table has).2.described.low in
-    let shape = sym (named_shape table.tree (omega arith) wanted) ∙ it.0 in
-    (low, shape, sym (ap (λ s. reals_if_present s (reals_at wanted table.tree)) shape) ∙ sym (named_reals table.tree (omega arith) wanted) ∙ it.1)
+module _ (size : ℕ) (wanted : List Wanted) (pages : PageMap) (schema : Schema) (db : Trees) (is : db ≡ file_trees size wanted pages) (sound : IsSound schema db) where
+  lists : Lists (listed_from 0 wanted) schema
+  lists = subst (λ xs. Lists xs schema) (ap (λ d. d catalog_tree) is ∙ catalog_rows size wanted _) sound.lists
+
+  abbrev as_listed : View
+  as_listed = record {
+    trees = λ _. listed_from 0 wanted;
+    committed = db;
+    cursors = λ _. None;
+    shape = all_shapes wanted;
+    reals = all_reals wanted;
+    committed_shape = all_shapes wanted;
+    committed_reals = all_reals wanted;
+    marks = [];
+    is_numbered = true;
+    has_sums = false;
+    is_open = true;
+    is_broken = false;
+    is_clean = true;
+  }
+
+  pub shaped_by : (table : TableOf) → Has schema.tables table → IsTableAt wanted table
+  shaped_by table has =
+      let shaped = shaped_of as_listed schema (is_listed wanted) (listing_shaped 0 wanted) lists in
+      let it = all_has (IsTableShaped as_listed) schema.tables table shaped.tables has in
+      let low = (LL.table_row (is_listed wanted) (listing_shaped 0 wanted).0 lists.listed table has).2.described.low in
+      let shape = sym (named_shape table.tree (omega arith) wanted) ∙ it.0 in
+      (low, shape, sym (ap (λ s. reals_if_present s (reals_at wanted table.tree)) shape) ∙ sym (named_reals table.tree (omega arith) wanted) ∙ it.1)
+
+  pub index_shaped_by : (index : IndexOf) → Has schema.indexes index → IsIndexAt wanted schema index
+  index_shaped_by index has =
+      let shaped = shaped_of as_listed schema (is_listed wanted) (listing_shaped 0 wanted) lists in
+      let it = all_has (IsIndexShaped as_listed schema.tables) schema.indexes index shaped.indexes has in
+      let low = (LL.index_row (is_listed wanted) (listing_shaped 0 wanted).0 lists.listed index has).2.described.low in
+      let shape = sym (named_shape index.tree (omega arith) wanted) ∙ it.0 in
+      (low, shape, (it.1.0, it.1.1, sym (ap (λ s. reals_if_present s (reals_at wanted index.tree)) shape) ∙ sym (named_reals index.tree (omega arith) wanted) ∙ it.1.2))
 
 pub reads_tables : (size : ℕ) (image : Image) (ours : List Wanted) (pages : PageMap) → Recovers size image pages → IsOurs size true ours pages
     → ReadsTables size image ours (file_trees size ours pages)
@@ -127,36 +140,6 @@ reads_tables size image ours pages found file db schema held sound table has at 
     let there = shaped_by size held.wanted pages schema db reads sound table has in
     tree_same size table.tree pages at.low ours held.wanted file theirs (ap is_present at.shape) (at.shape ∙ sym there.1) (at.reals ∙ sym there.2)
     ∙ sym (ap (λ d. d table.tree) reads)
-
-abbrev pub IsIndexAt : List Wanted → Schema → IndexOf → Type 0
-IsIndexAt wanted schema index = (index.tree < 65536) × (shape_at wanted index.tree ≡ Index index.order) × HasReals schema index (reals_at wanted index.tree)
-
-pub index_shaped_by : (size : ℕ) (wanted : List Wanted) (pages : PageMap) (schema : Schema) (db : Trees) → db ≡ file_trees size wanted pages → IsSound schema db
-    → (index : IndexOf) → Has schema.indexes index → IsIndexAt wanted schema index
-index_shaped_by size wanted pages schema db is sound index has =
-    let objects = listed_from 0 wanted in
-    let same : db catalog_tree ≡ objects = ap (λ d. d catalog_tree) is ∙ catalog_rows size wanted _ in
-    let lists = subst (λ xs. Lists xs schema) same sound.lists in
-    let v : View = record {
-      trees = λ _. objects;
-      committed = db;
-      cursors = λ _. None;
-      shape = all_shapes wanted;
-      reals = all_reals wanted;
-      committed_shape = all_shapes wanted;
-      committed_reals = all_reals wanted;
-      marks = [];
-      is_numbered = true;
-      has_sums = false;
-      is_open = true;
-      is_broken = false;
-      is_clean = true;
-    } in
-    let shaped = shaped_of v schema (is_listed wanted) (listing_shaped 0 wanted) lists in
-    let it = all_has (IsIndexShaped v schema.tables) schema.indexes index shaped.indexes has in
-    let low = (LL.index_row (is_listed wanted) (listing_shaped 0 wanted).0 lists.listed index has).2.described.low in
-    let shape = sym (named_shape index.tree (omega arith) wanted) ∙ it.0 in
-    (low, shape, (it.1.0, it.1.1, sym (ap (λ s. reals_if_present s (reals_at wanted index.tree)) shape) ∙ sym (named_reals index.tree (omega arith) wanted) ∙ it.1.2))
 
 some_table : (a b : TableOf) → Some a ≡ Some b → a ≡ b
 some_table a b e = cc

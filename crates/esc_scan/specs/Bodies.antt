@@ -1,8 +1,7 @@
--- What is told of a row with a body: the body, its size, or that there is one.
+-- What is told of a row with a body: the body, or its size.
 use Rattle.std.specs.Prelude.{ℕ, List, length}
 use Rattle.esc_sql.specs.Rows.{HeldRow, ParkedRow}
 use Rattle.esc_scan.specs.declared.held.HeldBody.{HeldBody}
-use Rattle.esc_scan.specs.declared.held.HeldIndex.{HeldIndex}
 use Rattle.esc_scan.specs.declared.parked.ParkedSize.{ParkedSize}
 
 abbrev pub body_read : HeldBody → ℕ × List ℕ
@@ -13,12 +12,6 @@ body_of_row h = (h.row, h.body)
 
 abbrev pub held_bytes : HeldBody → List ℕ
 held_bytes it = it.body.items
-
-abbrev pub index_read : HeldIndex → ℕ
-index_read it = it.row
-
-abbrev pub index_of_row : HeldRow → ℕ
-index_of_row h = h.row
 
 abbrev pub parked_size : ParkedSize → List ℕ × ℕ
 parked_size it = (it.digest.items, it.size)

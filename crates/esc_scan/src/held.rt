@@ -1,19 +1,13 @@
 //! The table of held bodies.
 
-ghost use Rattle.std.specs.Prelude.{◌≡◌, map, option_map};
+ghost use Rattle.std.specs.Prelude.{◌≡◌, option_map};
 ghost use Rattle.sqlite_trees.specs.View.{IsClean};
 ghost use Rattle.esc_sql.specs.StoreTable.{Held};
 ghost use Rattle.esc_sql.specs.Changes.{body_of};
 ghost use Rattle.esc_scan.specs.Scanning.{ReadsRow, IsScan};
-ghost use Rattle.esc_scan.specs.Bodies.{
-  body_read,
-  body_of_row,
-  held_bytes,
-  index_read,
-  index_of_row,
-};
+ghost use Rattle.esc_scan.specs.Bodies.{body_read, body_of_row, held_bytes};
 
-use crate::cursor::{read_all, read_at};
+use crate::cursor::read_at;
 use crate::rows::{FromEntry, ScanError, value_at};
 use sqlite_trees::store::{Shape, Store};
 use sqlite_value::row::Row;
@@ -38,31 +32,6 @@ impl FromEntry for HeldBody {
             body: value_at(alloc, row, 2)?,
         })
     }
-}
-
-/// A row of the manifest that has a body: its index, from 0.
-#[derive(Clone, Copy, Debug)]
-pub struct HeldIndex {
-    pub row: u32,
-}
-
-impl FromEntry for HeldIndex {
-    ghost is_read = { ReadsRow Held index_read index_of_row };
-
-    fn from_entry(alloc: Global, row: &Row) -> Result<HeldIndex, ScanError> {
-        Ok(HeldIndex {
-            row: value_at(alloc, row, 0)?,
-        })
-    }
-}
-
-/// The rows of the manifest that have a body, in the order of their indices. Each body is read, one
-/// at a time, and none is kept.
-pub fn all_held<S: Store>(alloc: Global, store: &mut S) -> Result<Vec<HeldIndex>, ScanError>
-    ensures read { IsScan S.Store store.old store.new
-        (λ c found. map index_read found.items ≡ map index_of_row c.held) result }
-{
-    read_all(alloc, store, HELD_TREE)
 }
 
 // The bytes of a held body, if there is one.

@@ -3,12 +3,12 @@ pub use Rattle.std.proofs.Common.{◌≡◌, ℕ, zero, suc, ◌<◌, ◌+◌, p
 pub use Rattle.std.proofs.Common.{OnOk, ℤ, Bool, not, cond, ◌&&◌, ◌||◌, slice_get, Some, option_map, int_eq, true≢false, find, IsPermutation, Ordering, Less, Equal, Greater, is_eq, ◌/◌, ◌==◌, ◌≢◌, ◌+ℤ◌, fold, is_some, reverse, IfOk}
 pub use Rattle.std.proofs.Common.{bytes_eq, ltb, IsSorted, int_cmp, rules}
 pub use Rattle.std.proofs.lemmas.Bool.{cases_Bool, and_parts, eqb-true}
-pub use Rattle.std.proofs.lemmas.Cmp.{nat_cmp_total, nat_list_cmp_total, nat_list_eq_equiv, on_total, int_ranked}
+pub use Rattle.std.proofs.lemmas.Cmp.{nat_cmp_total, nat_list_cmp_total, nat_list_eq_equiv, on_total, int_ranked, and_equiv, on_equiv, nat_eq_equiv}
 pub use Rattle.std.proofs.lemmas.Grind.{common_steps}
 pub use Rattle.std.proofs.lemmas.Int.{ints}
 pub use Rattle.std.proofs.lemmas.List.{take_more, length-map, get_or-map}
 pub use Rattle.std.proofs.lemmas.List.Elements.{recursion_from_All, All-from_recursion}
-pub use Rattle.std.proofs.lemmas.List.Sorted.{length_permutation, All-permutation, IsPermutation-reverse, list_any-IsPermutation, IsPermutation-map, IsPermutation-sym}
+pub use Rattle.std.proofs.lemmas.List.Sorted.{length_permutation, All-permutation, IsPermutation-reverse, list_any-IsPermutation, IsPermutation-map, IsPermutation-sym, IsPermutation-refl}
 pub use Rattle.std.proofs.lemmas.Map.Text.{is_eq-slice_cmp}
 pub use Rattle.std.proofs.lemmas.Slice.Eq.{bytes_eq-Decides}
 pub use Rattle.std.specs.Cmp.{IsTotalOrder}
@@ -83,5 +83,3 @@ pub use Rattle.esc_sql.specs.Texts.{clear_objects_text, find_object_text, select
 pub use Rattle.esc_sql.specs.Texts.{insert_parked_text, find_parked_text, parked_digests_text, delete_parked_text, clear_moment_text, insert_moment_text, find_moment_text}
 pub use Rattle.esc_sql.specs.declared.object.TheConstants.{ROWS_AT_ONCE}
 unfoldable pub use Rattle.sqlite_value.specs.Keys.{first_key}
-pub use Rattle.std.proofs.lemmas.Cmp.{and_equiv, on_equiv, nat_eq_equiv}
-pub use Rattle.std.proofs.lemmas.List.Sorted.{IsPermutation-refl}

@@ -1,6 +1,6 @@
 //! The nine tables, and a new store.
 
-ghost use Rattle.std.specs.Prelude.{◌≡◌, ◌<◌, ◌↔◌, map, IsTrue};
+ghost use Rattle.std.specs.Prelude.{◌≡◌, ◌<◌, map};
 ghost use Rattle.sqlite.specs.Held.{state};
 ghost use Rattle.esc_sql.specs.Part.{IsPart};
 ghost use Rattle.esc_sql.specs.Creation.{Builds, MakesStore};
@@ -13,16 +13,6 @@ use crate::info::{insert_info, raise_version};
 use crate::listed::{Listed, insert_listed};
 use crate::within::write_within;
 use sqlite::{Alter, Connection, Error};
-use sqlite_schema::schema::Schema;
-
-/// Whether there is no table, index or view.
-pub fn is_empty(schema: &Schema) -> bool
-    ensures { IsTrue result ↔ (schema.now ≡ no_schema) }
-{
-    schema.tables.as_slice().is_empty()
-        && schema.indexes.as_slice().is_empty()
-        && schema.views.as_slice().is_empty()
-}
 
 /// The text that makes each table, in the order of the schema.
 pub const TABLE_TEXTS: [&str; 9] = [

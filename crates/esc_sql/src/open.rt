@@ -6,7 +6,6 @@ ghost use Rattle.esc_sql.specs.Content.{Content, AreStoreTrees, HoldsContent};
 ghost use Rattle.esc_sql.specs.FirstVersion.{AreFirstTrees, HoldsFirstContent};
 ghost use Rattle.esc_sql.specs.Schema.{no_schema, store_schema, first_schema};
 
-use crate::create::is_empty;
 use crate::shape::{is_first_schema, is_store_schema};
 use sqlite::{Alter, Connection};
 
@@ -14,7 +13,10 @@ use sqlite::{Alter, Connection};
 pub fn is_unused<S: Alter>(conn: &Connection<S>) -> bool
     ensures { IsTrue result ↔ ((state S.Store conn.now).now.schema ≡ no_schema) }
 {
-    is_empty(conn.schema())
+    let schema = conn.schema();
+    schema.tables.as_slice().is_empty()
+        && schema.indexes.as_slice().is_empty()
+        && schema.views.as_slice().is_empty()
 }
 
 /// Whether a database has the tables of a store of version 2. If its trees are those of a store, it

@@ -19,7 +19,7 @@ pub use Rattle.std.specs.declared.cmp.Ordering.TheVariants.{Less}
 pub use Rattle.sqlite.proofs.StateLemmas.{survives_weaker, survives_then}
 pub use Rattle.sqlite.specs.Effect.{Database}
 pub use Rattle.sqlite.specs.Held.{Held, state}
-pub use Rattle.sqlite.specs.State.{HasCleanDisk, Survives, KeepsCommit, Shows, IsUnchanged}
+pub use Rattle.sqlite.specs.State.{HasCleanDisk, Survives, KeepsCommit, Shows, IsUnchanged, State as ConnState}
 pub use Rattle.sqlite_keyed.proofs.ListLemmas.{all_weaker}
 pub use Rattle.sqlite_keyed.specs.Keyed.{insert_by, IsKeyedBy}
 pub use Rattle.sqlite_trees.specs.Tree.{Trees, IsAscending}
@@ -74,7 +74,6 @@ pub use Rattle.esc_tables.specs.KeyName.{KeyName, key_eq, key_cmp}
 pub use Rattle.esc_tables.specs.ObjectValue.{ObjectValue}
 pub use Rattle.std.proofs.Common.{IfOk}
 pub use Rattle.std.proofs.lemmas.Option.{same_Some}
-pub use Rattle.sqlite.specs.State.{State as ConnState}
 pub use Rattle.esc_sql.specs.StoreTable.{Objects, Undo}
 unfoldable pub use Rattle.esc_store.specs.Representation.{Represents, BeganIn, HasMadeBooksIn, HasMadeTablesIn, HoldsKept, LeavesOr, LeavesOnly}
 unfoldable pub use Rattle.esc_store.specs.StoreTables.{IsStore}

@@ -1,12 +1,11 @@
 -- What the rows that a reader scans say.
-use Rattle.esc_store.proofs.Common.{◌≡◌, ◌↔◌, inl, inr, ℕ, suc, ◌+◌, ◌<◌, ◌==◌, true, false, true≢false, pos, List, [], ◌∷◌, length, filter, map, Option, Some, IsSome, refl, sym, ap, ap₂, subst, ◌∙◌, arith, length-map, get_or-map, cases_Bool, int_eq, bytes_eq, and_parts, All-from_recursion, AllByRecursion, IsSorted, nat_cmp, Contains, Kind, kind_rank, State}
-use Rattle.esc_store.proofs.Common.{ReceiptValue, receipts_from, Content, HoldsContent, Database, StoreState, IsBooks, IsRegistry, AreOnce, AreCounts, AreParked, tallies, body_of, parked_at}
+use Rattle.esc_store.proofs.Common.{◌≡◌, ℕ, suc, ◌+◌, ◌<◌, ◌==◌, true, false, List, [], ◌∷◌, length, filter, map, Option, Some, refl, sym, ap, ap₂, subst, ◌∙◌, arith, length-map, get_or-map, bytes_eq, and_parts, All-from_recursion, AllByRecursion, IsSorted, nat_cmp, Kind, kind_rank, State}
+use Rattle.esc_store.proofs.Common.{ReceiptValue, receipts_from, Content, HoldsContent, Database, StoreState, IsBooks, IsRegistry, AreCounts, AreParked, tallies, parked_at}
 use Rattle.esc_store.proofs.Common.{ReceiptRow, ObjectRow, slice_cmp}
 use Rattle.std.specs.Prelude.{IsPermutation, All}
 use Rattle.std.specs.List.Sorted.{IsSortedByKey}
-use Rattle.std.proofs.lemmas.Bool.Decides.{Decides-int_eq}
 use Rattle.std.proofs.lemmas.Cmp.{nat_list_cmp_total, nat_list_eq_equiv, on_total}
-use Rattle.std.proofs.lemmas.List.Sorted.{All-permutation, Contains-permutation, IsPermutation-map, IsPermutation-sym, IsPermutation-trans}
+use Rattle.std.proofs.lemmas.List.Sorted.{All-permutation, IsPermutation-map, IsPermutation-trans}
 use Rattle.sqlite_keyed.specs.Lists.{sort_by}
 use Rattle.sqlite_keyed.specs.Rules.{AreApart}
 use Rattle.sqlite_keyed.proofs.ListLemmas.{map-map}
@@ -14,21 +13,19 @@ use Rattle.sqlite_keyed.proofs.SortLemmas.{sorted_unique, IsPermutation-sort_by}
 use Rattle.sqlite_value.specs.Keys.{first_key}
 use Rattle.esc_sql.specs.Changes.{by_key}
 use Rattle.esc_sql.specs.Parked.{by_digest, parked_digest}
-use Rattle.esc_sql.specs.Rows.{HeldRow, ParkedRow}
+use Rattle.esc_sql.specs.Rows.{ParkedRow}
 use Rattle.esc_sql.specs.StoreTable.{Parked}
 use Rattle.esc_sql.proofs.Finds.{IsKey, unique_key}
 use Rattle.esc_sql.proofs.ObjectLists.{lists_kinds}
 use Rattle.esc_sql.proofs.ParkedLemmas.{lists_parked}
 use Rattle.esc_sql.proofs.Scan.{same_blob, and_true}
-use Rattle.esc_scan.specs.Bodies.{index_of_row, parked_size, size_of_parked}
+use Rattle.esc_scan.specs.Bodies.{parked_size, size_of_parked}
 use Rattle.esc_scan.specs.Kinds.{kind_of_object}
 use Rattle.esc_scan.specs.declared.parked.ParkedSize.{ParkedSize}
 use Rattle.esc_store.specs.declared.parked.ParkedBody.{ParkedBody}
 use Rattle.esc_store.specs.Decoded.{times, tallies_of, all_kinds}
-use Rattle.esc_store.specs.ListLaws.{first_or_later, later}
 use Rattle.esc_store.specs.Parks.{IsParkedBody, AreParkedBodies}
 use Rattle.esc_store.specs.Reading.{parked_read}
-use Rattle.esc_store.specs.StoreState.{AreHeld}
 use Rattle.esc_store.proofs.Counting.{are_counts}
 use Rattle.esc_store.proofs.Parking.{are_parked}
 
@@ -42,34 +39,6 @@ as_many n (r ∷ rs) = omega (arith, as_many (suc n) rs)
 pub counted : {V Y : Type 0} (shown : V → Y) (told : ReceiptRow → Y) (found : List V) (rows : List ReceiptRow) (rs : List ReceiptValue) → map shown found ≡ map told rows → rows ≡ receipts_from 1 rs → length found ≡ length rs
 counted shown told found rows rs says books =
     sym (length-map found shown) ∙ ap length says ∙ length-map rows told ∙ ap length books ∙ as_many 1 rs
-
--- ---- held bodies
-
-same_number : (a b : ℕ) → pos a ≡ pos b → a ≡ b
-same_number a b is = cc
-
--- the rows that have a body
-has_body : (row : ℕ) (hs : List HeldRow) → Contains (map index_of_row hs) row ↔ IsSome (body_of row hs)
-has_body row [] = (λ there. absurd (omega (arith, there.1)), λ some. absurd (true≢false (sym some)))
-has_body row (h ∷ hs) = elim (cases_Bool (int_eq (pos h.row) (pos row))) [
-  | inl is ↦ rw is (λ there. refl, λ some. (0, omega arith, same_number h.row row ((Decides-int_eq (pos h.row) (pos row)).0 is)))
-  | inr other ↦ rw other (
-    λ there. elim (first_or_later h.row row _ there) [
-      | inl here ↦ absurd (true≢false (sym ((Decides-int_eq (pos h.row) (pos row)).1 (ap pos here)) ∙ other))
-      | inr behind ↦ (has_body row hs).0 behind
-    ],
-    λ some. later h.row row _ ((has_body row hs).1 some),
-  )
-]
-
-pub held_read : (k : StoreState) (c : Content) (numbers sorted rows : List ℕ) → IsBooks c k → numbers ≡ map index_of_row c.held → IsPermutation numbers sorted → AreOnce sorted rows → AreHeld k.bodies rows
-held_read k c numbers sorted rows books are turned once = record {
-  rising = once.rising;
-  each = λ row.
-      let (some, there) = subst (λ (o : Option (List ℕ)). Contains (map index_of_row c.held) row ↔ IsSome o) (books.held row) (has_body row c.held) in
-      let same = subst (λ ns. IsPermutation ns sorted) are turned in
-      (λ has. some (Contains-permutation _ _ row (IsPermutation-sym _ _ same) ((once.each row).0 has)), λ body. (once.each row).1 (Contains-permutation _ _ row same (there body)));
-}
 
 -- ---- parked bodies
 

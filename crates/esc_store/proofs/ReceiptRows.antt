@@ -3,14 +3,18 @@ use Rattle.esc_store.proofs.Common.{◌≡◌, ◌↔◌, ◌⊎◌, inl, inr, �
 use Rattle.esc_store.proofs.Common.{nat_cmp, cases_Bool, get_or-map, length-map, eqb-true, ReceiptRow, Content, ListsRows, verdict_digests, any_weaker, Verdict, A2, AreOnce, StoreState, ReceiptValue, verdict_number, receipts_from, IsBooks}
 use Rattle.std.specs.Prelude.{IsPermutation}
 use Rattle.std.specs.List.{AllPairs}
-use Rattle.std.proofs.lemmas.List.Elements.{All-from_get_or, Contains-append_left, Contains-append_right, Contains-append_cases}
+use Rattle.std.proofs.lemmas.List.Elements.{All-from_get_or, filter_map-append, Contains-append_left, Contains-append_right, Contains-append_cases}
 use Rattle.std.proofs.lemmas.List.Kept.{AllPairs-from_increasing, Contains-dedup_nat, Contains-from_dedup}
 use Rattle.std.proofs.lemmas.List.Sorted.{IsPermutation-sym, Contains-permutation}
 use Rattle.std.proofs.lemmas.Map.Keys.{IsStrictlyIncreasing-dedup}
 use Rattle.std.proofs.lemmas.Bool.{eq-eqb}
+use Rattle.std.proofs.Common.{◌||◌, ◌+◌, cond, get_or, None, Option, take, filter_map}
+use Rattle.std.proofs.lemmas.List.{take_more}
+use Rattle.std.specs.List.{cons_option}
+use Rattle.std.proofs.lemmas.Option.{none-some}
 use Rattle.esc_sql.specs.Changes.{is_of_verdict}
 use Rattle.esc_store.specs.declared.reply.Verdict.TheVariants.{A1, A5}
-use Rattle.esc_store.specs.Decoded.{IsOfVerdict, AreOfVerdict}
+use Rattle.esc_store.specs.Decoded.{IsOfVerdict, AreOfVerdict, row_if_held, digest_if_unlisted}
 use Rattle.esc_store.specs.StoreState.{IsRising, SaysHeld, AreHeldBy, is_unlisted, TellsUnlisted, AreUnlisted}
 use Rattle.esc_store.specs.TypedRows.{numbered_receipt}
 use Rattle.esc_store.specs.ListLaws.{first_or_later, later, any_first, any_later, any_split}
@@ -90,3 +94,53 @@ are_unlisted rs firsts seconds digests first second is d = subst (λ ds. Contain
     | inr five ↦ Contains-append_right firsts seconds d ((second d).1 (any.0, any.1, any.2, any.3, (five, any.4.1)))
   ],
 )
+
+-- ---- the same, picked of all receipts one by one
+
+module _ {Y : Type 0} (pick : ReceiptRow → Option Y) (y : Y) (P : ReceiptValue → Type 0) (reads : (n : ℕ) (r : ReceiptValue) → (pick (numbered_receipt n r) ≡ Some y) ↔ P r) where
+  -- of one receipt and later ones, by what is picked of the first
+  picked_from : (n : ℕ) (r : ReceiptValue) (rs : List ReceiptValue) → Contains (filter_map pick (receipts_from (suc n) rs)) y ↔ Any P rs → (o : Option Y) → pick (numbered_receipt n r) ≡ o
+      → Contains (filter_map pick (receipts_from n (r ∷ rs))) y ↔ Any P (r ∷ rs)
+  picked_from n r rs more None is = rw is (
+    λ there. any_later P r rs (more.0 there),
+    λ any. elim (any_split P r rs any) [ inl p ↦ absurd (none-some _ (sym is ∙ (reads n r).1 p)) | inr there ↦ more.1 there ],
+  )
+  picked_from n r rs more (Some z) is = rw is (
+    λ there. elim (first_or_later z y _ there) [ inl here ↦ any_first P r rs ((reads n r).0 (is ∙ ap (λ x. Some x) here)) | inr behind ↦ any_later P r rs (more.0 behind) ],
+    λ any. elim (any_split P r rs any) [ inl p ↦ (0, omega arith, same_Some _ _ (sym is ∙ (reads n r).1 p)) | inr there ↦ later z y _ (more.1 there) ],
+  )
+
+  picked : (n : ℕ) (rs : List ReceiptValue) → Contains (filter_map pick (receipts_from n rs)) y ↔ Any P rs
+  picked n [] = (λ there. absurd (omega (arith, there.1)), λ any. absurd (omega (arith, any.2)))
+  picked n (r ∷ rs) = picked_from n r rs (picked (suc n) rs) (pick (numbered_receipt n r)) refl
+
+row_of_a1 : (v : Verdict) (row : ℕ) (told : Option ℕ) → (cond (verdict_number v == 1) told None ≡ Some row) ↔ ((v ≡ A1) × (told ≡ Some row))
+row_of_a1 A1 row told = (λ is. (refl, is), λ it. it.1)
+row_of_a1 _ row told = (λ is. absurd (none-some _ is), λ it. absurd (omega (arith, ap verdict_number it.0)))
+
+digest_of_told : (v : Verdict) (d digest : List ℕ) → (cond ((verdict_number v == 2) || (verdict_number v == 5)) (Some digest) None ≡ Some d) ↔ ((is_unlisted v ≡ true) × (digest ≡ d))
+digest_of_told A2 d digest = (λ is. (refl, same_Some _ _ is), λ it. ap (λ x. Some x) it.1)
+digest_of_told A5 d digest = (λ is. (refl, same_Some _ _ is), λ it. ap (λ x. Some x) it.1)
+digest_of_told _ d digest = (λ is. absurd (none-some _ is), λ it. absurd (true≢false (sym it.0)))
+
+-- what is picked of values is picked of what they stand for
+pub picked_of : {A B Y : Type 0} (read : A → B) (pick : B → Option Y) (xs : List A) → filter_map (λ x. pick (read x)) xs ≡ filter_map pick (map read xs)
+picked_of read pick [] = refl
+picked_of read pick (x ∷ xs) = ap (cons_option (pick (read x))) (picked_of read pick xs)
+
+-- what is picked of one value more
+pub picked_more : {A Y : Type 0} (pick : A → Option Y) (xs : List A) (i : ℕ) (x d : A) → i < length xs → x ≡ get_or xs i d → filter_map pick (take (i + 1) xs) ≡ filter_map pick (take i xs) ++ filter_map pick (x ∷ [])
+picked_more pick xs i x d within is = ap (filter_map pick) (take_more xs i d within ∙ ap (λ y. take i xs ++ y ∷ []) (sym is)) ∙ filter_map-append pick (take i xs) (x ∷ [])
+
+-- the rows that receipts say are held, in ascending order
+pub picked_rows : (rs : List ReceiptValue) (sorted rows : List ℕ) → IsPermutation (filter_map row_if_held (receipts_from 1 rs)) sorted → AreOnce sorted rows → AreHeldBy rs rows
+picked_rows rs sorted rows same once = record {
+  rising = once.rising;
+  each = λ row.
+      let (told, named) = picked row_if_held row (SaysHeld row) (λ n r. row_of_a1 r.verdict row r.row) 1 rs in
+      (λ there. told (Contains-permutation _ _ _ (IsPermutation-sym _ _ same) ((once.each row).0 there)), λ any. (once.each row).1 (Contains-permutation _ _ _ same (named any)));
+}
+
+-- the digests of bodies that no row listed
+pub picked_digests : (rs : List ReceiptValue) → AreUnlisted rs (filter_map digest_if_unlisted (receipts_from 1 rs))
+picked_digests rs d = picked digest_if_unlisted d (TellsUnlisted d) (λ n r. digest_of_told r.verdict d r.digest) 1 rs

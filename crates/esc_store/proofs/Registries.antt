@@ -6,8 +6,7 @@ use Rattle.std.proofs.lemmas.Option.{same_Some}
 use Rattle.std.proofs.lemmas.Bool.{false_from_ne_true}
 use Rattle.std.proofs.lemmas.Bool.Decides.{same_from_decides, Decides-and, Decides-eqb}
 use Rattle.std.specs.Bool.{Decides}
-use Rattle.esc_apply.specs.Registry.{nothing, with_key, taken}
-use Rattle.esc_apply.specs.Registry.{ObjectsByKey}
+use Rattle.esc_apply.specs.Registry.{nothing, with_key, taken, ObjectsByKey}
 use Rattle.esc_tables.specs.KeyLaws.{key_itself, one_key as same_key}
 use Rattle.esc_sql.specs.Content.{is_same_key, is_same_image, rows_of, with_rows}
 use Rattle.esc_sql.specs.StoreTable.{StoreTable, RowOf, Objects}

@@ -11,8 +11,11 @@ use Rattle.std.specs.Prelude.{
   filter,
   Option,
   Some,
+  None,
   IsSome,
   option_map,
+  cond,
+  ◌||◌,
   ◌↔◌,
 }
 use Rattle.std.specs.List.{Contains, Any}
@@ -32,6 +35,7 @@ use Rattle.esc_tables.specs.ObjectValue.{ObjectValue}
 use Rattle.esc_record.specs.Record.{record_of}
 use Rattle.esc_apply.specs.Registry.{State}
 use Rattle.esc_sql.specs.Changes.{ObjectEntry, ImageEntry, entry_at, image_entry_at}
+use Rattle.esc_sql.specs.Rows.{ReceiptRow}
 use Rattle.esc_store.specs.declared.counts.KindCounts.{KindCounts}
 use Rattle.esc_store.specs.StoreState.{IsRising}
 use Rattle.esc_store.specs.ReplyValue.{ReceiptValue}
@@ -68,6 +72,14 @@ IsOfVerdict verdict digest r = (verdict_number r.verdict ≡ verdict) × (r.dige
 abbrev pub AreOfVerdict : ℕ → List ReceiptValue → List (List ℕ) → Type 0
 AreOfVerdict verdict receipts digests =
     (digest : List ℕ) → Contains digests digest ↔ Any (IsOfVerdict verdict digest) receipts
+
+-- the row of a receipt that says that its deposit is held
+abbrev pub row_if_held : ReceiptRow → Option ℕ
+row_if_held r = cond (r.verdict == 1) r.row None
+
+-- the digest of a receipt of a body that no row listed
+abbrev pub digest_if_unlisted : ReceiptRow → Option (List ℕ)
+digest_if_unlisted r = cond ((r.verdict == 2) || (r.verdict == 5)) (Some r.digest) None
 
 -- how often the number of a kind occurs among these
 abbrev pub times : Kind → List ℕ → ℕ

@@ -8,8 +8,7 @@ use Rattle.sqlite.specs.Effect.{Database}
 use Rattle.sqlite.specs.Held.{Held, state}
 use Rattle.sqlite.specs.State.{State, HasCleanDisk, Opens}
 use Rattle.esc_sql.specs.Schema.{first_schema, info_tree}
-use Rattle.esc_sql.specs.FirstVersion.{first_content_in}
-use Rattle.esc_sql.specs.FirstVersion.{AreFirstTrees}
+use Rattle.esc_sql.specs.FirstVersion.{first_content_in, AreFirstTrees}
 use Rattle.esc_store.specs.StoreState.{StoreState}
 use Rattle.esc_store.specs.Representation.{LeavesOr}
 use Rattle.esc_store.specs.StoreTables.{IsStore}

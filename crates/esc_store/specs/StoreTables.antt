@@ -5,8 +5,7 @@ use Rattle.sqlite_value.specs.Order.{Row, column}
 use Rattle.sqlite_trees.specs.Tree.{Trees}
 use Rattle.sqlite.specs.Effect.{Database}
 use Rattle.esc_sql.specs.Schema.{store_schema, no_schema, info_tree}
-use Rattle.esc_sql.specs.Content.{content_in, HoldsContent}
-use Rattle.esc_sql.specs.Content.{AreStoreTrees}
+use Rattle.esc_sql.specs.Content.{content_in, HoldsContent, AreStoreTrees}
 use Rattle.esc_store.specs.StoreState.{StoreState}
 use Rattle.esc_store.specs.TypedRows.{IsBooks, IsRegistry}
 

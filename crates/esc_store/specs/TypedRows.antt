@@ -15,8 +15,7 @@ use Rattle.esc_manifest.specs.declared.row.MRow.{MRow}
 use Rattle.esc_tables.specs.KeyName.{KeyName}
 use Rattle.esc_tables.specs.ObjectValue.{ObjectValue}
 use Rattle.esc_record.specs.Record.{record_of}
-use Rattle.esc_apply.specs.Registry.{State, Befores}
-use Rattle.esc_apply.specs.Registry.{ObjectsByKey}
+use Rattle.esc_apply.specs.Registry.{State, Befores, ObjectsByKey}
 use Rattle.esc_sql.specs.Rows.{ListedRow, ReceiptRow, StepRow}
 use Rattle.esc_sql.specs.Content.{Content, object_at, image_at, parked_at, moment_set}
 use Rattle.esc_sql.specs.Changes.{body_of}

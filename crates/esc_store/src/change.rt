@@ -85,18 +85,6 @@ impl<'a, S: Alter> Change<'a, S> {
         ensures cause { IfErr result IsS1OrS2 }
     {
         let row = small(row)?;
-        self.hold_row(row, body)
-    }
-
-    // Stores a body in its table.
-    fn hold_row(&mut self, row: u32, body: &[u8]) -> Result<(), SFault>
-        ensures part { IsChangePart S.Store self.old self.new result
-            (λ k. with_body k row body.now) }
-        ensures listed { listed_by self.new ≡ listed_by self.old }
-        ensures free { OnOk result (IsHonest S.Store (store_in self.new) → (before k : StoreState)
-            → HasMadeBooks S.Store self.old before k → k.bodies row ≡ None) }
-        ensures cause { IfErr result IsS1OrS2 }
-    {
         let done = insert_held(&mut self.store.conn, row, body);
         self.store.settle(done)
     }
@@ -113,20 +101,6 @@ impl<'a, S: Alter> Change<'a, S> {
         ensures cause { IfErr result IsS1OrS2 }
     {
         let row = small(row)?;
-        self.find_held(row)
-    }
-
-    // The body of a row, if the change holds one.
-    fn find_held(&mut self, row: u32) -> Result<Option<Vec<u8>>, SFault>
-        ensures follows { ChangeFollows S.Store self.old self.new }
-        ensures count { self.new.count ≡ self.old.count }
-        ensures found { IfOk result (λ found. IsHonest S.Store self.new.store.now
-            → (before k : StoreState) → HasMadeBooks S.Store self.old before k
-            → option_map (λ b. b.items) found ≡ k.bodies row) }
-        ensures holds { OnOk result ((s : State) → HasMadeTables S.Store self.old s
-            → HasMadeTables S.Store self.new s) }
-        ensures cause { IfErr result IsS1OrS2 }
-    {
         self.store.goes_on()?;
         self.store.body_here(row)
     }

@@ -15,14 +15,7 @@ ghost use Rattle.esc_store.specs.Opening.{
 };
 ghost use Rattle.esc_store.specs.Remembered.{nothing_read};
 ghost use Rattle.esc_store.specs.StoreTables.{IsStore, IsStoreDatabase};
-ghost use Rattle.esc_store.specs.Representation.{
-  Represents,
-  IsStanding,
-  LeavesOnly,
-  IsHonest,
-  connection_of,
-  store_writes,
-};
+ghost use Rattle.esc_store.specs.Representation.{IsStanding, IsHonest, connection_of};
 ghost use Rattle.esc_store.specs.FirstVersion.{
   IsFirstStore,
   IsFirstDatabase,

@@ -20,6 +20,7 @@ ghost use Rattle.esc_store.specs.Reading.{
 mod bodies;
 mod chain;
 mod fault;
+mod held;
 pub mod objects;
 mod receipts;
 mod tables;

@@ -51,7 +51,6 @@ ghost use Rattle.esc_store.specs.Representation.{
   store_writes,
   store_name,
 };
-ghost use Rattle.sqlite.specs.State.{HasCleanDisk};
 
 use crate::change::Change;
 use crate::codec::manifest::both_forms;

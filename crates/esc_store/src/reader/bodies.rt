@@ -1,13 +1,12 @@
-//! What a reader returns of held and parked bodies.
+//! The bodies that a reader returns, and what it tells of parked ones.
 
 ghost use Rattle.std.specs.Prelude.{◌≡◌, map, option_map, IfOk, IfErr, IsPermutation};
 ghost use Rattle.std.specs.List.Sorted.{IsSortedByKey};
 ghost use Rattle.std.specs.Ordering.{nat_cmp};
 ghost use Rattle.std.specs.Cmp.Lexicographic.{slice_cmp};
-ghost use Rattle.esc_scan.specs.Bodies.{index_read};
 ghost use Rattle.esc_store.specs.Faults.{IsS1OrS2};
 ghost use Rattle.esc_store.specs.Parks.{AreParkedBodies};
-ghost use Rattle.esc_store.specs.StoreState.{StoreState, AreHeld};
+ghost use Rattle.esc_store.specs.StoreState.{StoreState};
 ghost use Rattle.esc_store.specs.Reading.{
   IsHonestReader,
   IsReadOnly,
@@ -16,12 +15,11 @@ ghost use Rattle.esc_store.specs.Reading.{
 };
 
 use crate::codec::manifest::digest_of;
-use crate::codec::receipt::distinct_indices_of;
 use crate::codec::small;
 use crate::fault::{DAMAGED, SFault};
 use crate::parked::ParkedBody;
 use crate::reader::StoreReader;
-use esc_scan::held::{HELD_TREE, HeldIndex, all_held, find_body};
+use esc_scan::held::{HELD_TREE, find_body};
 use esc_scan::parked::{ParkedSize, all_parked};
 use sqlite_trees::store::{Shape, Store};
 use std::alloc::Global;
@@ -45,22 +43,6 @@ impl<S: Store> StoreReader<S> {
         Ok(body)
     }
 
-    /// The indices, from 0, of the listed rows whose body is held, in ascending order. Each body is
-    /// read, one at a time, and none is kept. `S1`, `S2`.
-    #[tactic(auto, using(crate::proofs::Readers::read_only))]
-    pub fn held(&mut self, alloc: Global) -> Result<Vec<usize>, SFault>
-        ensures same { IsReadOnly S.Store self.old self.new result }
-        ensures rows { IsHonestReader S.Store self.new → (k : StoreState)
-            → ReaderRepresents S.Store self.old k
-            → IfOk result (λ rows. AreHeld k.bodies rows.items) }
-        ensures cause { IfErr result IsS1OrS2 }
-    {
-        let stored = all_held(alloc, &mut self.trees)?;
-        let mut rows = rows_of(alloc, stored.as_slice())?;
-        rows.sort_unstable();
-        distinct_indices_of(alloc, rows.as_slice())
-    }
-
     /// The SHA-256 of each parked body and its length, in the byte order of the SHA-256s. Each body
     /// is read, one at a time, and none is kept. `S1`, `S2`.
     #[tactic(auto, using(crate::proofs::Readers::read_only))]
@@ -75,18 +57,6 @@ impl<S: Store> StoreReader<S> {
         let bodies = bodies_of(alloc, stored.as_slice())?;
         Ok(by_digest(bodies))
     }
-}
-
-// The rows that have a body, as they are stored. `S2`.
-fn rows_of(alloc: Global, held: &[HeldIndex]) -> Result<Vec<u32>, SFault>
-    ensures rows { IfOk result (λ rows. rows.items ≡ map index_read held.now) }
-    ensures cause { IfErr result IsS1OrS2 }
-{
-    let mut rows = Vec::with_capacity(alloc, held.len())?;
-    for it in held {
-        rows.push(it.row)?;
-    }
-    Ok(rows)
 }
 
 // Parked bodies, as they are stored. `S1` if a digest doesn't have its length; `S2`.

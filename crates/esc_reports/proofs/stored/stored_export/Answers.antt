@@ -1,7 +1,7 @@
 use Rattle.std.proofs.Common.{rules, ◌∙◌}
 use Rattle.esc_desk.specs.Readers.{IsHonestDeskReader}
 use Rattle.esc_desk.specs.ReaderWalks.{reader_of}
-use Rattle.esc_desk.specs.ReaderLaws.{unwritten_honest}
+use Rattle.esc_store.specs.ReadingLaws.{unwritten_honest}
 use Rattle.esc_reports.proofs.Listed.{listing, export_of_kind}
 use Rattle.esc_reports.proofs.stored.stored_export.Goals as goal
 

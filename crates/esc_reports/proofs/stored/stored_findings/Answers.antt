@@ -7,7 +7,7 @@ use Rattle.esc_check.specs.Findings.{IsFinding}
 use Rattle.esc_check.specs.TableMap.{content_of_entries}
 use Rattle.esc_desk.specs.Readers.{IsHonestDeskReader}
 use Rattle.esc_desk.specs.ReaderWalks.{reader_of}
-use Rattle.esc_desk.specs.ReaderLaws.{unwritten_honest}
+use Rattle.esc_store.specs.ReadingLaws.{unwritten_honest}
 use Rattle.esc_reports.proofs.Listed.{listing}
 use Rattle.esc_reports.proofs.stored.stored_findings.Goals as goal
 

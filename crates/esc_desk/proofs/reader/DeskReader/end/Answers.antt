@@ -1,5 +1,5 @@
 use Rattle.std.proofs.Common.{sym, ◌∙◌}
-use Rattle.esc_desk.specs.ReaderLaws.{unwritten_honest}
+use Rattle.esc_store.specs.ReadingLaws.{unwritten_honest}
 use Rattle.esc_desk.proofs.ReadLemmas.{no_end, end_said}
 use Rattle.esc_desk.proofs.reader.DeskReader.end.Goals as goal
 
