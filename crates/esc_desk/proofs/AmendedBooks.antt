@@ -14,17 +14,18 @@ use Rattle.esc_store.specs.ReplyValue.{ReceiptValue, reply_alike}
 use Rattle.esc_store.specs.StoreState.{StoreState, SaysHeld, TellsUnlisted, with_listed, with_moment}
 use Rattle.esc_store.specs.ListLaws.{any_weaker}
 use Rattle.esc_events.specs.ArrivalValue.{ArrivalValue}
-use Rattle.esc_events.specs.Events.{EventValue, Coming, union, comings}
+use Rattle.esc_events.specs.Events.{EventValue, Coming, union, comings, last_moment}
 use Rattle.esc_events.specs.Events.EventValue.{listed, moved}
 use Rattle.esc_events.specs.Assessment.{found, row_with_digest}
 use Rattle.esc_events.specs.Receipts.{holds_row, distinct, receipts_after, receipts_of, reply_to}
 use Rattle.esc_events.specs.StateAfter.{AreBooks, IsApart, TellsOf, CameFor, holds_by, kept_arrivals, held_body, parked_body}
 use Rattle.esc_events.specs.Amended.{judged, amended_bodies, still_parked, amended_kept}
-use Rattle.esc_desk.proofs.AmendingLemmas.{row_is, row_has, row_held, same_at, listed_still, holds_same, judged_at, judged_some}
+use Rattle.esc_desk.proofs.AmendingLemmas.{row_is, row_has, row_held, listed_still, holds_same, judged_at, judged_some}
 use Rattle.esc_desk.proofs.AmendingLemmas.{reply_same, rows_short, receipts_below}
 use Rattle.esc_desk.proofs.AmendingEvents.{came_under, holds_as, receipts_as, apart_as, held_as, parked_as, came_as, waits_as, held_is, parked_is}
 use Rattle.esc_desk.proofs.AmendingKept.{StayBesides, rest_stays, parked_was, parked_are, bodies_are}
 use Rattle.esc_desk.proofs.Members.{distinct_among}
+use Rattle.esc_desk.proofs.MovingLemmas.{first_row}
 use Rattle.esc_desk.proofs.Telling.{any_of_row}
 use Rattle.esc_desk.proofs.EventLemmas.{union-listed, comings-listed, moment-listed, union-moved, comings-moved, moment-moved}
 
@@ -98,7 +99,7 @@ books_amended e k more books ok okn = record {
     was_listed d q row lt =
         let at = row_has n d row in
         ap (λ (m : List MRow). row_with_digest m d) (sym books.listed)
-        ∙ row_is okm lt (ap (λ (x : MRow). x.digest) (sym (same_at sha256 reading (new_rows k.listed more) okm okk q lt)) ∙ at.1)
+        ∙ row_is okm lt (ap (λ (x : MRow). x.digest) (sym (first_row k.listed (new_rows k.listed more) q lt)) ∙ at.1)
 
     parked_still : IsApart sha256 reading e → (d : List ℕ) → (amended_kept k more).parked d ≡ parked_body sha256 reading (e ++ listed more ∷ []) d
     parked_still apart d =
@@ -142,7 +143,7 @@ books_amended e k more books ok okn = record {
     still_tells : (r : ℕ) (receipt : ReceiptValue) → TellsOf (union e) r receipt → TellsOf (union f) r receipt
     still_tells r receipt (inl says) = inl says
     still_tells r receipt (inr tells) =
-        let lists = listed_still sha256 reading (new_rows (union e) more) ok okn r receipt.digest tells.1 in
+        let lists = listed_still (union e) (new_rows (union e) more) receipt.digest r tells.1 in
         inr (tells.0, ap (λ (m : List MRow). row_with_digest m receipt.digest) rows ∙ lists)
 
     by_source : (r : ℕ) (body : List ℕ) (s : Bool) → nat_lt r (length k.listed) ≡ s → (t : Bool) → nat_lt r (length (extended k.listed more)) ≡ t
@@ -171,23 +172,26 @@ books_amended e k more books ok okn = record {
         subst (Any (TellsUnlisted d)) (sym rest.1)
         (books.parked_told d (ap is_some (parked_was n okk k (length k.listed) (no_shorter k.listed more) d body is)))
 
+-- the books by other events with the same rows and arrivals, where another moment may be set
+pub books_as : (e f : List EventValue) (k : StoreState) (moment : Option ℤ) → union f ≡ union e → comings f ≡ comings e → moment ≡ last_moment f
+    → AreBooks sha256 reading e k → AreBooks sha256 reading f (with_moment k moment)
+books_as e f k moment rows same last books = record {
+  listed = books.listed ∙ sym rows;
+  receipts = books.receipts ∙ sym (receipts_as sha256 e f same);
+  bodies = λ apart r. books.bodies (apart_as sha256 e f same apart) r ∙ sym (held_as sha256 e f same (union e) rows r);
+  parked = λ apart d. books.parked (apart_as sha256 e f same apart) d ∙ sym (parked_as sha256 e f same (union e) rows d);
+  moment = last;
+  came = λ r body is. came_as sha256 e f same r r body (λ c holds. ap (λ (m : List MRow). holds_by sha256 reading m r c) rows ∙ holds) (books.came r body is);
+  waits = λ d body is. waits_as sha256 e f same d body (books.waits d body is);
+  told = books.told;
+  held_told = λ r some. subst (λ (m : List MRow). Any (TellsOf m r) k.receipts) (sym rows) (books.held_told r some);
+  parked_told = books.parked_told;
+}
+
 -- the books after a moment was set
 pub books_of_moment : (e : List EventValue) (k : StoreState) (moment : Option ℤ) → AreBooks sha256 reading e k → AreBooks sha256 reading (e ++ moved moment ∷ []) (with_moment k moment)
 books_of_moment e k moment books =
-    let rows : union (e ++ moved moment ∷ []) ≡ union e = union-moved e moment in
-    let same : comings (e ++ moved moment ∷ []) ≡ comings e = comings-moved e moment in
-    record {
-      listed = books.listed ∙ sym rows;
-      receipts = books.receipts ∙ sym (receipts_as sha256 e (e ++ moved moment ∷ []) same);
-      bodies = λ apart r. books.bodies (apart_as sha256 e (e ++ moved moment ∷ []) same apart) r ∙ sym (held_as sha256 e (e ++ moved moment ∷ []) same (union e) rows r);
-      parked = λ apart d. books.parked (apart_as sha256 e (e ++ moved moment ∷ []) same apart) d ∙ sym (parked_as sha256 e (e ++ moved moment ∷ []) same (union e) rows d);
-      moment = sym (moment-moved e moment);
-      came = λ r body is. came_as sha256 e (e ++ moved moment ∷ []) same r r body (λ c holds. ap (λ (m : List MRow). holds_by sha256 reading m r c) rows ∙ holds) (books.came r body is);
-      waits = λ d body is. waits_as sha256 e (e ++ moved moment ∷ []) same d body (books.waits d body is);
-      told = books.told;
-      held_told = λ r some. subst (λ (m : List MRow). Any (TellsOf m r) k.receipts) (sym rows) (books.held_told r some);
-      parked_told = books.parked_told;
-    }
+    books_as e (e ++ moved moment ∷ []) k moment (union-moved e moment) (comings-moved e moment) (sym (moment-moved e moment)) books
 
 -- a reply stays as it was when more rows are listed
 pub replies_stay : (e : List EventValue) (more : List MRow) (a : ArrivalValue) → reply_to sha256 reading (e ++ listed more ∷ []) a ≡ reply_to sha256 reading e a

@@ -13,23 +13,23 @@ use Rattle.esc_events.specs.Amended.{judged, numbers_from, is_adopted, adopted_r
 
 -- ---- numbers that rise by one
 
-abbrev IsWithin : ℕ → ℕ → ℕ → Type 0
+abbrev pub IsWithin : ℕ → ℕ → ℕ → Type 0
 IsWithin first count q = (first ≤ q) × (q < first + count)
 
-numbers_within : (first count : ℕ) → All (IsWithin first count) (numbers_from first count)
+pub numbers_within : (first count : ℕ) → All (IsWithin first count) (numbers_from first count)
 numbers_within first zero = All-nil (IsWithin first zero)
 numbers_within first (suc count) =
     All-cons (IsWithin first (suc count)) first (numbers_from (suc first) count) (omega arith, omega arith)
     (All-weaker (IsWithin (suc first) count) (IsWithin first (suc count)) (λ q at. (omega (arith, at.0), omega (arith, at.1))) (numbers_from (suc first) count) (numbers_within (suc first) count))
 
-numbers_rise : (first count : ℕ) → IsRising (numbers_from first count)
+pub numbers_rise : (first count : ℕ) → IsRising (numbers_from first count)
 numbers_rise first zero = tt
 numbers_rise first (suc count) = (
   All-weaker (IsWithin (suc first) count) (λ q. first < q) (λ q at. omega (arith, at.0)) (numbers_from (suc first) count) (numbers_within (suc first) count),
   numbers_rise (suc first) count,
 )
 
-in_numbers : (first count q : ℕ) → first ≤ q → q < first + count → Contains (numbers_from first count) q
+pub in_numbers : (first count q : ℕ) → first ≤ q → q < first + count → Contains (numbers_from first count) q
 in_numbers first zero q le lt = absurd (omega (arith, le, lt))
 in_numbers first (suc count) q le lt = by_test (nat_lt first q) refl (λ gap. in_numbers (suc first) count q gap (omega (arith, lt)))
   where
@@ -40,7 +40,7 @@ in_numbers first (suc count) q le lt = by_test (nat_lt first q) refl (λ gap. in
 -- ---- those that pass a test
 
 module _ (p : ℕ → Bool) where
-  filter_rises : (xs : List ℕ) → IsRising xs → IsRising (filter p xs)
+  pub filter_rises : (xs : List ℕ) → IsRising xs → IsRising (filter p xs)
   filter_rises [] up = tt
   filter_rises (x ∷ xs) up = by_test (p x) (filter_rises xs up.1)
     where
@@ -48,7 +48,7 @@ module _ (p : ℕ → Bool) where
       by_test true rest = (All-filter p (λ y. x < y) xs up.0, rest)
       by_test false rest = rest
 
-  in_filter : (xs : List ℕ) (q : ℕ) → Contains xs q → p q ≡ true → Contains (filter p xs) q
+  pub in_filter : (xs : List ℕ) (q : ℕ) → Contains xs q → p q ≡ true → Contains (filter p xs) q
   in_filter [] q there passes = absurd (omega (arith, there.1))
   in_filter (x ∷ xs) q there passes = by_test (p x) refl (first_or_later x q xs there) (λ rest. in_filter xs q rest passes)
     where

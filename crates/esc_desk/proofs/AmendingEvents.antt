@@ -110,6 +110,6 @@ module _ (digest : List ℕ → List ℕ) where
             → cond (is_some (row_with_digest n d)) None (parked_from m (kept_arrivals digest reading e) d) ≡ parked_from n (kept_arrivals digest reading e) d
         by_row None old p new = ap (λ (q : Option ℕ). cond (is_some (row_with_digest n d)) None (cond (is_some q) None (came_under (kept_arrivals digest reading e) d))) old
         by_row (Some q) old p new =
-            let there : row_with_digest n d ≡ Some q = listed_still digest reading x ok okn q d old in
+            let there : row_with_digest n d ≡ Some q = listed_still m x d q old in
             ap (λ (s : Option ℕ). cond (is_some s) None (parked_from m (kept_arrivals digest reading e) d)) there
             ∙ sym (ap (λ (s : Option ℕ). cond (is_some s) None (came_under (kept_arrivals digest reading e) d)) there)

@@ -1,75 +1,55 @@
 -- What a store keeps after parked bodies became those of their rows or were let go.
-use Rattle.std.proofs.Common.{◌≡◌, inl, inr, ℕ, zero, suc, ◌+◌, ◌-◌, ◌<◌, ◌≤◌, Bool, true, false, cond, ◌==◌, ◌&&◌, not, nat_lt}
+use Rattle.std.proofs.Common.{◌≡◌, ◌⊎◌, inl, inr, ℕ, ◌+◌, ◌-◌, ◌<◌, ◌≤◌, Bool, true, false, cond, ◌==◌, ◌&&◌, not, nat_lt}
 use Rattle.std.proofs.Common.{List, [], ◌∷◌, length, filter, Option, Some, None, is_some, refl, sym, ap, ap₂, subst, ◌∙◌, arith, true≢false}
+use Rattle.std.specs.List.{Contains}
 use Rattle.std.specs.Str.{bytes_eq}
 use Rattle.std.specs.Cmp.Lexicographic.{bytes_decides}
 use Rattle.std.proofs.lemmas.Bool.Decides.{nat_tests}
+use Rattle.std.proofs.lemmas.List.Elements.{All-contains, All-filter, filter_passes}
 use Rattle.std.proofs.lemmas.Option.{none-some}
 use Rattle.std.proofs.lemmas.Bool.{eqb-true, false_from_ne_true}
 use Rattle.esc_manifest.specs.declared.row.MRow.{MRow}
 use Rattle.esc_manifest.specs.ManifestRows.{row_at}
 use Rattle.esc_manifest.specs.Accepted.{IsAccepted}
-use Rattle.esc_store.specs.StoreState.{StoreState, parked_put, with_adopted, with_listed, with_parked}
+use Rattle.esc_store.specs.StoreState.{IsRising, StoreState, parked_put, with_adopted, with_listed, with_parked}
+use Rattle.esc_store.specs.ListLaws.{first_or_later, later}
 use Rattle.esc_events.specs.Assessment.{row_with_digest}
 use Rattle.esc_events.specs.StateAfter.{Among}
 use Rattle.esc_events.specs.Amended.{judged, numbers_from, is_adopted, is_dropped, adopted_rows, dropped_rows}
 use Rattle.esc_events.specs.Amended.{amended_bodies, still_parked, with_all_adopted, with_all_dropped}
+use Rattle.esc_desk.proofs.AmendedRows.{IsWithin, numbers_within, numbers_rise, in_numbers, filter_rises, in_filter}
 use Rattle.esc_desk.proofs.AmendingLemmas.{row_is, row_has, judged_some}
 
 none_both : (t : Bool) (o : Option (List ℕ)) → o ≡ None → cond t None o ≡ None
 none_both true o none = refl
 none_both false o none = none
 
--- ---- rows in rising order
+-- ---- numbers that pass a test
 
--- the first is not below this number, and each is below those after it
-abbrev RisesFrom : ℕ → List ℕ → Type 0
-RisesFrom first [] = Unit {0}
-RisesFrom first (r ∷ rows) = (first ≤ r) × RisesFrom (suc r) rows
+among_of : (rows : List ℕ) (q : ℕ) → Contains rows q → Among rows q
+among_of [] q there = absurd (omega (arith, there.1))
+among_of (r ∷ rows) q there = by_place (first_or_later r q rows there) (among_of rows q)
+  where
+    by_place : (r ≡ q) ⊎ Contains rows q → (Contains rows q → Among rows q) → Among (r ∷ rows) q
+    by_place (inl same) rest = inl (sym same)
+    by_place (inr behind) rest = inr (rest behind)
 
-rises_sooner : (first : ℕ) (rows : List ℕ) → RisesFrom (suc first) rows → RisesFrom first rows
-rises_sooner first [] rises = tt
-rises_sooner first (r ∷ rows) rises = (omega (arith, rises.0), rises.1)
+contains_of : (rows : List ℕ) (q : ℕ) → Among rows q → Contains rows q
+contains_of [] q there = absurd there
+contains_of (r ∷ rows) q (inl is) = (0, omega arith, sym is)
+contains_of (r ∷ rows) q (inr there) = later r q rows (contains_of rows q there)
 
-not_below : (first : ℕ) (rows : List ℕ) (q : ℕ) → RisesFrom first rows → Among rows q → first ≤ q
-not_below first [] q rises there = absurd there
-not_below first (r ∷ rows) q rises (inl is) = omega (arith, rises.0, is)
-not_below first (r ∷ rows) q rises (inr there) = omega (arith, rises.0, not_below (suc r) rows q rises.1 there)
+-- a number that passes is among those that do, and each of those passes
+module _ (p : ℕ → Bool) (first count q : ℕ) where
+  in_passing : first ≤ q → q < first + count → p q ≡ true → Among (filter p (numbers_from first count)) q
+  in_passing le lt is = among_of (filter p (numbers_from first count)) q (in_filter p (numbers_from first count) q (in_numbers first count q le lt) is)
 
-module _ (p : ℕ → Bool) where
-  rises_numbers : (first count : ℕ) → RisesFrom first (filter p (numbers_from first count))
-  rises_numbers first zero = tt
-  rises_numbers first (suc count) = by_test (p first) (rises_numbers (suc first) count)
-    where
-      by_test : (t : Bool) → RisesFrom (suc first) (filter p (numbers_from (suc first) count))
-          → RisesFrom first (cond t (first ∷ filter p (numbers_from (suc first) count)) (filter p (numbers_from (suc first) count)))
-      by_test true rest = (omega arith, rest)
-      by_test false rest = rises_sooner first (filter p (numbers_from (suc first) count)) rest
-
-  -- a number that passes is among those that do
-  in_numbers : (first count q : ℕ) → first ≤ q → q < first + count → p q ≡ true → Among (filter p (numbers_from first count)) q
-  in_numbers first zero q le lt is = absurd (omega (arith, le, lt))
-  in_numbers first (suc count) q le lt is = by_tests (q == first) refl (p first) refl (λ gap. in_numbers (suc first) count q gap (omega (arith, lt)) is)
-    where
-      later : (q == first) ≡ false → suc first ≤ q
-      later other = grind (arith, nat_tests, other, le)
-
-      by_tests : (s : Bool) → (q == first) ≡ s → (t : Bool) → p first ≡ t → (suc first ≤ q → Among (filter p (numbers_from (suc first) count)) q)
-          → Among (cond t (first ∷ filter p (numbers_from (suc first) count)) (filter p (numbers_from (suc first) count))) q
-      by_tests true same true passes rest = inl (eqb-true q first same)
-      by_tests true same false fails rest = absurd (true≢false (sym is ∙ ap p (eqb-true q first same) ∙ fails))
-      by_tests false other true passes rest = inr (rest (later other))
-      by_tests false other false fails rest = rest (later other)
-
-  of_numbers : (first count q : ℕ) → Among (filter p (numbers_from first count)) q → (first ≤ q) × (q < first + count) × (p q ≡ true)
-  of_numbers first zero q there = absurd there
-  of_numbers first (suc count) q there = by_test (p first) refl there (λ rest. let x = of_numbers (suc first) count q rest in (omega (arith, x.0), omega (arith, x.1), x.2))
-    where
-      by_test : (t : Bool) → p first ≡ t → Among (cond t (first ∷ filter p (numbers_from (suc first) count)) (filter p (numbers_from (suc first) count))) q
-          → (Among (filter p (numbers_from (suc first) count)) q → (first ≤ q) × (q < first + suc count) × (p q ≡ true)) → (first ≤ q) × (q < first + suc count) × (p q ≡ true)
-      by_test true passes (inl is) behind = (omega (arith, is), omega (arith, is), ap p is ∙ passes)
-      by_test true passes (inr rest) behind = behind rest
-      by_test false fails rest behind = behind rest
+  of_passing : Among (filter p (numbers_from first count)) q → (first ≤ q) × (q < first + count) × (p q ≡ true)
+  of_passing among =
+      let numbers = numbers_from first count in
+      let there = contains_of (filter p numbers) q among in
+      let at = All-contains (IsWithin first count) (filter p numbers) q (All-filter p (IsWithin first count) numbers (numbers_within first count)) there in
+      (at.0, at.1, All-contains (λ r. p r ≡ true) (filter p numbers) q (filter_passes p numbers) there)
 
 -- ---- what stays
 
@@ -167,10 +147,10 @@ module _ (n : List MRow) where
       adopted_others (adopt k r) rows q (λ s there. others s (inr there))
       ∙ one_body k r (digest_at r) (k.parked (digest_at r)) q (others r (inl refl))
 
-  adopted_here : (okn : IsAccepted n) (k : StoreState) (first : ℕ) (rows : List ℕ) → RisesFrom first rows → ((r : ℕ) → Among rows r → r < length n)
+  adopted_here : (okn : IsAccepted n) (k : StoreState) (rows : List ℕ) → IsRising rows → ((r : ℕ) → Among rows r → r < length n)
       → (q : ℕ) (body : List ℕ) → Among rows q → k.parked (digest_at q) ≡ Some body → (with_all_adopted n k rows).bodies q ≡ Some body
-  adopted_here okn k first [] rises few q body there parked = absurd there
-  adopted_here okn k first (r ∷ rows) rises few q body (inl is) parked =
+  adopted_here okn k [] rises few q body there parked = absurd there
+  adopted_here okn k (r ∷ rows) rises few q body (inl is) parked =
       adopted_others (adopt k r) rows q later
       ∙ ap (λ (o : Option (List ℕ)). (with_adopted k r (digest_at r) o).bodies q) (ap (λ (s : ℕ). k.parked (digest_at s)) (sym is) ∙ parked)
       ∙ ap (λ (t : Bool). cond t (Some body) (k.bodies q)) same
@@ -179,16 +159,16 @@ module _ (n : List MRow) where
       same = grind (arith, nat_tests, is)
 
       later : (s : ℕ) → Among rows s → (q == s) ≡ false
-      later s there = let at : suc r ≤ s = not_below (suc r) rows s rises.1 there in grind (arith, nat_tests, is, at)
-  adopted_here okn k first (r ∷ rows) rises few q body (inr there) parked =
-      adopted_here okn (adopt k r) (suc r) rows rises.1 (λ s t. few s (inr t)) q body there
+      later s there = let at : r < s = All-contains (λ m. r < m) rows s rises.0 (contains_of rows s there) in grind (arith, nat_tests, is, at)
+  adopted_here okn k (r ∷ rows) rises few q body (inr there) parked =
+      adopted_here okn (adopt k r) rows rises.1 (λ s t. few s (inr t)) q body there
       (one_gone k r (digest_at r) (k.parked (digest_at r)) refl (digest_at q)
       ∙ ap (λ (t : Bool). cond t None (k.parked (digest_at q))) (false_from_ne_true (bytes_eq (digest_at r) (digest_at q)) other) ∙ parked)
     where
       other : bytes_eq (digest_at r) (digest_at q) ≡ true → ⊥
       other same =
           let one : r ≡ q = okn.one_digest r q (few r (inl refl)) (few q (inr there)) ((bytes_decides (digest_at r) (digest_at q)).0 same) in
-          let at : suc r ≤ q = not_below (suc r) rows q rises.1 there in
+          let at : r < q = All-contains (λ m. r < m) rows q rises.0 (contains_of rows q there) in
           omega (arith, one, at)
 
 -- ---- rows are listed; the parked bodies of those from this one on are held or dropped
@@ -214,10 +194,10 @@ module _ (n : List MRow) (okn : IsAccepted n) (k : StoreState) (from : ℕ) (le 
   rest_stays = stay_then rows_listed bodies_held last (adopted_stay n rows_listed adopted) (dropped_stay n bodies_held dropped)
 
   of_rows : (p : ℕ → Bool) (q : ℕ) → Among (filter p (numbers_from from (length n - from))) q → (from ≤ q) × (q < length n) × (p q ≡ true)
-  of_rows p q there = let x = of_numbers p from (length n - from) q there in (x.0, omega (arith, x.1, le), x.2)
+  of_rows p q there = let x = of_passing p from (length n - from) q there in (x.0, omega (arith, x.1, le), x.2)
 
   in_rows : (p : ℕ → Bool) (q : ℕ) → from ≤ q → q < length n → p q ≡ true → Among (filter p (numbers_from from (length n - from))) q
-  in_rows p q new lt is = in_numbers p from (length n - from) q new (omega (arith, lt, new, le)) is
+  in_rows p q new lt is = in_passing p from (length n - from) q new (omega (arith, lt, new, le)) is
 
   -- ---- parked
 
@@ -285,7 +265,7 @@ module _ (n : List MRow) (okn : IsAccepted n) (k : StoreState) (from : ℕ) (le 
           never : (s : ℕ) → Among adopted s → r ≡ s → ⊥
           never s there same = true≢false (sym (of_rows (is_adopted n k.parked) s there).2 ∙ ap (is_adopted n k.parked) (sym same) ∙ ap (λ (o : Option (List ℕ)). is_some o) miss)
       new far lt (Some body) is =
-          adopted_here n okn rows_listed from adopted (rises_numbers (is_adopted n k.parked) from (length n - from)) (λ s there. (of_rows (is_adopted n k.parked) s there).1) r body
+          adopted_here n okn rows_listed adopted (filter_rises (is_adopted n k.parked) (numbers_from from (length n - from)) (numbers_rise from (length n - from))) (λ s there. (of_rows (is_adopted n k.parked) s there).1) r body
           (in_rows (is_adopted n k.parked) r far lt (ap (λ (o : Option (List ℕ)). is_some o) is)) (judged_some n r (k.parked (digest_at n r)) body is).0
 
       by_tests : (s : Bool) → nat_lt r from ≡ s → (t : Bool) → nat_lt r (length n) ≡ t

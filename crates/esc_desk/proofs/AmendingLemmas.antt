@@ -1,15 +1,18 @@
 -- The row of a digest, and what bodies are judged by, where rows are added.
-use Rattle.std.proofs.Common.{◌≡◌, inl, inr, ℕ, suc, ◌<◌, ◌≤◌, Bool, true, false, cond, Option, Some, None, option_map, IfSome, Result, Ok, Err}
-use Rattle.std.proofs.Common.{List, [], ◌∷◌, ◌++◌, length, get_or, position, refl, sym, ap, ap₂, subst, ◌∙◌, arith, true≢false, length-append}
-use Rattle.std.specs.List.{position_or_len, find}
+use Rattle.std.proofs.Common.{◌≡◌, inl, inr, ℕ, suc, ◌+◌, ◌<◌, ◌≤◌, Bool, not, true, false, cond, Option, Some, None, option_map, IfSome, Result, Ok, Err}
+use Rattle.std.proofs.Common.{List, [], ◌∷◌, ◌++◌, length, get_or, eqb, position, refl, sym, ap, ap₂, subst, ◌∙◌, arith, true≢false, length-append}
+use Rattle.std.specs.List.{position_or_len, prefix_len, find}
 use Rattle.std.specs.Str.{bytes_eq}
+use Rattle.std.specs.Cmp.{both_ways}
 use Rattle.std.specs.Cmp.Lexicographic.{bytes_decides}
 use Rattle.std.proofs.lemmas.Grind.{common_steps}
 use Rattle.std.proofs.lemmas.List.{get_or_append_left}
+use Rattle.std.proofs.lemmas.List.Folds.{prefix_len-append}
 use Rattle.std.proofs.lemmas.List.Quantifiers.{position-Some}
 use Rattle.std.proofs.lemmas.List.Sums.{fails_before_first}
 use Rattle.std.proofs.lemmas.Option.{same_Some, none-some}
 use Rattle.std.proofs.lemmas.Bool.{eqb-true}
+use Rattle.std.proofs.lemmas.Bool.Decides.{nat_tests}
 use Rattle.esc_tables.specs.DepositValue.{DepositValue}
 use Rattle.esc_tables.specs.Reading.{reading}
 use Rattle.esc_manifest.specs.declared.row.MRow.{MRow}
@@ -25,14 +28,6 @@ use Rattle.esc_events.specs.Assessment.{assessment, found_at, found, as_listed, 
 use Rattle.esc_events.specs.Receipts.{is_row, holds_row, receipt_by, holds_any, receipt_for, receipts_after}
 use Rattle.esc_events.specs.StateAfter.{Among, arrived_body, holds_by, has_digest}
 use Rattle.esc_events.specs.Amended.{judged}
-
--- ---- tests
-
-pub same_bool : (a b : Bool) → (a ≡ true → b ≡ true) → (b ≡ true → a ≡ true) → a ≡ b
-same_bool true true f g = refl
-same_bool true false f g = absurd (true≢false (sym (f refl)))
-same_bool false true f g = absurd (true≢false (sym (g refl)))
-same_bool false false f g = refl
 
 -- ---- rows by digest
 
@@ -85,24 +80,30 @@ judged_some n r (Some b) body e = by_test (holds_row r (found n r (reading b))) 
 
 -- ---- what bodies hold, where rows are added
 
+-- a digest that was listed is listed at the same row
+pub listed_still : (m more : List MRow) (d : List ℕ) (q : ℕ) → row_with_digest m d ≡ Some q → row_with_digest (m ++ more) d ≡ Some q
+listed_still m more d q then =
+    let differs : MRow → Bool = λ row. not (bytes_eq row.digest d) in
+    let first : q ≡ prefix_len differs m = grind (arith, common_steps, then) in
+    let within : prefix_len differs m < length m = grind (arith, common_steps, then) in
+    let whole : prefix_len differs (m ++ more) ≡ cond (eqb (prefix_len differs m) (length m)) (length m + prefix_len differs more) (prefix_len differs m) = prefix_len-append differs m more in
+    let same : prefix_len differs (m ++ more) ≡ prefix_len differs m = grind (arith, nat_tests, whole, within) in
+    grind (arith, common_steps, first, within, same)
+
+found_still : (m more : List MRow) (r : ℕ) → r < length m → (t : Result DepositValue ℕ) → found (m ++ more) r t ≡ found m r t
+found_still m more r within (Ok d) =
+    ap (λ (row : MRow). cond (as_listed row.header d.header) (Holding r d) (Differing r)) (get_or_append_left m more no_row r within)
+found_still m more r within (Err n) = refl
+
 module _ (digest : List ℕ → List ℕ) (reads : List ℕ → Result DepositValue ℕ) where
+  -- a listed body is judged by its row
+  pub holds_still : (m more : List MRow) (q r : ℕ) (c : Coming) → row_with_digest m (digest c.body) ≡ Some q → holds_by digest reads (m ++ more) r c ≡ holds_by digest reads m r c
+  holds_still m more q r c at =
+      ap (λ (o : Option ℕ). holds_row r (found_at (m ++ more) o (reads c.body))) (listed_still m more (digest c.body) q at)
+      ∙ ap (holds_row r) (found_still m more q (row_has m (digest c.body) at).0 (reads c.body))
+      ∙ ap (λ (o : Option ℕ). holds_row r (found_at m o (reads c.body))) (sym at)
+
   module _ {m : List MRow} (x : List MRow) (ok : IsAccepted m) (okn : IsAccepted (m ++ x)) where
-    pub same_at : (r : ℕ) → r < length m → row_at (m ++ x) r ≡ row_at m r
-    same_at r lt = get_or_append_left m x no_row r lt
-
-    pub inside_more : (r : ℕ) → r < length m → r < length (m ++ x)
-    inside_more r lt = grind (arith, common_steps, lt)
-
-    found_same : (r : ℕ) → r < length m → (t : Result DepositValue ℕ) → found (m ++ x) r t ≡ found m r t
-    found_same r lt (Ok d) = ap (λ (row : MRow). cond (as_listed row.header d.header) (Holding r d) (Differing r)) (same_at r lt)
-    found_same r lt (Err k) = refl
-
-    -- a digest that was listed is listed at the same row
-    pub listed_still : (r : ℕ) (d : List ℕ) → row_with_digest m d ≡ Some r → row_with_digest (m ++ x) d ≡ Some r
-    listed_still r d old =
-        let at = row_has m d old in
-        row_is okn (inside_more r at.0) (ap (λ (row : MRow). row.digest) (same_at r at.0) ∙ at.1)
-
     -- a digest of a new row was not listed
     pub unlisted_before : (r : ℕ) → length m ≤ r → r < length (m ++ x) → row_with_digest m (row_at (m ++ x) r).digest ≡ None
     unlisted_before r new lt = by_row (row_with_digest m (row_at (m ++ x) r).digest) refl
@@ -111,28 +112,22 @@ module _ (digest : List ℕ → List ℕ) (reads : List ℕ → Result DepositVa
         by_row None is = refl
         by_row (Some q) is =
             let at = row_has m (row_at (m ++ x) r).digest is in
-            let same : (row_at (m ++ x) q).digest ≡ (row_at (m ++ x) r).digest = ap (λ (row : MRow). row.digest) (same_at q at.0) ∙ at.1 in
-            let one : q ≡ r = okn.one_digest q r (inside_more q at.0) lt same in
+            let same : (row_at (m ++ x) q).digest ≡ (row_at (m ++ x) r).digest = ap (λ (row : MRow). row.digest) (get_or_append_left m x no_row q at.0) ∙ at.1 in
+            let one : q ≡ r = okn.one_digest q r (omega (arith, at.0, length-append m x)) lt same in
             absurd (omega (arith, at.0, new, one))
 
     -- an older row is held by the bodies that held it before
     pub holds_same : (r : ℕ) → r < length m → (c : Coming) → holds_by digest reads (m ++ x) r c ≡ holds_by digest reads m r c
-    holds_same r lt c = same_bool _ _ back there
+    holds_same r lt c = both_ways _ _ back there
       where
-        both : row_with_digest m (digest c.body) ≡ Some r → row_with_digest (m ++ x) (digest c.body) ≡ Some r → holds_by digest reads (m ++ x) r c ≡ holds_by digest reads m r c
-        both old new =
-            ap (λ (o : Option ℕ). holds_row r (found_at (m ++ x) o (reads c.body))) new
-            ∙ ap (holds_row r) (found_same r lt (reads c.body))
-            ∙ ap (λ (o : Option ℕ). holds_row r (found_at m o (reads c.body))) (sym old)
-
-        digest_new : row_with_digest (m ++ x) (digest c.body) ≡ Some r → row_with_digest m (digest c.body) ≡ Some r
-        digest_new new = row_is ok lt (ap (λ (row : MRow). row.digest) (sym (same_at r lt)) ∙ (row_has (m ++ x) (digest c.body) new).1)
-
         there : holds_by digest reads m r c ≡ true → holds_by digest reads (m ++ x) r c ≡ true
-        there is = let old = row_found m r (row_with_digest m (digest c.body)) (reads c.body) is in both old (listed_still r (digest c.body) old) ∙ is
+        there is = holds_still m x r r c (row_found m r (row_with_digest m (digest c.body)) (reads c.body) is) ∙ is
 
         back : holds_by digest reads (m ++ x) r c ≡ true → holds_by digest reads m r c ≡ true
-        back is = let new = row_found (m ++ x) r (row_with_digest (m ++ x) (digest c.body)) (reads c.body) is in sym (both (digest_new new) new) ∙ is
+        back is =
+            let new = row_has (m ++ x) (digest c.body) (row_found (m ++ x) r (row_with_digest (m ++ x) (digest c.body)) (reads c.body) is) in
+            let old = row_is ok lt (ap (λ (row : MRow). row.digest) (sym (get_or_append_left m x no_row r lt)) ∙ new.1) in
+            sym (holds_still m x r r c old) ∙ is
 
   -- a row that a body holds is the manifest's, and has the digest of the body
   pub row_held : (n : List MRow) (r : ℕ) (c : Coming) → holds_by digest reads n r c ≡ true → (r < length n) × ((row_at n r).digest ≡ digest c.body)

@@ -21,7 +21,7 @@ use Rattle.esc_desk.proofs.EventLemmas.{union_then, comings_then}
 use Rattle.esc_desk.proofs.Moving.{chain_of}
 use Rattle.esc_desk.proofs.MovingLemmas.{same_deposits}
 use Rattle.esc_desk.specs.Laws.{AreLeftByArrivals, came_with}
-use Rattle.esc_desk.proofs.EarlyEvents.{counted_then}
+use Rattle.esc_desk.proofs.Counting.{counted_then}
 
 abbrev none_held : Rows
 none_held = set.from_list []

@@ -5,12 +5,11 @@ use Rattle.sha2.specs.Sha256.{sha256}
 use Rattle.esc_tables.specs.Reading.{reading}
 use Rattle.esc_manifest.specs.declared.row.MRow.{MRow}
 use Rattle.esc_apply.specs.declared.moves.Work.{Work}
-use Rattle.esc_store.specs.StoreState.{StoreState, AreHeld, AreHeldBy, body_put, kept_chain, step_at, with_body, with_parked, with_receipt}
+use Rattle.esc_store.specs.StoreState.{StoreState, AreHeld, AreHeldBy, body_put, kept_chain, step_at, with_body, with_parked}
 use Rattle.esc_store.specs.ReplyValue.{ReceiptValue, ReplyValue}
 use Rattle.esc_events.specs.declared.assessment.Assessment.{Assessment}
 use Rattle.esc_events.specs.declared.assessment.Assessment.TheVariants.{Unlisted, Unreadable, Differing, Holding}
 use Rattle.esc_events.specs.declared.cache.Cache.{Cache}
-use Rattle.esc_events.specs.declared.parking.Parking.TheVariants.{Needless, Free, Crowded}
 use Rattle.esc_events.specs.declared.plan.Plan.{Plan}
 use Rattle.esc_events.specs.ArrivalValue.{ArrivalValue}
 use Rattle.esc_events.specs.Events.{EventValue}
@@ -18,10 +17,9 @@ use Rattle.esc_events.specs.Events.EventValue.{arrived}
 use Rattle.esc_events.specs.Assessment.{held_row}
 use Rattle.esc_events.specs.HeldLaws.{holding_listed}
 use Rattle.esc_events.specs.Cache.{IsCacheOf}
-use Rattle.esc_events.specs.Parks.{IsParking}
 use Rattle.esc_events.specs.Plans.{AreLatestSteps}
 use Rattle.esc_events.specs.StateAfter.{AreBooks}
-use Rattle.esc_events.specs.Taking.{IsNew, IsAgain}
+use Rattle.esc_events.specs.Taking.{IsAgain}
 use Rattle.esc_events.specs.Works.{IsIdle}
 use Rattle.esc_desk.specs.declared.edit.Edit.{Edit}
 use Rattle.esc_desk.specs.declared.edit.Storing.{Storing}
@@ -31,7 +29,7 @@ use Rattle.esc_desk.specs.Again.{is_missing}
 use Rattle.esc_desk.specs.Decisions.{IsArriving, IsDecidedArrival, still_by}
 use Rattle.esc_desk.specs.Edits.{is_empty, is_nothing, receipted, stored}
 use Rattle.esc_desk.specs.Receiving.{IsReceived}
-use Rattle.esc_desk.proofs.Arriving.{books_noted, books_parked, books_held, books_cached_again, books_parked_again, books_held_again}
+use Rattle.esc_desk.proofs.Arriving.{noted_new, noted_again, books_there, books_parked, books_held}
 use Rattle.esc_desk.proofs.ComingAgain.{nothing_listed, nothing_parked, nothing_refused}
 use Rattle.esc_desk.proofs.Deciding.{decided_still, is_none_of}
 use Rattle.esc_desk.proofs.EventLemmas.{union-arrived}
@@ -121,51 +119,35 @@ module _ {e : List EventValue} {a : ArrivalValue} {k : StoreState} {found : Asse
 
 -- ---- a new arrival, and one that comes again
 
-free_place : Free ≡ Crowded → ⊥
-free_place full = let no : ⊥ = cc in no
-
-needless_place : Needless ≡ Crowded → ⊥
-needless_place full = let no : ⊥ = cc in no
-
 pub arriving_new : {e : List EventValue} {a : ArrivalValue} {k : StoreState} {before : Cache} {r : Received} → IsReceived e a k before r → IsArriving e a k r.found r.cache (Some r.receipt)
-arriving_new {e = e} {a = a} {k = k} {before = before} {r = r} got =
+arriving_new {k = k} got =
     let is = got.is_new in
+    let noted = noted_new is in
     record {
       stood = is.stood;
       found_is = is.found_is;
       held = subst (AreHeld k.bodies) (sym (ap (λ v. v.items) got.held)) is.cache_is.held;
       told = got.told;
       chain = ap (λ v. v.items) got.chain ∙ is.cache_is.chain;
-      there = λ waits held. by_found r.found refl is waits held;
-      parked = λ unlisted free. by_digest (subst (λ (f : Assessment). IsNew e a k f before r.receipt) unlisted is) free;
-      late = λ row d holding none. books_held e a k row d before r.receipt (subst (λ (f : Assessment). IsNew e a k f before r.receipt) holding is) none;
+      there = books_there noted;
+      parked = λ unlisted free. books_parked noted unlisted free.0;
+      late = books_held noted;
     }
-  where
-    by_digest : IsNew e a k Unlisted before r.receipt → IsParking k.parked (sha256 a.body) Free → AreBooks sha256 reading (e ++ arrived a ∷ []) (with_parked (with_receipt k r.receipt) (sha256 a.body) (Some a.body))
-    by_digest is free =
-        let digest : r.receipt.digest ≡ sha256 a.body = ap (λ (x : ReceiptValue). x.digest) is.receipt_is in
-        subst (λ (d : List ℕ). AreBooks sha256 reading (e ++ arrived a ∷ []) (with_parked (with_receipt k r.receipt) d (Some a.body))) digest
-        (books_parked e a k before r.receipt is Free free free_place)
-
-    by_found : (f : Assessment) → r.found ≡ f → IsNew e a k f before r.receipt → (f ≡ Unlisted → IsSome (k.parked (sha256 a.body)))
-        → ((q : ℕ) → held_row f ≡ Some q → IsSome (k.bodies q)) → AreBooks sha256 reading (e ++ arrived a ∷ []) (with_receipt k r.receipt)
-    by_found Unlisted same is waits held = books_parked e a k before r.receipt is Needless (waits refl) needless_place
-    by_found (Unreadable q n) same is waits held = books_noted e a k (Unreadable q n) before r.receipt is (λ no. let never : ⊥ = cc in never) held
-    by_found (Differing q) same is waits held = books_noted e a k (Differing q) before r.receipt is (λ no. let never : ⊥ = cc in never) held
-    by_found (Holding q d) same is waits held = books_noted e a k (Holding q d) before r.receipt is (holding_listed q d) held
 
 pub arriving_again : {e : List EventValue} {a : ArrivalValue} {k : StoreState} {found : Assessment} {cache : Cache} {reply : ReplyValue} → IsAgain e a k found reply → IsCacheOf k cache
     → IsArriving e a k found cache None
-arriving_again {e = e} {a = a} {k = k} {found = found} {reply = reply} is knows = record {
-  stood = is.stood;
-  found_is = is.found_is;
-  held = knows.held;
-  told = knows.told;
-  chain = knows.chain;
-  there = λ waits held. books_cached_again e a k found reply is held waits;
-  parked = λ unlisted free. books_parked_again e a k reply (subst (λ (f : Assessment). IsAgain e a k f reply) unlisted is) Free free free_place;
-  late = λ row d holding none. books_held_again e a k row d reply (subst (λ (f : Assessment). IsAgain e a k f reply) holding is) none;
-}
+arriving_again is knows =
+    let noted = noted_again is in
+    record {
+      stood = is.stood;
+      found_is = is.found_is;
+      held = knows.held;
+      told = knows.told;
+      chain = knows.chain;
+      there = books_there noted;
+      parked = λ unlisted free. books_parked noted unlisted free.0;
+      late = books_held noted;
+    }
 
 -- one whose body isn't missing adds nothing
 pub nothing_again : {e : List EventValue} {a : ArrivalValue} {k : StoreState} (found : Assessment) {reply : ReplyValue} → IsAgain e a k found reply

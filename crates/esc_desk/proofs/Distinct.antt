@@ -10,8 +10,9 @@ use Rattle.esc_tables.specs.DepositValue.{DepositValue}
 use Rattle.esc_events.specs.declared.assessment.Assessment.{Assessment}
 use Rattle.esc_events.specs.declared.assessment.Assessment.TheVariants.{Unlisted, Unreadable, Differing, Holding}
 use Rattle.esc_events.specs.Events.{Coming}
+use Rattle.esc_events.specs.Assessment.{held_row}
 use Rattle.esc_store.specs.ReplyValue.{ReceiptValue, is_alike}
-use Rattle.esc_events.specs.Receipts.{receipt_by, found_then, alike, distinct, receipt_for, receipts_after}
+use Rattle.esc_events.specs.Receipts.{receipt_by, holds_any, found_then, alike, distinct, receipt_for, receipts_after}
 
 module _ (digest : List ℕ → List ℕ) (reads : List ℕ → Result DepositValue ℕ) where
   pub alike_laws : IsEquivalence (alike digest reads)
@@ -81,25 +82,17 @@ module _ (digest : List ℕ → List ℕ) (reads : List ℕ → Result DepositVa
       (receipts-push (before ++ b ∷ []) ds a
       ∙ ap (λ (x : List Coming). receipts_after digest reads (before ++ b ∷ []) ds ++ receipt_for digest reads x a ∷ []) (append_assoc before (b ∷ []) ds))
 
-  number_kept : (n k : List ℕ) (early : Bool) (f : Assessment) (again : Bool) → (receipt_by n k early f again).number ≡ n
-  number_kept n k early Unlisted again = refl
-  number_kept n k early (Unreadable r u) again = refl
-  number_kept n k early (Differing r) again = refl
-  number_kept n k early (Holding r d) again = refl
-
-  digest_kept : (n k : List ℕ) (early : Bool) (f : Assessment) (again : Bool) → (receipt_by n k early f again).digest ≡ k
-  digest_kept n k early Unlisted again = refl
-  digest_kept n k early (Unreadable r u) again = refl
-  digest_kept n k early (Differing r) again = refl
-  digest_kept n k early (Holding r d) again = refl
+  both_kept : (n k : List ℕ) (early : Bool) (f : Assessment) (again : Bool) → ((receipt_by n k early f again).number ≡ n) × ((receipt_by n k early f again).digest ≡ k)
+  both_kept n k early Unlisted again = (refl, refl)
+  both_kept n k early (Unreadable r u) again = (refl, refl)
+  both_kept n k early (Differing r) again = (refl, refl)
+  both_kept n k early (Holding r d) again = (refl, refl)
 
   -- a receipt is of an arrival exactly if that is like the receipt's one
   pub kept_one : (before : List Coming) (b a : Coming) → is_alike a.number (digest a.body) (receipt_for digest reads before b) ≡ alike digest reads a b
   kept_one before b a =
-      ap₂ (λ (n k : List ℕ). bytes_eq n a.number && bytes_eq k (digest a.body))
-      (number_kept b.number (digest b.body) b.early (found_then digest reads b) _)
-      (digest_kept b.number (digest b.body) b.early (found_then digest reads b) _)
-      ∙ alike_laws.symm b a
+      let kept = both_kept b.number (digest b.body) b.early (found_then digest reads b) (holds_any digest reads before (held_row (found_then digest reads b))) in
+      ap₂ (λ (n k : List ℕ). bytes_eq n a.number && bytes_eq k (digest a.body)) kept.0 kept.1 ∙ alike_laws.symm b a
 
   pub kept_any : (before ds : List Coming) (a : Coming) → list_any (is_alike a.number (digest a.body)) (receipts_after digest reads before ds) ≡ list_any (alike digest reads a) ds
   kept_any before [] a = refl

@@ -2,6 +2,7 @@
 use Rattle.std.proofs.Common.{◌≡◌, inl, inr, ℕ, ℤ, Bool, true, false, ◌&&◌, List, [], ◌∷◌, map, Option, Some, None, is_some, is_none, cond, refl, sym, ap, ap₂, subst, ◌∙◌, true≢false}
 use Rattle.std.specs.List.{find, list_any, Any}
 use Rattle.std.specs.Str.{bytes_eq}
+use Rattle.std.specs.Cmp.{both_ways}
 use Rattle.std.specs.Cmp.Lexicographic.{bytes_decides}
 use Rattle.std.proofs.lemmas.Bool.{and_parts}
 use Rattle.std.proofs.lemmas.Option.{same_Some, none-some}
@@ -24,7 +25,8 @@ use Rattle.esc_desk.proofs.Distinct.{alike_laws, any_alike}
 use Rattle.esc_desk.proofs.EventLemmas.{none_is_listed}
 use Rattle.esc_desk.proofs.HeldReceipts.{any_holds, any_says}
 use Rattle.esc_desk.proofs.Lost.{counted_came, counted_kept, came_counts}
-use Rattle.esc_desk.proofs.Members.{any_of, one_of, first_of, distinct_among, some_any, any_some}
+use Rattle.esc_desk.proofs.Members.{any_of, one_of, first_of, distinct_among, any_found}
+use Rattle.esc_desk.proofs.SameHeld.{same_found}
 
 -- ---- the events
 
@@ -128,25 +130,23 @@ module _ (m : List MRow) (l : List ArrivalValue) where
         (holds_is r x.0 (first_came x.0 x.1) ∙ ap (λ (b : List ℕ). holds_row r (found_at (union before) (row_with_digest (union before) (sha256 b)) (reading b))) (sym body) ∙ is)
 
     held_is : arrived_body (find (holds sha256 reading r) first) ≡ held_body sha256 reading before r
-    held_is = by_both (find (holds sha256 reading r) first) refl (find (holding r) counts) refl
+    held_is = same_found (find (holds sha256 reading r) first) (find (holding r) counts) (sym (any_found (holds sha256 reading r) first) ∙ both_ways _ _ there back ∙ any_found (holding r) counts) bodies
       where
-        by_both : (o : Option Coming) → find (holds sha256 reading r) first ≡ o → (p : Option Coming) → find (holding r) counts ≡ p
-            → arrived_body (find (holds sha256 reading r) first) ≡ arrived_body (find (holding r) counts)
-        by_both None none None miss = ap arrived_body (none ∙ sym miss)
-        by_both (Some c) is (Some b) at =
+        there : list_any (holds sha256 reading r) first ≡ true → list_any (holding r) counts ≡ true
+        there any =
+            let x = one_of (holds sha256 reading r) first any in
+            let z = holder_counts r x.0 x.1 x.2 in
+            any_of (holding r) counts x.0 z.0 z.1
+
+        back : list_any (holding r) counts ≡ true → list_any (holds sha256 reading r) first ≡ true
+        back any = let y = one_of (holding r) counts any in first_holds y.0 y.1 y.2
+
+        bodies : (c b : Coming) → find (holds sha256 reading r) first ≡ Some c → find (holding r) counts ≡ Some b → c.body ≡ b.body
+        bodies c b is at =
             let x = first_of (holds sha256 reading r) first c is in
             let y = first_of (holding r) counts b at in
             let z = holder_counts r c x.0 x.1 in
-            ap arrived_body is ∙ ap (λ (body : List ℕ). Some body) (one_body c b z.0 y.0 z.1 y.1) ∙ sym (ap arrived_body at)
-        by_both (Some c) is None miss =
-            let x = first_of (holds sha256 reading r) first c is in
-            let z = holder_counts r c x.0 x.1 in
-            let some = any_some (holding r) counts (any_of (holding r) counts c z.0 z.1) in
-            absurd (true≢false (sym some ∙ ap (λ (o : Option Coming). is_some (arrived_body o)) miss))
-        by_both None none (Some b) at =
-            let y = first_of (holding r) counts b at in
-            let some = any_some (holds sha256 reading r) first (first_holds b y.0 y.1) in
-            absurd (true≢false (sym some ∙ ap (λ (o : Option Coming). is_some (arrived_body o)) none))
+            one_body c b z.0 y.0 z.1 y.1
 
   -- no body that counts is one that no row lists
   none_parked : (d : List ℕ) → None ≡ parked_body sha256 reading before d
@@ -173,9 +173,9 @@ stands_early m l k stood = record {
     waits = λ d body at. absurd (none-some _ (sym (stood.parked d) ∙ at));
     told = λ r any.
         ap is_some (stood.bodies r)
-        ∙ any_some (holds sha256 reading r) (first m l) (any_holds sha256 reading r [] (first m l) (subst (Any (SaysHeld r)) stood.receipts any));
+        ∙ sym (any_found (holds sha256 reading r) (first m l)) ∙ any_holds sha256 reading r [] (first m l) (subst (Any (SaysHeld r)) stood.receipts any);
     held_told = λ r some. any_weaker (SaysHeld r) (TellsOf (union (events_before m l)) r) (λ receipt says. inl says) k.receipts
-        (subst (Any (SaysHeld r)) (sym stood.receipts) (any_says sha256 reading r [] (first m l) (some_any (holds sha256 reading r) (first m l) (sym (ap is_some (stood.bodies r)) ∙ some))));
+        (subst (Any (SaysHeld r)) (sym stood.receipts) (any_says sha256 reading r [] (first m l) (any_found (holds sha256 reading r) (first m l) ∙ sym (ap is_some (stood.bodies r)) ∙ some)));
     parked_told = λ d some. absurd (true≢false (sym some ∙ ap is_some (stood.parked d)));
   };
   held = stood.held;

@@ -1,38 +1,12 @@
 -- Entries by key, each key once: what look-ups say of them.
-use Rattle.std.proofs.Common.{
-  ◌≡◌,
-  ◌⊎◌,
-  inl,
-  inr,
-  Bool,
-  true,
-  false,
-  cond,
-  List,
-  [],
-  ◌∷◌,
-  ◌++◌,
-  filter,
-  Option,
-  Some,
-  None,
-  refl,
-  sym,
-  ap,
-  ap₂,
-  subst,
-  ◌∙◌,
-  Ordering,
-  Less,
-  Equal,
-  Greater,
-}
+use Rattle.std.proofs.Common.{◌≡◌, ◌⊎◌, inl, inr, Bool, true, false, cond, List, [], ◌∷◌, ◌++◌, filter, Option, Some, None, refl, sym, ap, ap₂, subst, ◌∙◌, Ordering, Less, Equal, Greater}
 use Rattle.std.specs.List.{AllByRecursion}
 use Rattle.std.specs.List.Sorted.{IsStrictlySortedBy}
 use Rattle.std.specs.Map.{lookup, keys_of}
 use Rattle.std.specs.Option.{option_or, is_some}
 use Rattle.std.specs.Ordering.{ordering_reverse}
 use Rattle.std.proofs.lemmas.Bool.{cases_Bool}
+use Rattle.std.proofs.lemmas.List.Elements.{All-from_recursion, recursion_from_All, All-filter, filter_passes}
 use Rattle.esc_tables.specs.KeyName.{KeyName, key_cmp, key_eq}
 use Rattle.esc_tables.specs.ObjectValue.{ObjectValue}
 use Rattle.esc_apply.specs.ObjectStreams.{Entry, InOrder}
@@ -80,12 +54,9 @@ rises [] up = tt
 rises (e ∷ es) up = (unmapped (λ k. key_cmp e.0 k ≡ Less) es up.0, rises es up.1)
 
 above-filter : (k : KeyName) (p : Entry → Bool) (es : List Entry) → AreAbove k es → AreAbove k (filter p es)
-above-filter k p [] above = tt
-above-filter k p (e ∷ es) above =
-    elim (p e) as (λ b. AreAbove k (cond b (e ∷ filter p es) (filter p es))) [
-      | true ↦ (above.0, above-filter k p es above.1)
-      | false ↦ above-filter k p es above.1
-    ]
+above-filter k p es above =
+    recursion_from_All (λ (f : Entry). key_cmp k f.0 ≡ Less) (filter p es)
+    (All-filter p (λ (f : Entry). key_cmp k f.0 ≡ Less) es (All-from_recursion (λ (f : Entry). key_cmp k f.0 ≡ Less) es above))
 
 pub rises-filter : (p : Entry → Bool) (es : List Entry) → Rises es → Rises (filter p es)
 rises-filter p [] up = tt
@@ -96,8 +67,7 @@ rises-filter p (e ∷ es) up =
     ]
 
 pub all_passed : (p : Entry → Bool) (es : List Entry) → Pass p (filter p es)
-all_passed p [] = tt
-all_passed p (e ∷ es) = elim (cases_Bool (p e)) [ inl is ↦ rw is (is, all_passed p es) | inr other ↦ rw other (all_passed p es) ]
+all_passed p es = recursion_from_All (λ (e : Entry). p e ≡ true) (filter p es) (filter_passes p es)
 
 above-append : (k : KeyName) (xs ys : List Entry) → AreAbove k xs → AreAbove k ys → AreAbove k (xs ++ ys)
 above-append k [] ys above then = then

@@ -1,5 +1,5 @@
--- One more event, in what is listed, in the arrivals as they came, and in the moment that is set.
-use Rattle.std.proofs.Common.{◌≡◌, ℤ, not, List, [], ◌∷◌, ◌++◌, map, Option, None, refl, ap, ◌∙◌}
+-- More events, in what is listed, in the arrivals as they came, and in the moment that is set.
+use Rattle.std.proofs.Common.{◌≡◌, ℤ, not, List, [], ◌∷◌, ◌++◌, map, Option, None, refl, ap, ◌∙◌, append-nil}
 use Rattle.std.specs.Prelude.{filter}
 use Rattle.esc_manifest.specs.declared.row.MRow.{MRow}
 use Rattle.esc_manifest.specs.Extension.{is_listed, extended}
@@ -7,101 +7,57 @@ use Rattle.esc_events.specs.ArrivalValue.{ArrivalValue}
 use Rattle.esc_events.specs.Events.{EventValue, Coming, union_after, union, coming, early_coming, comings_after, comings, arrival_of, arrivals, moment_after, last_moment, manifest_then}
 use Rattle.esc_events.specs.Events.EventValue.{listed, arrived, moved, arrived_early}
 
--- ---- one more arrival
+-- ---- events, and then others
 
-arrived_lists_none : (m : List MRow) (e : List EventValue) (a : ArrivalValue) → union_after m (e ++ arrived a ∷ []) ≡ union_after m e
-arrived_lists_none m [] a = refl
-arrived_lists_none m (listed more ∷ e) a = arrived_lists_none (extended m more) e a
-arrived_lists_none m (arrived b ∷ e) a = arrived_lists_none m e a
-arrived_lists_none m (moved t ∷ e) a = arrived_lists_none m e a
-arrived_lists_none m (arrived_early b ∷ e) a = arrived_lists_none m e a
+pub union_on : (m : List MRow) (e f : List EventValue) → union_after m (e ++ f) ≡ union_after (union_after m e) f
+union_on m [] f = refl
+union_on m (listed more ∷ e) f = union_on (extended m more) e f
+union_on m (arrived b ∷ e) f = union_on m e f
+union_on m (moved t ∷ e) f = union_on m e f
+union_on m (arrived_early b ∷ e) f = union_on m e f
 
-arrived_last : (m : List MRow) (e : List EventValue) (a : ArrivalValue) → comings_after m (e ++ arrived a ∷ []) ≡ comings_after m e ++ coming (union_after m e) a ∷ []
-arrived_last m [] a = refl
-arrived_last m (listed more ∷ e) a = arrived_last (extended m more) e a
-arrived_last m (arrived b ∷ e) a = ap (λ (l : List Coming). coming m b ∷ l) (arrived_last m e a)
-arrived_last m (moved t ∷ e) a = arrived_last m e a
-arrived_last m (arrived_early b ∷ e) a = ap (λ (l : List Coming). early_coming m b ∷ l) (arrived_last m e a)
+pub comings_on : (m : List MRow) (e f : List EventValue) → comings_after m (e ++ f) ≡ comings_after m e ++ comings_after (union_after m e) f
+comings_on m [] f = refl
+comings_on m (listed more ∷ e) f = comings_on (extended m more) e f
+comings_on m (arrived b ∷ e) f = ap (λ (l : List Coming). coming m b ∷ l) (comings_on m e f)
+comings_on m (moved t ∷ e) f = comings_on m e f
+comings_on m (arrived_early b ∷ e) f = ap (λ (l : List Coming). early_coming m b ∷ l) (comings_on m e f)
+
+pub moment_on : (t : Option ℤ) (e f : List EventValue) → moment_after t (e ++ f) ≡ moment_after (moment_after t e) f
+moment_on t [] f = refl
+moment_on t (listed more ∷ e) f = moment_on t e f
+moment_on t (arrived b ∷ e) f = moment_on t e f
+moment_on t (moved u ∷ e) f = moment_on u e f
+moment_on t (arrived_early b ∷ e) f = moment_on t e f
+
+-- ---- one event more
 
 pub union-arrived : (e : List EventValue) (a : ArrivalValue) → union (e ++ arrived a ∷ []) ≡ union e
-union-arrived e a = arrived_lists_none [] e a
+union-arrived e a = union_on [] e (arrived a ∷ [])
 
 pub comings-arrived : (e : List EventValue) (a : ArrivalValue) → comings (e ++ arrived a ∷ []) ≡ comings e ++ coming (union e) a ∷ []
-comings-arrived e a = arrived_last [] e a
-
-arrived_sets_none : (t : Option ℤ) (e : List EventValue) (a : ArrivalValue) → moment_after t (e ++ arrived a ∷ []) ≡ moment_after t e
-arrived_sets_none t [] a = refl
-arrived_sets_none t (listed more ∷ e) a = arrived_sets_none t e a
-arrived_sets_none t (arrived b ∷ e) a = arrived_sets_none t e a
-arrived_sets_none t (moved u ∷ e) a = arrived_sets_none u e a
-arrived_sets_none t (arrived_early b ∷ e) a = arrived_sets_none t e a
+comings-arrived e a = comings_on [] e (arrived a ∷ [])
 
 pub moment-arrived : (e : List EventValue) (a : ArrivalValue) → last_moment (e ++ arrived a ∷ []) ≡ last_moment e
-moment-arrived e a = arrived_sets_none None e a
-
--- ---- more rows
-
-listed_last : (m : List MRow) (e : List EventValue) (more : List MRow) → union_after m (e ++ listed more ∷ []) ≡ extended (union_after m e) more
-listed_last m [] more = refl
-listed_last m (listed n ∷ e) more = listed_last (extended m n) e more
-listed_last m (arrived b ∷ e) more = listed_last m e more
-listed_last m (moved t ∷ e) more = listed_last m e more
-listed_last m (arrived_early b ∷ e) more = listed_last m e more
-
-listed_brings_none : (m : List MRow) (e : List EventValue) (more : List MRow) → comings_after m (e ++ listed more ∷ []) ≡ comings_after m e
-listed_brings_none m [] more = refl
-listed_brings_none m (listed n ∷ e) more = listed_brings_none (extended m n) e more
-listed_brings_none m (arrived b ∷ e) more = ap (λ (l : List Coming). coming m b ∷ l) (listed_brings_none m e more)
-listed_brings_none m (moved t ∷ e) more = listed_brings_none m e more
-listed_brings_none m (arrived_early b ∷ e) more = ap (λ (l : List Coming). early_coming m b ∷ l) (listed_brings_none m e more)
+moment-arrived e a = moment_on None e (arrived a ∷ [])
 
 pub union-listed : (e : List EventValue) (more : List MRow) → union (e ++ listed more ∷ []) ≡ extended (union e) more
-union-listed e more = listed_last [] e more
+union-listed e more = union_on [] e (listed more ∷ [])
 
 pub comings-listed : (e : List EventValue) (more : List MRow) → comings (e ++ listed more ∷ []) ≡ comings e
-comings-listed e more = listed_brings_none [] e more
-
-listed_sets_none : (t : Option ℤ) (e : List EventValue) (more : List MRow) → moment_after t (e ++ listed more ∷ []) ≡ moment_after t e
-listed_sets_none t [] more = refl
-listed_sets_none t (listed n ∷ e) more = listed_sets_none t e more
-listed_sets_none t (arrived b ∷ e) more = listed_sets_none t e more
-listed_sets_none t (moved u ∷ e) more = listed_sets_none u e more
-listed_sets_none t (arrived_early b ∷ e) more = listed_sets_none t e more
+comings-listed e more = comings_on [] e (listed more ∷ []) ∙ append-nil (comings e)
 
 pub moment-listed : (e : List EventValue) (more : List MRow) → last_moment (e ++ listed more ∷ []) ≡ last_moment e
-moment-listed e more = listed_sets_none None e more
-
--- ---- another moment
-
-moved_lists_none : (m : List MRow) (e : List EventValue) (t : Option ℤ) → union_after m (e ++ moved t ∷ []) ≡ union_after m e
-moved_lists_none m [] t = refl
-moved_lists_none m (listed more ∷ e) t = moved_lists_none (extended m more) e t
-moved_lists_none m (arrived b ∷ e) t = moved_lists_none m e t
-moved_lists_none m (moved u ∷ e) t = moved_lists_none m e t
-moved_lists_none m (arrived_early b ∷ e) t = moved_lists_none m e t
-
-moved_brings_none : (m : List MRow) (e : List EventValue) (t : Option ℤ) → comings_after m (e ++ moved t ∷ []) ≡ comings_after m e
-moved_brings_none m [] t = refl
-moved_brings_none m (listed more ∷ e) t = moved_brings_none (extended m more) e t
-moved_brings_none m (arrived b ∷ e) t = ap (λ (l : List Coming). coming m b ∷ l) (moved_brings_none m e t)
-moved_brings_none m (moved u ∷ e) t = moved_brings_none m e t
-moved_brings_none m (arrived_early b ∷ e) t = ap (λ (l : List Coming). early_coming m b ∷ l) (moved_brings_none m e t)
-
-moved_last : (s : Option ℤ) (e : List EventValue) (t : Option ℤ) → moment_after s (e ++ moved t ∷ []) ≡ t
-moved_last s [] t = refl
-moved_last s (listed more ∷ e) t = moved_last s e t
-moved_last s (arrived b ∷ e) t = moved_last s e t
-moved_last s (moved u ∷ e) t = moved_last u e t
-moved_last s (arrived_early b ∷ e) t = moved_last s e t
+moment-listed e more = moment_on None e (listed more ∷ [])
 
 pub union-moved : (e : List EventValue) (t : Option ℤ) → union (e ++ moved t ∷ []) ≡ union e
-union-moved e t = moved_lists_none [] e t
+union-moved e t = union_on [] e (moved t ∷ [])
 
 pub comings-moved : (e : List EventValue) (t : Option ℤ) → comings (e ++ moved t ∷ []) ≡ comings e
-comings-moved e t = moved_brings_none [] e t
+comings-moved e t = comings_on [] e (moved t ∷ []) ∙ append-nil (comings e)
 
 pub moment-moved : (e : List EventValue) (t : Option ℤ) → last_moment (e ++ moved t ∷ []) ≡ t
-moment-moved e t = moved_last None e t
+moment-moved e t = moment_on None e (moved t ∷ [])
 
 -- ---- a manifest, and then arrivals
 

@@ -1,12 +1,11 @@
 -- The common front of two chains of one manifest is their common beginning of rows.
-use Rattle.std.proofs.Common.{◌≡◌, ℕ, suc, ◌+◌, ◌<◌, Bool, true, false, cond, ◌&&◌, ◌==◌, List, [], ◌∷◌, length, map, take, refl, sym, ap₂, subst, arith, true≢false}
-use Rattle.std.specs.List.{prefix_len, zip}
+use Rattle.std.proofs.Common.{◌≡◌, ℕ, suc, ◌+◌, ◌<◌, Bool, true, false, cond, ◌&&◌, ◌==◌, List, [], ◌∷◌, length, map, take, refl, ap₂, subst, arith}
+use Rattle.std.specs.List.{AllByRecursion, prefix_len, zip}
 use Rattle.std.specs.Ordering.{int_eq}
 use Rattle.std.proofs.lemmas.Bool.Decides.{nat_tests, Decides-int_eq}
-use Rattle.std.proofs.lemmas.Bool.{and_parts}
-use Rattle.esc_envelope.specs.declared.place.DepositType.{DepositType}
-use Rattle.esc_envelope.specs.declared.place.DepositType.TheVariants.{Diff, Incr, Full}
+use Rattle.std.proofs.lemmas.Bool.{and_parts, eqb-true}
 use Rattle.esc_envelope.specs.Place.{rank}
+use Rattle.esc_envelope.specs.PlaceLaws.{one_type}
 use Rattle.esc_manifest.specs.declared.row.MRow.{MRow}
 use Rattle.esc_manifest.specs.ManifestRows.{place_at, resend_at}
 use Rattle.esc_manifest.specs.Accepted.{IsAccepted}
@@ -14,21 +13,9 @@ use Rattle.esc_apply.specs.declared.front.Step.{Step}
 use Rattle.esc_apply.specs.Front.{same_step, common_front}
 use Rattle.esc_store.specs.StoreState.{step_at}
 
-same_kind : (a b : DepositType) → (rank a == rank b) ≡ true → a ≡ b
-same_kind Diff Diff e = refl
-same_kind Diff Incr e = absurd (true≢false (sym e))
-same_kind Diff Full e = absurd (true≢false (sym e))
-same_kind Incr Diff e = absurd (true≢false (sym e))
-same_kind Incr Incr e = refl
-same_kind Incr Full e = absurd (true≢false (sym e))
-same_kind Full Diff e = absurd (true≢false (sym e))
-same_kind Full Incr e = absurd (true≢false (sym e))
-same_kind Full Full e = refl
-
 -- these rows are the manifest's
 abbrev pub AreOf : List MRow → List ℕ → Type 0
-AreOf m [] = Unit {0}
-AreOf m (r ∷ rows) = (r < length m) × AreOf m rows
+AreOf m rows = AllByRecursion (λ r. r < length m) rows
 
 -- the lists begin with the same rows, as many as the first k of these pairs are
 abbrev BeginAlike : ℕ → List (Step × Step) → List ℕ → List ℕ → Type 0
@@ -50,7 +37,7 @@ module _ (m : List MRow) (accepted : IsAccepted m) where
       let ends = and_parts (watermarks && kinds) resends same in
       let marks = and_parts watermarks kinds ends.0 in
       let watermark : (place_at m q).watermark ≡ (place_at m r).watermark = (Decides-int_eq (place_at m q).watermark (place_at m r).watermark).0 marks.0 in
-      let kind : (place_at m q).kind ≡ (place_at m r).kind = same_kind (place_at m q).kind (place_at m r).kind marks.1 in
+      let kind : (place_at m q).kind ≡ (place_at m r).kind = one_type (place_at m q).kind (place_at m r).kind (eqb-true _ _ marks.1) in
       let resend : resend_at m q ≡ resend_at m r = grind (arith, nat_tests, ends.1) in
       accepted.one_revision q r q_in r_in (λ i. record { watermark = watermark i; kind = kind i }) resend
 

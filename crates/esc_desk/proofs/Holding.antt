@@ -1,15 +1,14 @@
 -- What a store stands for once an arrival like none before it was noted, and the move where its deposit is held.
 use Rattle.std.proofs.Common.{◌≡◌, ◌⊎◌, inl, inr, ℕ, ℤ, Bool, true, false, cond, ◌==◌, List, [], ◌∷◌, ◌++◌, Option, Some, None, refl, sym, ap, subst, ◌∙◌, append-nil}
-use Rattle.std.proofs.lemmas.Option.{none-some}
+use Rattle.std.proofs.lemmas.Option.{none-some, same_Some}
 use Rattle.std.proofs.lemmas.Bool.{eqb-true}
 use Rattle.sha2.specs.Sha256.{sha256}
-use Rattle.esc_tables.specs.DepositValue.{DepositValue}
 use Rattle.esc_tables.specs.Reading.{reading}
 use Rattle.esc_manifest.specs.declared.row.MRow.{MRow}
 use Rattle.esc_store.specs.StoreState.{StoreState, AreHeld, AreHeldBy, body_put, kept_chain, with_body}
 use Rattle.esc_store.specs.ReplyValue.{ReceiptValue}
 use Rattle.esc_events.specs.declared.assessment.Assessment.{Assessment}
-use Rattle.esc_events.specs.declared.assessment.Assessment.TheVariants.{Unlisted, Unreadable, Differing, Holding}
+use Rattle.esc_events.specs.declared.assessment.Assessment.TheVariants.{Unlisted, Unreadable, Differing}
 use Rattle.esc_events.specs.declared.cache.Cache.{Cache}
 use Rattle.esc_events.specs.declared.plan.Plan.{Plan}
 use Rattle.esc_events.specs.ArrivalValue.{ArrivalValue}
@@ -21,7 +20,7 @@ use Rattle.esc_events.specs.Plans.{AreLatestSteps}
 use Rattle.esc_events.specs.StateAfter.{AreBooks, IsStateAfter}
 use Rattle.esc_events.specs.Taking.{IsNew}
 use Rattle.esc_store.specs.Holding.{IsInserted}
-use Rattle.esc_desk.proofs.KnownRows.{told_more, told_same, says_row, says_only, says_none}
+use Rattle.esc_desk.proofs.KnownRows.{told_more, told_same, says_row, row_said}
 use Rattle.esc_desk.proofs.Moving.{IsMove}
 
 -- ---- a receipt
@@ -43,17 +42,18 @@ pub told_still : (e : List EventValue) (a : ArrivalValue) (k : StoreState) (foun
     → IsNew e a k found cache receipt → held_row found ≡ None → AreHeldBy (k.receipts ++ receipt ∷ []) cache.rows_with_receipt.items
 told_still e a k found cache receipt is none =
     subst (λ (r : ReceiptValue). AreHeldBy (k.receipts ++ r ∷ []) cache.rows_with_receipt.items) (sym is.receipt_is)
-    (told_same _ is.cache_is.told (says_none a.number (sha256 a.body) found _ none))
+    (told_same _ is.cache_is.told (λ r says. none-some _ (sym none ∙ row_said a.number (sha256 a.body) found _ r says)))
 
 -- where it says so of a row, that row is one of them
-pub told_held : (e : List EventValue) (a : ArrivalValue) (k : StoreState) (row : ℕ) (d : DepositValue) (cache : Cache) (receipt : ReceiptValue)
-    → IsNew e a k (Holding row d) cache receipt → (more : List ℕ) → IsInserted cache.rows_with_receipt.items row more
+pub told_held : (e : List EventValue) (a : ArrivalValue) (k : StoreState) (found : Assessment) (cache : Cache) (receipt : ReceiptValue)
+    → IsNew e a k found cache receipt → (row : ℕ) → held_row found ≡ Some row → (more : List ℕ) → IsInserted cache.rows_with_receipt.items row more
     → AreHeldBy (k.receipts ++ receipt ∷ []) more
-told_held e a k row d cache receipt is more inserted =
-    let again = is_among cache.rows_with_receipt.items (Some row) in
+told_held e a k found cache receipt is row held more inserted =
+    let again = is_among cache.rows_with_receipt.items (held_row found) in
     let digest = sha256 a.body in
     subst (λ (r : ReceiptValue). AreHeldBy (k.receipts ++ r ∷ []) more) (sym is.receipt_is)
-    (told_more _ is.cache_is.told inserted (says_row a.number digest row d again) (says_only a.number digest row d again))
+    (told_more _ is.cache_is.told inserted (says_row a.number digest found again row held)
+    (λ r says. same_Some _ _ (sym (row_said a.number digest found again r says) ∙ held)))
 
 -- ---- a deposit is held
 

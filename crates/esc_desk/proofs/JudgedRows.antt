@@ -1,35 +1,5 @@
 -- What is judged of parked bodies, row by row.
-use Rattle.std.proofs.Common.{
-  ◌≡◌,
-  ℕ,
-  suc,
-  ◌+◌,
-  ◌-◌,
-  ◌<◌,
-  Bool,
-  true,
-  false,
-  cond,
-  not,
-  ◌&&◌,
-  filter,
-  List,
-  ◌∷◌,
-  ◌++◌,
-  length,
-  Option,
-  Some,
-  None,
-  is_some,
-  Ok,
-  refl,
-  sym,
-  ap,
-  ◌∙◌,
-  append_assoc,
-  append-nil,
-  arith,
-}
+use Rattle.std.proofs.Common.{◌≡◌, ℕ, suc, ◌+◌, ◌-◌, ◌<◌, Bool, true, false, cond, not, ◌&&◌, filter, List, [], ◌∷◌, ◌++◌, length, Option, Some, None, is_some, Ok, refl, sym, ap, ◌∙◌, append_assoc, append-nil, arith}
 use Rattle.std.proofs.lemmas.Bool.{and_right}
 use Rattle.esc_tables.specs.DepositValue.{DepositValue}
 use Rattle.esc_tables.specs.Reading.{reading}
@@ -43,7 +13,8 @@ use Rattle.esc_events.specs.Amended.{judged, parked_for, is_adopted, is_dropped,
 use Rattle.esc_events.specs.HeldLaws.{same_self}
 use Rattle.esc_desk.specs.declared.judging.Judgement.{Judgement}
 use Rattle.esc_desk.specs.declared.judging.Judgement.TheVariants.{Absent, Dropped, Adopted}
-use Rattle.esc_desk.specs.Judging.{IsJudgement, adopted_by, dropped_by, judgement_of}
+use Rattle.esc_desk.specs.declared.judging.Judged.{Judged}
+use Rattle.esc_desk.specs.Judging.{AreJudged, IsJudgement, adopted_by, dropped_by, judgement_of}
 
 module _ (rows : List MRow) (parked : List ℕ → Option (List ℕ)) where
   -- ---- one row
@@ -74,46 +45,25 @@ module _ (rows : List MRow) (parked : List ℕ → Option (List ℕ)) where
   abbrev dropped_of : List ℕ → List ℕ
   dropped_of l = filter (is_dropped rows parked) l
 
-  -- a row of those that are to come, by its judgement
+  -- a row of those that are to come, by whether it passes a test
+  here : (p : ℕ → Bool) (row : ℕ) (passes : Bool) → p row ≡ passes → (l : List ℕ) → filter p (row ∷ l) ≡ cond passes (row ∷ []) [] ++ filter p l
+  here p row true is l = ap (λ b. cond b (row ∷ filter p l) (filter p l)) is
+  here p row false is l = ap (λ b. cond b (row ∷ filter p l) (filter p l)) is
+
+  -- and by its judgement
   adopted_here : (row : ℕ) (told : Judgement) → IsJudgement rows parked row told → (l : List ℕ)
       → adopted_of (row ∷ l) ≡ adopted_by told row ++ adopted_of l
-  adopted_here row told is l = ap (λ b. cond b (row ∷ adopted_of l) (adopted_of l)) (test told is) ∙ split told
-    where
-      taken : Judgement → Bool
-      taken Absent = false
-      taken Dropped = false
-      taken Adopted = true
-
-      test : (told : Judgement) → IsJudgement rows parked row told → is_adopted rows parked row ≡ taken told
-      test Absent is = ap (λ (o : Option (List ℕ)). is_some (judged rows row o)) is
-      test Dropped is = is.1
-      test Adopted is = is
-
-      split : (told : Judgement) → cond (taken told) (row ∷ adopted_of l) (adopted_of l) ≡ adopted_by told row ++ adopted_of l
-      split Absent = refl
-      split Dropped = refl
-      split Adopted = refl
+  adopted_here row Absent is = here (is_adopted rows parked) row false (ap (λ (o : Option (List ℕ)). is_some (judged rows row o)) is)
+  adopted_here row Dropped is = here (is_adopted rows parked) row false is.1
+  adopted_here row Adopted is = here (is_adopted rows parked) row true is
 
   dropped_here : (row : ℕ) (told : Judgement) → IsJudgement rows parked row told → (l : List ℕ)
       → dropped_of (row ∷ l) ≡ dropped_by told row ++ dropped_of l
-  dropped_here row told is l = ap (λ b. cond b (row ∷ dropped_of l) (dropped_of l)) (test told is) ∙ split told
-    where
-      let_go : Judgement → Bool
-      let_go Absent = false
-      let_go Dropped = true
-      let_go Adopted = false
-
-      test : (told : Judgement) → IsJudgement rows parked row told → is_dropped rows parked row ≡ let_go told
-      test Absent is = ap (λ (o : Option (List ℕ)). is_some o && not (is_adopted rows parked row)) is
-      test Dropped is = ap (λ b. b && not (is_adopted rows parked row)) is.0 ∙ ap not is.1
-      test Adopted is =
-          let there = is_some (parked_for rows parked row) in
-          ap (λ b. there && not b) is ∙ and_right there false refl
-
-      split : (told : Judgement) → cond (let_go told) (row ∷ dropped_of l) (dropped_of l) ≡ dropped_by told row ++ dropped_of l
-      split Absent = refl
-      split Dropped = refl
-      split Adopted = refl
+  dropped_here row Absent is = here (is_dropped rows parked) row false (ap (λ (o : Option (List ℕ)). is_some o && not (is_adopted rows parked row)) is)
+  dropped_here row Dropped is = here (is_dropped rows parked) row true (ap (λ b. b && not (is_adopted rows parked row)) is.0 ∙ ap not is.1)
+  dropped_here row Adopted is =
+      let there = is_some (parked_for rows parked row) in
+      here (is_dropped rows parked) row false (ap (λ b. there && not b) is ∙ and_right there false refl)
 
   -- the numbers from a row to the last one begin with it
   more_numbers : (row : ℕ) → row < length rows → numbers_from row (length rows - row) ≡ row ∷ numbers_from (row + 1) (length rows - (row + 1))
@@ -137,14 +87,18 @@ module _ (rows : List MRow) (parked : List ℕ → Option (List ℕ)) where
       ∙ ap (λ (l : List ℕ). before ++ filter p l) (sym (more_numbers row within))
       ∙ cache
 
-  module _ (row : ℕ) (within : row < length rows) (told : Judgement) (is : IsJudgement rows parked row told) where
-    pub adopted_more : {whole after : List ℕ} (before : List ℕ) → after ≡ before ++ adopted_by told row
-        → before ++ adopted_rows rows parked row ≡ whole → after ++ adopted_rows rows parked (row + 1) ≡ whole
-    adopted_more = one_more (is_adopted rows parked) row (adopted_by told row) within (adopted_here row told is)
+  -- what was judged from one row to another, with what there is from that on, is all from the first on
+  abbrev pub AreJudgedTo : ℕ → ℕ → Judged → Type 0
+  AreJudgedTo from row told = (told.adopted.items ++ adopted_rows rows parked row ≡ adopted_rows rows parked from)
+      × (told.dropped.items ++ dropped_rows rows parked row ≡ dropped_rows rows parked from)
 
-    pub dropped_more : {whole after : List ℕ} (before : List ℕ) → after ≡ before ++ dropped_by told row
-        → before ++ dropped_rows rows parked row ≡ whole → after ++ dropped_rows rows parked (row + 1) ≡ whole
-    dropped_more = one_more (is_dropped rows parked) row (dropped_by told row) within (dropped_here row told is)
+  pub judged_more : (from row : ℕ) → row < length rows → (told : Judgement) → IsJudgement rows parked row told → (before after : Judged)
+      → after.adopted.items ≡ before.adopted.items ++ adopted_by told row → after.dropped.items ≡ before.dropped.items ++ dropped_by told row
+      → AreJudgedTo from row before → AreJudgedTo from (row + 1) after
+  judged_more from row within told is before after adopted dropped so_far = (
+    one_more (is_adopted rows parked) row (adopted_by told row) within (adopted_here row told is) before.adopted.items adopted so_far.0,
+    one_more (is_dropped rows parked) row (dropped_by told row) within (dropped_here row told is) before.dropped.items dropped so_far.1,
+  )
 
   -- from the last row on there are none
   no_more : (p : ℕ → Bool) (row : ℕ) (found : List ℕ) {whole : List ℕ} → row ≡ length rows
@@ -153,8 +107,8 @@ module _ (rows : List MRow) (parked : List ℕ → Option (List ℕ)) where
       let count : length rows - row ≡ 0 = omega (arith, all) in
       sym (append-nil found) ∙ sym (ap (λ (n : ℕ). found ++ filter p (numbers_from row n)) count) ∙ cache
 
-  pub adopted_all : (row : ℕ) (found : List ℕ) {whole : List ℕ} → row ≡ length rows → found ++ adopted_rows rows parked row ≡ whole → found ≡ whole
-  adopted_all = no_more (is_adopted rows parked)
-
-  pub dropped_all : (row : ℕ) (found : List ℕ) {whole : List ℕ} → row ≡ length rows → found ++ dropped_rows rows parked row ≡ whole → found ≡ whole
-  dropped_all = no_more (is_dropped rows parked)
+  pub judged_all : (from row : ℕ) (told : Judged) → row ≡ length rows → AreJudgedTo from row told → AreJudged rows parked from told
+  judged_all from row told all so_far = record {
+    adopted = no_more (is_adopted rows parked) row told.adopted.items all so_far.0;
+    dropped = no_more (is_dropped rows parked) row told.dropped.items all so_far.1;
+  }

@@ -1,46 +1,16 @@
 -- What is known of a store's rows with one more receipt, and with one more body.
-use Rattle.std.proofs.Common.{
-  ◌≡◌,
-  ◌⊎◌,
-  inl,
-  inr,
-  ℕ,
-  Bool,
-  true,
-  false,
-  cond,
-  ◌==◌,
-  List,
-  [],
-  ◌∷◌,
-  ◌++◌,
-  Option,
-  Some,
-  None,
-  IsSome,
-  is_some,
-  refl,
-  sym,
-  ap,
-  subst,
-  ◌∙◌,
-  nat_eq,
-  true≢false,
-}
+use Rattle.std.proofs.Common.{◌≡◌, ◌⊎◌, inl, inr, ℕ, Bool, true, false, cond, ◌==◌, List, [], ◌∷◌, ◌++◌, Option, Some, None, IsSome, is_some, refl, sym, ap, subst, ◌∙◌, nat_eq, true≢false}
 use Rattle.std.specs.List.{Any, Contains, list_any}
 use Rattle.std.specs.FinSet as set
 use Rattle.std.specs.Cmp.{nat_cmp_total, eq_by_cmp_equiv}
 use Rattle.std.proofs.lemmas.Map.Views.{list_any-from_Contains, Contains-from_any}
-use Rattle.std.proofs.lemmas.Option.{same_Some, none-some}
 use Rattle.std.proofs.lemmas.Bool.{eqb-true}
-use Rattle.esc_tables.specs.DepositValue.{DepositValue}
 use Rattle.esc_store.specs.StoreState.{SaysHeld, AreHeld, AreHeldBy, body_put}
 use Rattle.esc_store.specs.ReplyValue.{ReceiptValue}
 use Rattle.esc_store.specs.ListLaws.{any_front_or_last, any_front, any_last}
 use Rattle.esc_events.specs.declared.assessment.Assessment.{Assessment}
-use Rattle.esc_events.specs.declared.assessment.Assessment.TheVariants.{Holding}
 use Rattle.esc_events.specs.Assessment.{held_row}
-use Rattle.esc_events.specs.Receipts.{receipt_by}
+use Rattle.esc_events.specs.Receipts.{is_row, receipt_by}
 use Rattle.esc_events.specs.HeldLaws.{same_self, exact}
 use Rattle.esc_desk.proofs.HeldReceipts.{holds_from_says, says_from_holds}
 use Rattle.esc_desk.proofs.HeldRows.{is_row_of}
@@ -82,14 +52,12 @@ module _ (number digest : List ℕ) where
   abbrev receipt_of : Assessment → Bool → ReceiptValue
   receipt_of found again = receipt_by number digest false found again
 
-  pub says_row : (row : ℕ) (d : DepositValue) (again : Bool) → SaysHeld row (receipt_of (Holding row d) again)
-  says_row row d again = says_from_holds row number digest false (Holding row d) again (same_self row)
+  -- it says that a row is held just where that is the row of what was found
+  pub says_row : (f : Assessment) (again : Bool) (r : ℕ) → held_row f ≡ Some r → SaysHeld r (receipt_of f again)
+  says_row f again r held = says_from_holds r number digest false f again (ap (is_row r) held ∙ same_self r)
 
-  pub says_only : (row : ℕ) (d : DepositValue) (again : Bool) (r : ℕ) → SaysHeld r (receipt_of (Holding row d) again) → r ≡ row
-  says_only row d again r says = sym (same_Some _ _ (is_row_of r (Some row) (holds_from_says r number digest false (Holding row d) again says)))
-
-  pub says_none : (f : Assessment) (again : Bool) → held_row f ≡ None → (r : ℕ) → SaysHeld r (receipt_of f again) → ⊥
-  says_none f again none r says = none-some _ (sym none ∙ is_row_of r (held_row f) (holds_from_says r number digest false f again says))
+  pub row_said : (f : Assessment) (again : Bool) (r : ℕ) → SaysHeld r (receipt_of f again) → held_row f ≡ Some r
+  row_said f again r says = is_row_of r (held_row f) (holds_from_says r number digest false f again says)
 
 -- ---- the rows of which a body is held
 

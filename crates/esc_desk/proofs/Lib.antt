@@ -9,12 +9,12 @@ pub mod Arriving
 pub mod AtFirst
 pub mod CauseLemmas
 pub mod ComingAgain
+pub mod Counting
 pub mod CrashLemmas
 pub mod CrashSteps
 pub mod Deciding
 pub mod DecidingArrivals
 pub mod Distinct
-pub mod EarlyEvents
 pub mod EarlyStores
 pub mod EditSteps
 pub mod EntryLists

@@ -1,5 +1,5 @@
 -- The arrivals whose bodies count: all but early ones whose body no row listed.
-use Rattle.std.proofs.Common.{◌≡◌, inl, inr, ℕ, suc, Bool, true, false, cond, not, filter, List, [], ◌∷◌, ◌++◌, Option, Some, None, is_none, Result, refl, sym, ap, ◌∙◌, true≢false}
+use Rattle.std.proofs.Common.{◌≡◌, inl, inr, ℕ, suc, Bool, true, false, cond, not, filter, List, [], ◌∷◌, ◌++◌, Option, Some, None, is_none, Result, refl, sym, ap, subst, ◌∙◌, true≢false}
 use Rattle.std.proofs.lemmas.List.Elements.{filter-append}
 use Rattle.std.proofs.lemmas.Bool.{and_parts, not-true, not_from_false}
 use Rattle.std.proofs.lemmas.Option.{same_Some, none-some}
@@ -9,15 +9,14 @@ use Rattle.esc_store.specs.declared.reply.Verdict.TheVariants.{A2}
 use Rattle.esc_store.specs.ReplyValue.{ReplyValue, reply_kept, is_alike, reply_alike}
 use Rattle.esc_events.specs.declared.assessment.Assessment.{Assessment}
 use Rattle.esc_events.specs.ArrivalValue.{ArrivalValue}
-use Rattle.esc_events.specs.Events.{EventValue, Coming, union, coming, comings}
+use Rattle.esc_events.specs.Events.{EventValue, Coming, union, coming, comings_after, comings}
 use Rattle.esc_events.specs.Events.EventValue.{arrived}
 use Rattle.esc_events.specs.Assessment.{found_at, row_with_digest, held_row}
 use Rattle.esc_events.specs.Receipts.{receipt_by, holds_any, alike, receipt_for, receipts_after, unlisted_verdict}
 use Rattle.esc_events.specs.StateAfter.{Among, is_lost, kept_arrivals}
 use Rattle.esc_desk.proofs.Distinct.{kept_one}
-use Rattle.esc_desk.proofs.EventLemmas.{comings-arrived}
-use Rattle.esc_desk.proofs.Members.{passed_among, passed_test, among_passed}
-use Rattle.esc_desk.proofs.MovingLemmas.{among_before}
+use Rattle.esc_desk.proofs.EventLemmas.{comings_on, comings-arrived}
+use Rattle.esc_desk.proofs.Members.{among-front, passed_among, passed_test, among_passed}
 
 no_row_is : (o : Option ℕ) → is_none o ≡ true → o ≡ None
 no_row_is None is = refl
@@ -44,7 +43,9 @@ module _ (digest : List ℕ → List ℕ) (reads : List ℕ → Result DepositVa
 
   -- what counts still counts with one more event
   pub counted_before : (e : List EventValue) (x : EventValue) (c : Coming) → Among (kept_arrivals digest reads e) c → Among (kept_arrivals digest reads (e ++ x ∷ [])) c
-  counted_before e x c there = came_counts (e ++ x ∷ []) c (among_before [] e x c (counted_came e c there)) (counted_kept e c there)
+  counted_before e x c there =
+      let came = among-front (comings e) (comings_after (union e) (x ∷ [])) c (counted_came e c there) in
+      came_counts (e ++ x ∷ []) c (subst (λ (l : List Coming). Among l c) (sym (comings_on [] e (x ∷ []))) came) (counted_kept e c there)
 
   -- an early arrival whose body no row listed had the verdict A2
   lost_verdict : (before : List Coming) (c : Coming) → is_lost digest reads c ≡ true → (receipt_for digest reads before c).verdict ≡ A2

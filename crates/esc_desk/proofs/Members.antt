@@ -7,7 +7,7 @@ use Rattle.esc_tables.specs.DepositValue.{DepositValue}
 use Rattle.esc_events.specs.Events.{Coming}
 use Rattle.esc_events.specs.Receipts.{alike, distinct}
 use Rattle.esc_events.specs.StateAfter.{Among, arrived_body}
-use Rattle.esc_desk.proofs.Searches.{find_some, find_none}
+use Rattle.esc_desk.proofs.Searches.{any_find}
 
 pub any_of : (p : Coming → Bool) (l : List Coming) (a : Coming) → Among l a → p a ≡ true → list_any p l ≡ true
 any_of p [] a among e = absurd among
@@ -77,19 +77,12 @@ distinct_among digest reads (b ∷ l) a (inl is) = inl is
 distinct_among digest reads (b ∷ l) a (inr there) = inr (distinct_among digest reads l a (passed_among (λ x. not (alike digest reads b x)) (distinct digest reads l) a there))
 
 -- the body of the first that passes is there exactly if one passes
-pub some_any : (p : Coming → Bool) (l : List Coming) → is_some (arrived_body (find p l)) ≡ true → list_any p l ≡ true
-some_any p l some = by_find (find p l) refl
+pub any_found : (p : Coming → Bool) (l : List Coming) → list_any p l ≡ is_some (arrived_body (find p l))
+any_found p l = any_find p l ∙ with_body (find p l)
   where
-    by_find : (o : Option Coming) → find p l ≡ o → list_any p l ≡ true
-    by_find None none = absurd (true≢false (sym some ∙ ap (λ (o : Option Coming). is_some (arrived_body o)) none))
-    by_find (Some y) is = find_some p l y is
-
-pub any_some : (p : Coming → Bool) (l : List Coming) → list_any p l ≡ true → is_some (arrived_body (find p l)) ≡ true
-any_some p l any = by_find (find p l) refl
-  where
-    by_find : (o : Option Coming) → find p l ≡ o → is_some (arrived_body (find p l)) ≡ true
-    by_find None none = absurd (true≢false (sym any ∙ find_none p l none))
-    by_find (Some y) is = ap (λ (o : Option Coming). is_some (arrived_body o)) is
+    with_body : (o : Option Coming) → is_some o ≡ is_some (arrived_body o)
+    with_body None = refl
+    with_body (Some c) = refl
 
 pub no_first : (p : Coming → Bool) (l : List Coming) → arrived_body (find p l) ≡ None → find p l ≡ None
 no_first p l none = by_find (find p l) refl

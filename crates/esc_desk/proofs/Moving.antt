@@ -32,7 +32,7 @@ use Rattle.esc_events.specs.StateAfter.{HaveBodies, AreBooks, IsStateAfter, IsAp
 use Rattle.esc_events.specs.Works.{chain_cost, IsWorkOf, MentionsFew}
 use Rattle.esc_desk.proofs.FrontLemmas.{same_front}
 use Rattle.esc_desk.proofs.Lost.{counted_before}
-use Rattle.esc_desk.proofs.MovingLemmas.{each_of, are_of, same_maps, same_deposits, first_step, accepted_first, contains_held, have_bodies, true_of, held_within, front_of_same, no_move}
+use Rattle.esc_desk.proofs.MovingLemmas.{each_of, same_maps, same_deposits, first_step, accepted_first, contains_held, have_bodies, true_of, held_within, front_of_same, no_move}
 
 module _ (few : MentionsFew) where
   few_of : (body : List ℕ) (told : Result DepositValue ℕ) → reading body ≡ told → mention_count (or_no_deposit told) ≤ 100_000
@@ -180,7 +180,7 @@ module _ (law : LatestChainsAtAreHeldRows) (e : List EventValue) (x : EventValue
       let new_within = each_of (λ r. r < length l.listed) after new_rows.in_range in
       let rows_same : take front k.steps ≡ take front after =
       subst (λ (n : ℕ). take n k.steps ≡ take n after) (sym fronts)
-      (same_front l.listed latest.accepted k.steps after (are_of l.listed k.steps old_within) (are_of l.listed after new_within)) in
+      (same_front l.listed latest.accepted k.steps after old_within new_within) in
       let g : ℕ → DepositValue = λ r. deposit_of reading (l.bodies r) in
       let first : take front (deposits_of reading k.bodies k.steps) ≡ map g (take front after) =
       ap (λ (ds : List DepositValue). take front ds) (same_maps (λ r. deposit_of reading (k.bodies r)) g k.steps kept) ∙ take-map g front k.steps ∙ ap (map g) rows_same in

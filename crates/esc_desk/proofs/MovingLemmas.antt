@@ -1,12 +1,12 @@
 -- The rows that are held, the first rows of a longer manifest, and a chain that stays.
-use Rattle.std.proofs.Common.{◌≡◌, inl, inr, ℕ, suc, ◌+◌, ◌-◌, ◌<◌, ◌≤◌, Bool, true, false, cond, ◌&&◌, ◌||◌, ◌==◌}
+use Rattle.std.proofs.Common.{◌≡◌, ℕ, suc, ◌+◌, ◌-◌, ◌<◌, ◌≤◌, Bool, true, false, cond, ◌&&◌, ◌==◌}
 use Rattle.std.proofs.Common.{List, [], ◌∷◌, ◌++◌, length, map, drop, Option, Some, is_some, IsSome, IfSome, IsTrue, Result}
 use Rattle.std.proofs.Common.{refl, sym, ap, ap₂, subst, subst₂, ◌∙◌, arith, length-append}
 use Rattle.std.specs.Prelude.{◌<ℤ◌, sum_by, nat_lt, slice_index}
-use Rattle.std.specs.List.{list_any, find, prefix_len, zip, AllByRecursion}
+use Rattle.std.specs.List.{list_any, prefix_len, zip, AllByRecursion}
 use Rattle.std.specs.FinSet as set
 use Rattle.std.specs.Ordering.{nat_cmp, eq_by_cmp}
-use Rattle.std.specs.Cmp.{nat_cmp_total, eq_by_cmp_equiv}
+use Rattle.std.specs.Cmp.{both_ways, nat_cmp_total, eq_by_cmp_equiv}
 use Rattle.std.proofs.lemmas.Bool.Decides.{nat_tests, Decides-int_eq}
 use Rattle.std.proofs.lemmas.List.{drop_all, get_or_append_left}
 use Rattle.std.proofs.lemmas.List.Folds.{length-prefix_len}
@@ -19,29 +19,23 @@ use Rattle.esc_tables.specs.Reading.{reading}
 use Rattle.esc_manifest.specs.declared.row.MRow.{MRow}
 use Rattle.esc_manifest.specs.ManifestRows.{no_row, row_at}
 use Rattle.esc_manifest.specs.Accepted.{IsAccepted}
-use Rattle.esc_manifest.specs.Extension.{extended}
 use Rattle.esc_apply.specs.declared.front.Step.{Step}
 use Rattle.esc_apply.specs.Tables.{mention_count}
 use Rattle.esc_apply.specs.Front.{same_step, common_front}
 use Rattle.esc_apply.specs.Moves.{is_cleared, undone_of, work_of, cost}
 use Rattle.esc_store.specs.StoreState.{AreHeld, step_at}
-use Rattle.esc_events.specs.Events.{EventValue, Coming, union, comings_after}
-use Rattle.esc_events.specs.Events.EventValue.{listed, arrived, moved, arrived_early}
+use Rattle.esc_events.specs.Events.{EventValue, Coming, union}
 use Rattle.esc_events.specs.Works.{no_work}
-use Rattle.esc_events.specs.StateAfter.{Among, HaveBodies, holds_by, arrived_body, kept_arrivals, held_rows, held_body, deposit_of, deposits_of}
+use Rattle.esc_events.specs.StateAfter.{HaveBodies, holds_by, kept_arrivals, held_rows, held_body, deposits_of}
 use Rattle.esc_events.specs.HeldLaws.{same_self, exact}
-use Rattle.esc_desk.proofs.AmendingLemmas.{same_bool, row_held}
-use Rattle.esc_desk.proofs.FrontLemmas.{AreOf}
+use Rattle.esc_desk.proofs.AmendingLemmas.{row_held}
 use Rattle.esc_desk.proofs.HeldRows as rows
+use Rattle.esc_desk.proofs.Members.{any_found}
 
 -- ---- each row of a list
 pub each_of : (P : ℕ → Type 0) (rows : List ℕ) → ((i : ℕ) → i < length rows → P (slice_index rows i)) → AllByRecursion P rows
 each_of P [] all = tt
 each_of P (r ∷ rows) all = (all 0 (omega arith), each_of P rows (λ i within. all (suc i) (omega (arith, within))))
-
-pub are_of : (m : List MRow) (rows : List ℕ) → AllByRecursion (λ r. r < length m) rows → AreOf m rows
-are_of m [] all = tt
-are_of m (r ∷ rows) all = (all.0, are_of m rows all.1)
 
 pub same_maps : {X : Type 0} (f g : ℕ → X) (rows : List ℕ) → AllByRecursion (λ r. f r ≡ g r) rows → map f rows ≡ map g rows
 same_maps f g [] all = refl
@@ -49,18 +43,7 @@ same_maps {X = X} f g (r ∷ rows) all = ap₂ (λ (d : X) (ds : List X). d ∷ 
 
 -- the deposits of rows by bodies that are the same
 pub same_deposits : (f g : ℕ → Option (List ℕ)) → ((r : ℕ) → f r ≡ g r) → (rows : List ℕ) → deposits_of reading f rows ≡ deposits_of reading g rows
-same_deposits f g same [] = refl
-same_deposits f g same (r ∷ rows) = ap₂ (λ (d : DepositValue) (ds : List DepositValue). d ∷ ds) (ap (deposit_of reading) (same r)) (same_deposits f g same rows)
-
--- ---- what came before came with one more event
-pub among_before : (m : List MRow) (e : List EventValue) (x : EventValue) (a : Coming) → Among (comings_after m e) a → Among (comings_after m (e ++ x ∷ [])) a
-among_before m [] x a there = absurd there
-among_before m (listed more ∷ e) x a there = among_before (extended m more) e x a there
-among_before m (arrived b ∷ e) x a (inl is) = inl is
-among_before m (arrived b ∷ e) x a (inr there) = inr (among_before m e x a there)
-among_before m (moved t ∷ e) x a there = among_before m e x a there
-among_before m (arrived_early b ∷ e) x a (inl is) = inl is
-among_before m (arrived_early b ∷ e) x a (inr there) = inr (among_before m e x a there)
+same_deposits f g same rows = λ i. deposits_of reading (λ r. same r i) rows
 
 -- ---- the first rows of an accepted manifest
 module _ (m more : List MRow) where
@@ -97,15 +80,6 @@ module _ (m more : List MRow) where
 
 -- ---- the rows that are held
 
--- there is a first one that passes exactly if one passes
-any_found : (p : Coming → Bool) (l : List Coming) → list_any p l ≡ is_some (arrived_body (find p l))
-any_found p [] = refl
-any_found p (c ∷ l) = by_test (p c) (any_found p l)
-  where
-    by_test : (b : Bool) → list_any p l ≡ is_some (arrived_body (find p l)) → (b || list_any p l) ≡ is_some (arrived_body (cond b (Some c) (find p l)))
-    by_test true rest = refl
-    by_test false rest = rest
-
 module _ (digest : List ℕ → List ℕ) (reads : List ℕ → Result DepositValue ℕ) where
   -- a row is held exactly if there is a body of it
   pub contains_held : (e : List EventValue) (r : ℕ) → set.contains (held_rows digest reads e) r ≡ is_some (held_body digest reads e r)
@@ -117,7 +91,7 @@ true_of false is = is
 
 -- rising rows that are held have bodies
 pub have_bodies : (bodies : ℕ → Option (List ℕ)) (rows : List ℕ) → AreHeld bodies rows → HaveBodies bodies (set.from_list rows)
-have_bodies bodies rows held r = set.contains-from_list nat_cmp_total rows r ∙ same_bool _ _ there back
+have_bodies bodies rows held r = set.contains-from_list nat_cmp_total rows r ∙ both_ways _ _ there back
   where
     there : list_any (eq_by_cmp nat_cmp r) rows ≡ true → is_some (bodies r) ≡ true
     there any = true_of _ ((held.each r).0 (Contains-from_any exact r rows any))

@@ -1,28 +1,5 @@
 -- An amendment that lists no row more changes nothing, whatever one event comes after it; and what a crash leaves after an amendment.
-use Rattle.std.proofs.Common.{
-  ◌≡◌,
-  inl,
-  inr,
-  ℕ,
-  ◌-◌,
-  List,
-  [],
-  ◌∷◌,
-  ◌++◌,
-  length,
-  Result,
-  Ok,
-  refl,
-  sym,
-  ap,
-  ap₂,
-  subst,
-  ◌∙◌,
-  append-nil,
-  length-append,
-  arith,
-}
-use Rattle.std.specs.List.{Any}
+use Rattle.std.proofs.Common.{◌≡◌, inl, inr, ℕ, ℤ, ◌-◌, List, [], ◌∷◌, ◌++◌, length, Option, None, Result, Ok, refl, sym, ap, ap₂, ◌∙◌, append-nil, length-append, arith}
 use Rattle.std.proofs.lemmas.List.{nil_from_length}
 use Rattle.sha2.specs.Sha256.{sha256}
 use Rattle.sqlite_trees.specs.declared.store.Store.{Ghosts}
@@ -36,16 +13,15 @@ use Rattle.esc_store.specs.declared.fault.SFault.{SFault}
 use Rattle.esc_store.specs.declared.store.Store.{Store}
 use Rattle.esc_store.specs.StoreState.{StoreState}
 use Rattle.esc_store.specs.Representation.{Represents}
-use Rattle.esc_events.specs.Events.{EventValue, Coming, union, coming, early_coming, comings, last_moment}
-use Rattle.esc_events.specs.Events.EventValue.{listed, arrived, moved, arrived_early}
-use Rattle.esc_events.specs.StateAfter.{AreBooks, IsStateAfter, TellsOf, holds_by}
+use Rattle.esc_events.specs.Events.{EventValue, Coming, union_after, union, comings_after, comings, moment_after, last_moment}
+use Rattle.esc_events.specs.Events.EventValue.{listed}
+use Rattle.esc_events.specs.StateAfter.{IsStateAfter}
 use Rattle.esc_events.specs.Works.{IsWorkOf, no_work}
-use Rattle.esc_desk.proofs.AmendingEvents.{receipts_as, apart_as, held_as, parked_as, came_as, waits_as}
-use Rattle.esc_desk.proofs.EventLemmas.{union-arrived, comings-arrived, moment-arrived, union-listed, comings-listed, moment-listed, union-moved, comings-moved, moment-moved}
+use Rattle.esc_desk.proofs.AmendedBooks.{books_as}
+use Rattle.esc_desk.proofs.EventLemmas.{union_on, comings_on, moment_on, union-listed, comings-listed, moment-listed}
 use Rattle.esc_desk.proofs.Moving.{stands_still, no_work_of}
 use Rattle.esc_desk.specs.Asked.{rows_read, amendment_of}
 use Rattle.esc_desk.specs.Crashes.{IsStoreFor, IsStoreForOneOf, CrashLeaves, doubtful_with}
-use Rattle.esc_desk.proofs.EarlyEvents.{union-early, comings-early, moment-early}
 use Rattle.esc_desk.proofs.CrashLemmas.{one_with}
 
 -- ---- two lists of events with the same rows, arrivals and moment
@@ -55,45 +31,16 @@ pub record AreAlike (e f : List EventValue) : Type 0 where
   pub came : comings f ≡ comings e
   pub moment : last_moment f ≡ last_moment e
 
-books_alike : {e f : List EventValue} {k : StoreState} → AreAlike e f → AreBooks sha256 reading e k → AreBooks sha256 reading f k
-books_alike {e} {f} {k} same books = record {
-  listed = books.listed ∙ sym same.rows;
-  receipts = books.receipts ∙ sym (receipts_as sha256 e f same.came);
-  bodies = λ apart r. books.bodies (apart_as sha256 e f same.came apart) r ∙ sym (held_as sha256 e f same.came (union e) same.rows r);
-  parked = λ apart d. books.parked (apart_as sha256 e f same.came apart) d ∙ sym (parked_as sha256 e f same.came (union e) same.rows d);
-  moment = books.moment ∙ sym same.moment;
-  came = λ r body is.
-      came_as sha256 e f same.came r r body (λ c holds. ap (λ (m : List MRow). holds_by sha256 reading m r c) same.rows ∙ holds) (books.came r body is);
-  waits = λ d body is. waits_as sha256 e f same.came d body (books.waits d body is);
-  told = books.told;
-  held_told = λ r some. subst (λ (m : List MRow). Any (TellsOf m r) k.receipts) (sym same.rows) (books.held_told r some);
-  parked_told = books.parked_told;
-}
-
 pub stands_alike : {e f : List EventValue} {k : StoreState} → AreAlike e f → IsStateAfter sha256 reading e k → IsStateAfter sha256 reading f k
-stands_alike {e} {f} {k} same stood = stands_still e f k k stood (books_alike same stood.books) refl refl refl refl refl
+stands_alike {e} {f} {k} same stood =
+    stands_still e f k k stood (books_as e f k k.moment same.rows same.came (stood.books.moment ∙ sym same.moment) stood.books) refl refl refl refl refl
 
 -- with one more event after both
 alike_with : {e f : List EventValue} → AreAlike e f → (x : EventValue) → AreAlike (e ++ x ∷ []) (f ++ x ∷ [])
-alike_with {e} {f} same (listed more) = record {
-  rows = union-listed f more ∙ ap (λ (m : List MRow). extended m more) same.rows ∙ sym (union-listed e more);
-  came = comings-listed f more ∙ same.came ∙ sym (comings-listed e more);
-  moment = moment-listed f more ∙ same.moment ∙ sym (moment-listed e more);
-}
-alike_with {e} {f} same (arrived a) = record {
-  rows = union-arrived f a ∙ same.rows ∙ sym (union-arrived e a);
-  came = comings-arrived f a ∙ ap₂ (λ (l : List Coming) (m : List MRow). l ++ coming m a ∷ []) same.came same.rows ∙ sym (comings-arrived e a);
-  moment = moment-arrived f a ∙ same.moment ∙ sym (moment-arrived e a);
-}
-alike_with {e} {f} same (arrived_early a) = record {
-  rows = union-early f a ∙ same.rows ∙ sym (union-early e a);
-  came = comings-early f a ∙ ap₂ (λ (l : List Coming) (m : List MRow). l ++ early_coming m a ∷ []) same.came same.rows ∙ sym (comings-early e a);
-  moment = moment-early f a ∙ same.moment ∙ sym (moment-early e a);
-}
-alike_with {e} {f} same (moved t) = record {
-  rows = union-moved f t ∙ same.rows ∙ sym (union-moved e t);
-  came = comings-moved f t ∙ same.came ∙ sym (comings-moved e t);
-  moment = moment-moved f t ∙ sym (moment-moved e t);
+alike_with {e} {f} same x = record {
+  rows = union_on [] f (x ∷ []) ∙ ap (λ (m : List MRow). union_after m (x ∷ [])) same.rows ∙ sym (union_on [] e (x ∷ []));
+  came = comings_on [] f (x ∷ []) ∙ ap₂ (λ (l : List Coming) (m : List MRow). l ++ comings_after m (x ∷ [])) same.came same.rows ∙ sym (comings_on [] e (x ∷ []));
+  moment = moment_on None f (x ∷ []) ∙ ap (λ (t : Option ℤ). moment_after t (x ∷ [])) same.moment ∙ sym (moment_on None e (x ∷ []));
 }
 
 store_alike : {trees : Trees} {e f : List EventValue} → AreAlike e f → IsStoreFor trees e → IsStoreFor trees f

@@ -5,21 +5,19 @@ use Rattle.std.specs.List.{list_any, find, Any}
 use Rattle.std.specs.Cmp.Lexicographic.{bytes_decides}
 use Rattle.esc_manifest.specs.declared.row.MRow.{MRow}
 use Rattle.esc_tables.specs.DepositValue.{DepositValue}
-use Rattle.esc_store.specs.StoreState.{StoreState, SaysHeld, TellsUnlisted, with_receipt}
+use Rattle.esc_store.specs.StoreState.{StoreState, SaysHeld, TellsUnlisted}
 use Rattle.esc_store.specs.ReplyValue.{ReplyValue, ReceiptValue, reply_kept, is_alike, reply_alike}
-use Rattle.esc_store.specs.ListLaws.{any_front_or_last, any_front, any_last}
 use Rattle.esc_events.specs.ArrivalValue.{ArrivalValue}
 use Rattle.esc_events.specs.Events.{EventValue, Coming, union, coming, comings}
 use Rattle.esc_events.specs.Events.EventValue.{arrived}
-use Rattle.esc_events.specs.Assessment.{row_with_digest, held_row}
-use Rattle.esc_events.specs.Receipts.{holds_any, found_then, alike, distinct, receipt_for, receipts_after, receipts_of, reply_to}
+use Rattle.esc_events.specs.Assessment.{row_with_digest}
+use Rattle.esc_events.specs.Receipts.{alike, distinct, receipt_for, receipts_after, receipts_of, reply_to}
 use Rattle.esc_events.specs.StateAfter.{Among, TellsOf, arrived_body, holds_by, has_digest, kept_arrivals, held_body, parked_body, IsApart, CameFor, CameWith, AreBooks}
 use Rattle.esc_desk.proofs.EventLemmas.{union-arrived, comings-arrived, moment-arrived}
 use Rattle.esc_desk.proofs.Searches.{none_alike, some_alike, alike-last, find-push-old, find-push-new}
 use Rattle.esc_desk.proofs.Distinct.{alike_laws, any_alike, distinct-push, receipts-push, kept_any}
-use Rattle.esc_desk.proofs.HeldReceipts.{says_from_holds}
 use Rattle.esc_desk.proofs.Lost.{kept_arrivals-arrived}
-use Rattle.esc_desk.proofs.Members.{among-front, among-last, some_any, no_first}
+use Rattle.esc_desk.proofs.Members.{among-front, among-last, any_found, no_first}
 
 module _ (digest : List ℕ → List ℕ) (reads : List ℕ → Result DepositValue ℕ) where
   -- whether an arrival of the list is a duplicate of this one, by the receipts
@@ -112,7 +110,7 @@ module _ (digest : List ℕ → List ℕ) (reads : List ℕ → Result DepositVa
       pub old_body : (r : ℕ) → (holding r came ≡ true → IsSome (k.bodies r)) → k.bodies r ≡ held_body digest reads then r
       old_body r old =
           held_now r
-          ∙ ap arrived_body (sym (find-push-old (holding r) counts came (λ h. some_any (holding r) counts (sym (ap is_some (held_now r)) ∙ old h))))
+          ∙ ap arrived_body (sym (find-push-old (holding r) counts came (λ h. any_found (holding r) counts ∙ sym (ap is_some (held_now r)) ∙ old h)))
           ∙ sym (held_then r)
 
       pub new_body : (r : ℕ) → k.bodies r ≡ None → holding r came ≡ true → Some a.body ≡ held_body digest reads then r
@@ -129,7 +127,7 @@ module _ (digest : List ℕ → List ℕ) (reads : List ℕ → Result DepositVa
           by_row true is = refl
           by_row false is =
               ap arrived_body (sym (find-push-old (under d) counts came
-              (λ h. some_any (under d) counts (sym (ap is_some (parked_now d is)) ∙ old ((bytes_decides (digest a.body) d).0 h) is))))
+              (λ h. any_found (under d) counts ∙ sym (ap is_some (parked_now d is)) ∙ old ((bytes_decides (digest a.body) d).0 h) is)))
 
       pub new_parked : (d : List ℕ) → digest a.body ≡ d → row_with_digest (union e) d ≡ None → k.parked d ≡ None → Some a.body ≡ parked_body digest reads then d
       new_parked d same unlisted none =
@@ -147,45 +145,42 @@ module _ (digest : List ℕ → List ℕ) (reads : List ℕ → Result DepositVa
     came_with d body (inl old) = with_by e then (union-arrived e a) earlier d body (books.waits d body old)
     came_with d body (inr new) = record { arrival = came; among = last; digest_is = new.0; is_body = new.1 }
 
-    -- ---- a duplicate of an earlier arrival: there is no receipt more
-    module _ (y : ReplyValue) (there : reply_alike (union e) 1 a.number (digest a.body) k.receipts ≡ Some y) where
-      was : list_any (is_alike a.number (digest a.body)) k.receipts ≡ true
-      was = some_alike (union e) a.number (digest a.body) 1 k.receipts y there
+    -- the books with these receipts, bodies and parked bodies: each body was there before, or is this
+    -- arrival's, and a receipt tells of it
+    pub books_then : (receipts : List ReceiptValue) (bodies : ℕ → Option (List ℕ)) (parked : List ℕ → Option (List ℕ))
+        → receipts ≡ receipts_of digest reads then
+        → (IsApart digest reads then → (r : ℕ) → bodies r ≡ held_body digest reads then r)
+        → (IsApart digest reads then → (d : List ℕ) → parked d ≡ parked_body digest reads then d)
+        → ((r : ℕ) (body : List ℕ) → bodies r ≡ Some body → OldOrHolds e k a r body)
+        → ((d body : List ℕ) → parked d ≡ Some body → OldOrHas k a d body)
+        → ((r : ℕ) → Any (SaysHeld r) receipts → IsSome (bodies r))
+        → ((r : ℕ) → IsSome (bodies r) → Any (TellsOf (union e) r) receipts)
+        → ((d : List ℕ) → IsSome (parked d) → Any (TellsUnlisted d) receipts)
+        → AreBooks digest reads then (record k { receipts = receipts; bodies = bodies; parked = parked })
+    books_then receipts bodies parked receipts_are bodies_are parked_are come wait told tell tells = record {
+      listed = books.listed ∙ sym (union-arrived e a);
+      receipts = receipts_are;
+      bodies = bodies_are;
+      parked = parked_are;
+      moment = books.moment ∙ sym (moment-arrived e a);
+      came = λ r body at. came_for r body (come r body at);
+      waits = λ d body at. came_with d body (wait d body at);
+      told = told;
+      held_told = λ r some. subst (λ (m : List MRow). Any (TellsOf m r) receipts) (sym (union-arrived e a)) (tell r some);
+      parked_told = tells;
+    }
 
-      pub no_more : after ≡ before
-      no_more = pushed ∙ ap (λ b. cond b before (before ++ came ∷ [])) was
-
-      -- the books, where bodies and parked bodies are so then: each was there before, or is this
-      -- arrival's, and a receipt tells of it
-      pub books_again : (bodies : ℕ → Option (List ℕ)) (parked : List ℕ → Option (List ℕ))
-          → (IsApart digest reads then → (r : ℕ) → bodies r ≡ held_body digest reads then r)
-          → (IsApart digest reads then → (d : List ℕ) → parked d ≡ parked_body digest reads then d)
-          → ((r : ℕ) (body : List ℕ) → bodies r ≡ Some body → OldOrHolds e k a r body)
-          → ((d body : List ℕ) → parked d ≡ Some body → OldOrHas k a d body)
-          → ((r : ℕ) → IsSome (k.bodies r) → IsSome (bodies r))
-          → ((r : ℕ) → IsSome (bodies r) → Any (TellsOf (union e) r) k.receipts)
-          → ((d : List ℕ) → IsSome (parked d) → Any (TellsUnlisted d) k.receipts)
-          → AreBooks digest reads then (record k { bodies = bodies; parked = parked })
-      books_again bodies parked bodies_are parked_are come wait stays tell tells = record {
-        listed = books.listed ∙ sym (union-arrived e a);
-        receipts = books.receipts ∙ sym (ap (receipts_after digest reads []) no_more);
-        bodies = bodies_are;
-        parked = parked_are;
-        moment = books.moment ∙ sym (moment-arrived e a);
-        came = λ r body at. came_for r body (come r body at);
-        waits = λ d body at. came_with d body (wait d body at);
-        told = λ r any. stays r (books.told r any);
-        held_told = λ r some. subst (λ (m : List MRow). Any (TellsOf m r) k.receipts) (sym (union-arrived e a)) (tell r some);
-        parked_told = tells;
-      }
+    -- a duplicate of an earlier arrival: there is no receipt more
+    pub no_more_receipts : (y : ReplyValue) → reply_alike (union e) 1 a.number (digest a.body) k.receipts ≡ Some y → k.receipts ≡ receipts_of digest reads then
+    no_more_receipts y there =
+        let was = some_alike (union e) a.number (digest a.body) 1 k.receipts y there in
+        books.receipts ∙ sym (ap (receipts_after digest reads []) (pushed ∙ ap (λ b. cond b before (before ++ came ∷ [])) was))
 
     -- ---- an arrival that is no duplicate
     module _ (none : reply_alike (union e) 1 a.number (digest a.body) k.receipts ≡ None) where
-      pub one_more : after ≡ before ++ came ∷ []
-      one_more = pushed ∙ ap (λ b. cond b before (before ++ came ∷ [])) (none_alike (union e) a.number (digest a.body) 1 k.receipts none)
-
       pub more_receipts : receipts_of digest reads then ≡ k.receipts ++ receipt_for digest reads before came ∷ []
       more_receipts =
+          let one_more = pushed ∙ ap (λ b. cond b before (before ++ came ∷ [])) (none_alike (union e) a.number (digest a.body) 1 k.receipts none) in
           ap (receipts_after digest reads []) one_more
           ∙ receipts-push digest reads [] before came
           ∙ ap (λ (x : List ReceiptValue). x ++ receipt_for digest reads before came ∷ []) (sym books.receipts)
@@ -201,47 +196,3 @@ module _ (digest : List ℕ → List ℕ) (reads : List ℕ → Result DepositVa
 
           here : is_alike a.number (digest a.body) (receipt_for digest reads before came) ≡ true
           here = unor _ (kept_any digest reads before (came ∷ []) came ∙ ap (λ b. b || false) ((alike_laws digest reads).refl came))
-
-      -- the books with its receipt, where bodies and parked bodies are so then: each was there
-      -- before, or is this arrival's; and where this body is parked, the receipt tells of it
-      pub books_with : (receipt : ReceiptValue) → receipt ≡ receipt_for digest reads before came
-          → (bodies : ℕ → Option (List ℕ)) (parked : List ℕ → Option (List ℕ))
-          → (IsApart digest reads then → (r : ℕ) → bodies r ≡ held_body digest reads then r)
-          → (IsApart digest reads then → (d : List ℕ) → parked d ≡ parked_body digest reads then d)
-          → ((r : ℕ) (body : List ℕ) → bodies r ≡ Some body → OldOrHolds e k a r body)
-          → ((d body : List ℕ) → parked d ≡ Some body → OldOrHas k a d body)
-          → ((r : ℕ) → IsSome (k.bodies r) ⊎ SaysHeld r receipt → IsSome (bodies r))
-          → ((d : List ℕ) → IsSome (parked d) → IsSome (k.parked d) ⊎ TellsUnlisted d receipt)
-          → AreBooks digest reads then (record (with_receipt k receipt) { bodies = bodies; parked = parked })
-      books_with receipt is bodies parked bodies_are parked_are come wait tell tells = record {
-        listed = books.listed ∙ sym (union-arrived e a);
-        receipts = ap (λ (r : ReceiptValue). k.receipts ++ r ∷ []) is ∙ sym more_receipts;
-        bodies = bodies_are;
-        parked = parked_are;
-        moment = books.moment ∙ sym (moment-arrived e a);
-        came = λ r body at. came_for r body (come r body at);
-        waits = λ d body at. came_with d body (wait d body at);
-        told = λ r any. by_receipt r (any_front_or_last (SaysHeld r) k.receipts receipt any);
-        held_told = λ r some. subst (λ (m : List MRow). Any (TellsOf m r) (k.receipts ++ receipt ∷ [])) (sym (union-arrived e a)) (by_body r (bodies r) refl some);
-        parked_told = λ d some. by_parked d (tells d some);
-      }
-        where
-          by_receipt : (r : ℕ) → Any (SaysHeld r) k.receipts ⊎ SaysHeld r receipt → IsSome (bodies r)
-          by_receipt r (inl old) = tell r (inl (books.told r old))
-          by_receipt r (inr new) = tell r (inr new)
-
-          by_source : (r : ℕ) (body : List ℕ) → OldOrHolds e k a r body → Any (TellsOf (union e) r) (k.receipts ++ receipt ∷ [])
-          by_source r body (inl old) = any_front (TellsOf (union e) r) k.receipts receipt (books.held_told r (ap is_some old))
-          by_source r body (inr new) =
-              let found = found_then digest reads came in
-              let again = holds_any digest reads before (held_row found) in
-              let says : SaysHeld r receipt = subst (SaysHeld r) (sym is) (says_from_holds r a.number (digest a.body) false found again new.0) in
-              any_last (TellsOf (union e) r) k.receipts receipt (inl says)
-
-          by_body : (r : ℕ) (o : Option (List ℕ)) → bodies r ≡ o → IsSome (bodies r) → Any (TellsOf (union e) r) (k.receipts ++ receipt ∷ [])
-          by_body r None at some = absurd (true≢false (sym some ∙ ap is_some at))
-          by_body r (Some body) at some = by_source r body (come r body at)
-
-          by_parked : (d : List ℕ) → IsSome (k.parked d) ⊎ TellsUnlisted d receipt → Any (TellsUnlisted d) (k.receipts ++ receipt ∷ [])
-          by_parked d (inl old) = any_front (TellsUnlisted d) k.receipts receipt (books.parked_told d old)
-          by_parked d (inr new) = any_last (TellsUnlisted d) k.receipts receipt new

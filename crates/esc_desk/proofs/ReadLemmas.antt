@@ -1,28 +1,5 @@
 -- What a store answers that stands for a list of events, in the words of these.
-use Rattle.std.proofs.Common.{
-  ◌≡◌,
-  ℕ,
-  ◌-◌,
-  true,
-  List,
-  length,
-  map,
-  Option,
-  Some,
-  None,
-  option_map,
-  slice_get,
-  IsSome,
-  Result,
-  Ok,
-  Err,
-  refl,
-  sym,
-  ap,
-  subst,
-  ◌∙◌,
-  true≢false,
-}
+use Rattle.std.proofs.Common.{◌≡◌, ℕ, ◌-◌, true, List, length, map, Option, Some, None, option_map, slice_get, Result, Ok, Err, refl, sym, ap, subst, ◌∙◌, true≢false}
 use Rattle.std.proofs.lemmas.Option.{slice_get-map}
 use Rattle.std.proofs.lemmas.List.{length-map}
 use Rattle.sha2.specs.Sha256.{sha256}
@@ -83,16 +60,9 @@ read_at m r None told is = absurd (true≢false (sym is))
 read_at m r (Some q) (Err n) is = absurd (true≢false (sym is))
 read_at m r (Some q) (Ok d) is = (d, refl)
 
--- what has a body is the same where the bodies are
-held_by : {f g : ℕ → Option (List ℕ)} {rows : List ℕ} → ((r : ℕ) → f r ≡ g r) → AreHeld f rows → AreHeld g rows
-held_by same held = record {
-  rising = held.rising;
-  each = λ r. (λ there. subst IsSome (same r) ((held.each r).0 there), λ some. (held.each r).1 (subst IsSome (sym (same r)) some));
-}
-
 module _ (e : List EventValue) (k : StoreState) (stood : IsStateAfter sha256 reading e k) where
   pub same_held : (rows : List ℕ) → AreHeld k.bodies rows → AreHeldOf e rows
-  same_held rows held apart = held_by (stood.books.bodies apart) held
+  same_held rows held apart = subst (λ (f : ℕ → Option (List ℕ)). AreHeld f rows) (λ i r. stood.books.bodies apart r i) held
 
   pub same_parked : (bodies : List ParkedBody) → AreParkedBodies k.parked bodies → AreParkedOf e bodies
   same_parked bodies parked apart = subst (λ (f : List ℕ → Option (List ℕ)). AreParkedBodies f bodies) (λ i d. stood.books.parked apart d i) parked

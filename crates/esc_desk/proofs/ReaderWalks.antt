@@ -1,23 +1,20 @@
 -- What a walk by a reader is still to give, from call to call.
-use Rattle.std.proofs.Common.{◌≡◌, ◌⊎◌, inl, inr, ◌==◌, ◌||◌, Bool, true, false, cond, List, [], ◌∷◌, map, Option, Some, None, Result, refl, sym, ap, subst, ◌∙◌, Ordering, Less, Equal, Greater}
+use Rattle.std.proofs.Common.{◌≡◌, inl, inr, Bool, true, false, cond, List, [], ◌∷◌, map, Option, Some, None, Result, refl, sym, ap, subst, ◌∙◌}
 use Rattle.std.specs.Cmp.{both_ways}
 use Rattle.std.specs.List.{AllByRecursion, list_any}
-use Rattle.std.specs.List.Sorted.{IsStrictlySortedBy}
 use Rattle.std.specs.Map.{lookup, keys_of}
 use Rattle.std.specs.Option.{is_some}
-use Rattle.std.specs.Ordering.{ordering_reverse}
 use Rattle.std.proofs.lemmas.Bool.{cases_Bool}
-use Rattle.std.proofs.lemmas.Map.Entries.{lookup-filter-keys}
-use Rattle.std.proofs.lemmas.Map.Keys.{sorted_head, sorted_tail}
+use Rattle.std.proofs.lemmas.Map.Keys.{sorted_tail}
+use Rattle.std.proofs.lemmas.Map.Lookups.{btree_set_from_contains}
 use Rattle.std.proofs.lemmas.Map.Views.{Contains-from_any, list_any-from_Contains}
 use Rattle.std.proofs.lemmas.Option.{same_Some}
 use Rattle.sha2.specs.Sha256.{sha256}
 use Rattle.sqlite_trees.specs.declared.store.Store.{Ghosts}
 use Rattle.esc_envelope.specs.declared.kind.Kind.{Kind}
-use Rattle.esc_envelope.specs.Kinds.{kind_rank}
 use Rattle.esc_manifest.specs.Accepted.{IsAccepted}
 use Rattle.esc_chain.specs.Laws.{OneLatestChainAt}
-use Rattle.esc_tables.specs.KeyLaws.{keys_total, keys_exact, keys_alike, key_itself, one_key as same_key}
+use Rattle.esc_tables.specs.KeyLaws.{keys_total, keys_exact, keys_alike, one_key as same_key}
 use Rattle.esc_tables.specs.KeyName.{KeyName, key_cmp, key_eq}
 use Rattle.esc_tables.specs.ObjectValue.{ObjectValue}
 use Rattle.esc_tables.specs.Reading.{reading}
@@ -27,77 +24,16 @@ use Rattle.esc_store.specs.declared.reader.objects.TableKey.{TableKey}
 use Rattle.esc_store.specs.Reading.{ReaderRepresents}
 use Rattle.esc_store.specs.StoreState.{StoreState}
 use Rattle.esc_store.specs.TableKeys.{AreKeysOf, key_at, wanted_of}
-use Rattle.esc_events.specs.Events.{EventValue, union, last_moment}
-use Rattle.esc_events.specs.LatestTables.{AreEntries, tables_of_chain}
-use Rattle.esc_events.specs.StateAfter.{IsApart, held_rows}
+use Rattle.esc_events.specs.Events.{EventValue, union}
+use Rattle.esc_events.specs.LatestTables.{AreEntries}
+use Rattle.esc_events.specs.StateAfter.{IsApart}
 use Rattle.esc_desk.specs.declared.reader.DeskReader.{DeskReader}
 use Rattle.esc_desk.specs.Readers.{IsUnchangedReader, ReaderReflects}
 use Rattle.esc_desk.specs.ReaderWalks.{AreOfKeysLeft, IsUnwrittenReader}
 use Rattle.esc_desk.specs.Walking.{of_kinds}
-use Rattle.esc_desk.proofs.EntryLists.{in_order, rises, rises-filter, AreAbove, Rises, first_found, none_above}
-use Rattle.esc_desk.proofs.Moving.{chain_of}
-use Rattle.esc_desk.proofs.ReadLemmas.{same_content}
-use Rattle.esc_desk.proofs.WalkSteps.{held_in_range}
-
--- ---- keys in order, by which keys they are
-
-abbrev above : KeyName → List KeyName → Type 0
-above k ks = AllByRecursion (λ q. key_cmp k q ≡ Less) ks
-
-all_through : (k q : KeyName) (ks : List KeyName) → key_cmp k q ≡ Less → above q ks → above k ks
-all_through k q [] low all = tt
-all_through k q (r ∷ ks) low all = (keys_total.trans k q r low all.0, all_through k q ks low all.1)
-
-none_at : (q : KeyName) (ks : List KeyName) → above q ks → list_any (key_eq q) ks ≡ false
-none_at q [] all = refl
-none_at q (k ∷ ks) all = rw all.0 (none_at q ks all.1)
-
-first_at : (k : KeyName) (ks : List KeyName) → list_any (key_eq k) (k ∷ ks) ≡ true
-first_at k ks = rw (key_itself k) refl
-
--- the two have the same keys
-abbrev AreAlike : List KeyName → List KeyName → Type 0
-AreAlike ks ls = (q : KeyName) → list_any (key_eq q) ks ≡ list_any (key_eq q) ls
-
-differ : (k : KeyName) (ks : List KeyName) → list_any (key_eq k) (k ∷ ks) ≡ false → ⊥
-differ k ks is = let never : true ≡ false = sym (first_at k ks) ∙ is in absurd cc
-
-module _ (a b : KeyName) (ks ls : List KeyName) (all : above a ks) (others : above b ls) (same : AreAlike (a ∷ ks) (b ∷ ls)) where
-  one_first : key_cmp a b ≡ Equal
-  one_first = by_order (key_cmp a b) refl
-    where
-      by_order : (o : Ordering) → key_cmp a b ≡ o → key_cmp a b ≡ Equal
-      by_order Less low = absurd (differ a ks (same a ∙ none_at a (b ∷ ls) (low, all_through a b ls low others)))
-      by_order Equal e = e
-      by_order Greater e =
-          let low : key_cmp b a ≡ Less = keys_total.antisymm b a ∙ ap ordering_reverse e in
-          absurd (differ b ls (sym (same b) ∙ none_at b (a ∷ ks) (low, all_through b a ks low all)))
-
-  rest_alike : AreAlike ks ls
-  rest_alike q = by_test (cases_Bool (key_eq q a))
-    where
-      firsts : a ≡ b
-      firsts = keys_exact a b one_first
-
-      by_test : (key_eq q a ≡ true) ⊎ (key_eq q a ≡ false) → list_any (key_eq q) ks ≡ list_any (key_eq q) ls
-      by_test (inl is) =
-          let here : q ≡ a = same_key q a is in
-          none_at q ks (subst (λ (k : KeyName). above k ks) (sym here) all) ∙ sym (none_at q ls (subst (λ (k : KeyName). above k ls) (sym (here ∙ firsts)) others))
-      by_test (inr other) =
-          let another : key_eq q b ≡ false = subst (λ (k : KeyName). key_eq q k ≡ false) firsts other in
-          ap (λ t. t || list_any (key_eq q) ks) (sym other) ∙ same q ∙ ap (λ t. t || list_any (key_eq q) ls) another
-
--- keys in order are one list, if they are the same keys
-one_list : (ks ls : List KeyName) → IsStrictlySortedBy key_cmp ks → IsStrictlySortedBy key_cmp ls → AreAlike ks ls → ks ≡ ls
-one_list [] [] up then same = refl
-one_list [] (b ∷ ls) up then same = absurd (differ b ls (sym (same b)))
-one_list (a ∷ ks) [] up then same = absurd (differ a ks (same a))
-one_list (a ∷ ks) (b ∷ ls) up then same =
-    let all = sorted_head key_cmp a ks up in
-    let others = sorted_head key_cmp b ls then in
-    let first : a ≡ b = keys_exact a b (one_first a b ks ls all others same) in
-    let rest : ks ≡ ls = one_list ks ls (sorted_tail key_cmp a ks up) (sorted_tail key_cmp b ls then) (rest_alike a b ks ls all others same) in
-    λ i. first i ∷ rest i
+use Rattle.esc_desk.proofs.EntryLists.{rises, AreAbove, Rises, first_found, none_above}
+use Rattle.esc_desk.proofs.WalkSteps.{entries_kept}
+use Rattle.esc_desk.proofs.Walks.{kinds_in_order, kinds_found}
 
 -- ---- the entries of the keys
 
@@ -124,16 +60,6 @@ all_said : (P : KeyName → ObjectValue → Type 0) (es : List Entry) → Rises 
 all_said P [] up says = tt
 all_said P (e ∷ es) up says = (says e.0 e.1 (first_found e es), all_said P es up.1 (λ q o found. says q o (still_found e es q o up.0 found)))
 
-kinds_in_order : (kind : Option Kind) (es : List Entry) → InOrder es → InOrder (of_kinds kind es)
-kinds_in_order None es order = order
-kinds_in_order (Some kind) es order = in_order _ (rises-filter (λ (e : Entry). kind_rank e.0.kind == kind_rank kind) es (rises es order))
-
-kinds_found : (content : ObjectsByKey) (kind : Option Kind) (es : List Entry) → ((q : KeyName) → lookup (key_eq q) es ≡ content q) → (q : KeyName) → lookup (key_eq q) (of_kinds kind es) ≡ wanted_of kind content q
-kinds_found content None es each q = each q
-kinds_found content (Some kind) es each q =
-    let is_of : KeyName → Bool = λ k. kind_rank k.kind == kind_rank kind in
-    lookup-filter-keys (key_eq q) is_of (is_of q) (λ k same. ap is_of (sym (same_key q k same))) es ∙ ap (λ o. cond (is_of q) o None) (each q)
-
 wanted_is : (b : Bool) (o : Option ObjectValue) (x : ObjectValue) → cond b o None ≡ Some x → o ≡ Some x
 wanted_is true o x is = is
 wanted_is false o x is = absurd cc
@@ -149,18 +75,13 @@ module _ {S : Type 0} (g : Ghosts S) where
   begins old new keys kind e es law accepted apart serves stands are entries order =
       let k = serves.kept in
       let content = k.registry.content in
-      let rows = held_rows sha256 reading e in
-      let one : entries.chain ≡ k.steps =
-      law (union e) rows rows (last_moment e) entries.chain k.steps accepted (held_in_range e)
-      (λ r. (λ held. held, λ held. held)) entries.latest (chain_of e k serves.stands_for apart) in
-      let same : tables_of_chain e entries.chain ≡ content = ap (tables_of_chain e) one ∙ sym (same_content e k serves.stands_for apart) in
-      let found = kinds_found content kind es (λ q. entries.objects.each q ∙ ap (λ (f : ObjectsByKey). f q) same) in
+      let found = kinds_found content kind es (entries_kept law accepted apart serves.stands_for entries) in
       let up = kinds_in_order kind es order in
       record {
         order = up;
         same_keys =
-            one_list (keys_of (of_kinds kind es)) (map key_at keys) up are.order
-            (λ q. any_found q (of_kinds kind es) ∙ ap is_some (found q) ∙ sym (any_kept (wanted_of kind content) (map key_at keys) are q));
+            btree_set_from_contains keys_total (record { keys = keys_of (of_kinds kind es) }) (record { keys = map key_at keys }) up are.order
+            (λ q. any_found q (of_kinds kind es) ∙ ap is_some (found q) ∙ sym (any_kept (wanted_of kind content) (map key_at keys) are q)) keys_exact;
         kept = k;
         stands = stands;
         each = all_said (λ q o. content q ≡ Some o) (of_kinds kind es) (rises _ up) (λ q o is. wanted_is _ (content q) o (sym (found q) ∙ is));

@@ -1,33 +1,5 @@
 -- A run goes on by one event.
-use Rattle.std.proofs.Common.{
-  ◌≡◌,
-  ℕ,
-  ◌+◌,
-  ◌^◌,
-  ◌<◌,
-  List,
-  [],
-  ◌∷◌,
-  ◌++◌,
-  Bool,
-  true,
-  false,
-  cond,
-  Option,
-  Some,
-  None,
-  Ok,
-  Err,
-  sym,
-  ap,
-  ap₂,
-  subst,
-  subst₂,
-  ◌∙◌,
-  append_assoc,
-  append-nil,
-  arith,
-}
+use Rattle.std.proofs.Common.{◌≡◌, ℕ, ◌+◌, ◌^◌, ◌<◌, List, [], ◌∷◌, ◌++◌, Bool, true, false, cond, Option, Some, None, Ok, Err, sym, ap, ap₂, subst, subst₂, ◌∙◌, append_assoc, append-nil, arith}
 use Rattle.std.specs.List.{list_any}
 use Rattle.std.proofs.lemmas.List.Sums.{sum_by-append}
 use Rattle.sha2.specs.Sha256.{sha256}
@@ -54,18 +26,18 @@ use Rattle.esc_desk.specs.declared.amendment.AmendFault.TheVariants.{M, Store as
 use Rattle.esc_desk.specs.Amendments.{IsAmendCause, IsAmendFault}
 use Rattle.esc_desk.specs.Asked.{Matched, event_of, is_taken, matched, taken_by, taken_in}
 use Rattle.esc_desk.specs.Asked.Matched.{of_arrival, of_amendment, of_moment}
-use Rattle.esc_desk.specs.Calls.{Answers, DeskLeaves, DeskLeavesEvent, DeskLeavesRun, writes_of}
+use Rattle.esc_desk.specs.Calls.{Answers, DeskLeaves, DeskLeavesEvent, DeskLeavesRun, ForDeskEvents, ForEventsInDoubt, WasHonest, writes_of}
 use Rattle.esc_desk.specs.Crashes.{IsApartIf, doubtful_by, doubtful_after}
 use Rattle.esc_desk.specs.Laws.{KeepsReplies}
 use Rattle.esc_desk.specs.Outcomes.{IsOutcomeOf, AreOutcomesOf, AreWorksOf, writes_in, HasWorked}
 use Rattle.esc_desk.specs.Running.{IsRight, AreRight, Ran, Takes}
 use Rattle.esc_desk.specs.Reflection.{DeskReflects}
 use Rattle.esc_desk.proofs.AmendedBooks.{replies_stay}
-use Rattle.esc_desk.proofs.EventLemmas.{union-arrived, comings-arrived, union-moved, comings-moved}
+use Rattle.esc_desk.proofs.CrashLemmas.{if_clean}
+use Rattle.esc_desk.proofs.EventLemmas.{union_on, comings_on, union-arrived, comings-arrived, union-moved, comings-moved}
 use Rattle.esc_desk.proofs.Moving.{apart_before}
 use Rattle.esc_desk.proofs.Searches.{alike-front}
 use Rattle.esc_desk.proofs.Distinct.{distinct-push, receipts-push}
-use Rattle.esc_desk.proofs.EarlyEvents.{union-early, comings-early}
 
 -- ---- a reply stays as it was
 
@@ -94,7 +66,7 @@ pub reply_stays : (e : List EventValue) (x : EventValue) → KeepsReplies e (e +
 reply_stays e (listed more) a r is = replies_stay e more a ∙ is
 reply_stays e (arrived b) a r is = reply_grows e (e ++ arrived b ∷ []) (coming (union e) b) (comings-arrived e b) (union-arrived e b) a r is
 reply_stays e (arrived_early b) a r is =
-    reply_grows e (e ++ arrived_early b ∷ []) (early_coming (union e) b) (comings-early e b) (union-early e b) a r is
+    reply_grows e (e ++ arrived_early b ∷ []) (early_coming (union e) b) (comings_on [] e (arrived_early b ∷ [])) (union_on [] e (arrived_early b ∷ [])) a r is
 reply_stays e (moved t) a r is =
     let reply : List MRow → List Coming → Option ReplyValue =
     λ m cs. reply_alike m 1 a.number (sha256 a.body) (receipts_after sha256 reading [] (distinct sha256 reading cs)) in
@@ -159,7 +131,7 @@ module _ (x : Event) (o : EventOutcome) (all : List EventValue) where
       doubtful_more apart first doubts xs os are.1
       ∙ ap (λ (k : List EventValue). doubtful_by apart k (doubtful_after apart first doubts xs os) (matched x o)) (append_assoc e (taken_by y q) (taken_in xs os))
 
-pub outcomes_more : (xs : List Event) (os : List EventOutcome) (x : Event) (o : EventOutcome)
+outcomes_more : (xs : List Event) (os : List EventOutcome) (x : Event) (o : EventOutcome)
     → AreOutcomesOf xs os → IsOutcomeOf (matched x o) → AreOutcomesOf (xs ++ x ∷ []) (os ++ o ∷ [])
 outcomes_more [] [] x o are one = (one, tt)
 outcomes_more [] (q ∷ os) x o are one = absurd are
@@ -177,7 +149,7 @@ works_more e (x ∷ xs) ys (w ∷ ws) vs are more =
     (are.0, works_more (e ++ x ∷ []) xs ys ws vs are.1 then)
 
 -- before the first event
-pub worked_none : (e : List EventValue) (was : ℕ) → was < 2 ^ 64 → HasWorked e [] was was
+worked_none : (e : List EventValue) (was : ℕ) → was < 2 ^ 64 → HasWorked e [] was was
 worked_none e was fits = record { works = []; are_works = tt; counted = omega arith }
 
 -- of one that was not taken in
@@ -189,7 +161,7 @@ pub worked_once : (e : List EventValue) (x : EventValue) (w : Work) (was now : �
     → HasWorked e (x ∷ []) was now
 worked_once e x w was now is counted = record { works = w ∷ []; are_works = (is, tt); counted = omega (arith, counted) }
 
-pub worked_more : (e all : List EventValue) (xs : List Event) (os : List EventOutcome) (x : Event) (o : EventOutcome) (was mid now : ℕ)
+worked_more : (e all : List EventValue) (xs : List Event) (os : List EventOutcome) (x : Event) (o : EventOutcome) (was mid now : ℕ)
     → AreRight e all xs os → HasWorked e (taken_in xs os) was mid → HasWorked (e ++ taken_in xs os) (taken_by x o) mid now
     → HasWorked e (taken_in (xs ++ x ∷ []) (os ++ o ∷ [])) was now
 worked_more e all xs os x o was mid now are so once =
@@ -225,11 +197,7 @@ module _ {S : Type 0} (g : Ghosts S) where
       record { serves = told.serves; answer = (told.told, told.room, told.place); worked = worked_once e (arrived a) w _ _ told.works counted } in
       subst (λ (x : ArrivalValue). Takes g old new e (Arrival x) (Arrived (Done r))) same takes
 
-  -- before the first event
-  pub ran_none : (desk : Desk S) (before : List EventValue) → writes_of desk < 2 ^ 64 → DeskReflects g desk before → Ran g desk desk before [] []
-  ran_none desk before fits serves = record { serves = serves_without desk before serves; answers = tt; worked = worked_none before (writes_of desk) fits }
-
-  pub ran_more : (start old new : Desk S) (before : List EventValue) (xs : List Event) (os : List EventOutcome) (x : Event) (o : EventOutcome)
+  ran_more : (start old new : Desk S) (before : List EventValue) (xs : List Event) (os : List EventOutcome) (x : Event) (o : EventOutcome)
       → Ran g start old before xs os → ((e : List EventValue) → DeskReflects g old e → Takes g old new e x o) → Ran g start new before (xs ++ x ∷ []) (os ++ o ∷ [])
   ran_more start old new before xs os x o ran step =
       let e = before ++ taken_in xs os in
@@ -244,7 +212,7 @@ module _ {S : Type 0} (g : Ghosts S) where
         worked = worked_more before e xs os x o _ _ _ ran.answers ran.worked now.worked;
       }
 
-  pub left_more : (old new : Desk S) (before doubtful all : List EventValue) (xs : List Event) (os : List EventOutcome) (x : Event) (o : EventOutcome)
+  left_more : (old new : Desk S) (before doubtful all : List EventValue) (xs : List Event) (os : List EventOutcome) (x : Event) (o : EventOutcome)
       → AreRight before all xs os → DeskLeavesRun g old before doubtful xs os
       → ((d : List EventValue) → DeskLeaves g old (before ++ taken_in xs os) d → DeskLeavesEvent g new (before ++ taken_in xs os) d x o)
       → DeskLeavesRun g new before doubtful (xs ++ x ∷ []) (os ++ o ∷ [])
@@ -254,6 +222,33 @@ module _ {S : Type 0} (g : Ghosts S) where
       let first = apart_front apart (is_taken o) (before ++ taken_in xs os) (event_of x) (subst (IsApartIf apart) events cache) in
       subst₂ (λ (k d : List EventValue). DeskLeaves g new k d) (sym events) (sym doubts)
       (step (doubtful_after apart before doubtful xs os) (left apart first) apart first)
+
+  -- these events were taken so far, with these outcomes, in a run from the desk `start`
+  pub record Runs (start now : Desk S) (xs : List Event) (os : List EventOutcome) : Type 0 where
+    pub honest : WasHonest g start now
+    pub ran : ForDeskEvents g start now (λ before. Ran g start now before xs os)
+    pub cause : AreOutcomesOf xs os
+    pub crash : ForEventsInDoubt g start (λ before doubtful. DeskLeavesRun g now before doubtful xs os)
+
+  pub runs_none : (desk : Desk S) → writes_of desk < 2 ^ 64 → Runs desk desk [] []
+  runs_none desk fits = record {
+    honest = λ clean. clean;
+    ran = λ clean before served. record { serves = serves_without desk before served; answers = tt; worked = worked_none before (writes_of desk) fits };
+    cause = tt;
+    crash = λ before doubtful served start. λ apart cache. leaves_without desk before doubtful start;
+  }
+
+  pub runs_more : (start old new : Desk S) (xs : List Event) (os : List EventOutcome) (x : Event) (o : EventOutcome) → Runs start old xs os
+      → WasHonest g old new → ForDeskEvents g old new (λ e. Takes g old new e x o) → IsOutcomeOf (matched x o)
+      → ForEventsInDoubt g old (λ e doubtful. DeskLeavesEvent g new e doubtful x o) → Runs start new (xs ++ x ∷ []) (os ++ o ∷ [])
+  runs_more start old new xs os x o runs honest taken cause crash = record {
+    honest = λ clean. runs.honest (honest clean);
+    ran = λ clean before served. ran_more start old new before xs os x o (runs.ran (honest clean) before served) (taken clean);
+    cause = outcomes_more xs os x o runs.cause cause;
+    crash = λ before doubtful served start. λ apart cache. if_clean g new.store.conn _ _ (λ clean.
+        let past = runs.ran (honest clean) before served in
+        left_more old new before doubtful _ xs os x o past.answers (runs.crash before doubtful served start) (λ d. crash _ d past.serves) apart cache);
+  }
 
 -- why an amendment isn't taken in is of the kind of its outcome
 pub amend_kind : (m : List MRow) (text : List ℕ) (f : AmendFault) → IsAmendCause m text f → IsAmendFault f

@@ -24,7 +24,7 @@ pub tables_are_of : TablesAreOfEvents
 tables_are_of e k stood apart = record { latest = chain_of e k stood apart; content = same_content e k stood apart }
 
 -- two searches that both find an arrival, or neither does, find the same body where the arrivals have the same
-same_found : (o p : Option Coming) → is_some (arrived_body o) ≡ is_some (arrived_body p)
+pub same_found : (o p : Option Coming) → is_some (arrived_body o) ≡ is_some (arrived_body p)
     → ((c d : Coming) → o ≡ Some c → p ≡ Some d → c.body ≡ d.body) → arrived_body o ≡ arrived_body p
 same_found None None some same = refl
 same_found None (Some d) some same = absurd (true≢false (sym some))

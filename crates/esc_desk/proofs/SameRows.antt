@@ -2,6 +2,7 @@
 use Rattle.std.specs.List.{AllByRecursion}
 use Rattle.std.proofs.Common.{◌≡◌, ℕ, ℤ, true, List, [], ◌∷◌, ◌++◌, reverse, Option, is_some, refl, sym, ap, ap₂, subst, ◌∙◌}
 use Rattle.std.proofs.lemmas.List.{reverse-append, reverse-reverse}
+use Rattle.std.proofs.lemmas.List.Elements.{All-from_recursion, recursion_from_All, All-push}
 use Rattle.sha2.specs.Sha256.{sha256}
 use Rattle.esc_tables.specs.DepositValue.{DepositValue}
 use Rattle.esc_tables.specs.Reading.{reading}
@@ -28,14 +29,10 @@ back_held : (m : List MRow) (h : Rows) (t : Option ℤ) (c : List ℕ) → IsLat
 back_held m h t [] latest = tt
 back_held m h t (r ∷ c) latest = (latest.0.0.held, leads_held m h r c latest.0.1)
 
-each_append : (P : ℕ → Type 0) (c d : List ℕ) → AllByRecursion P c → AllByRecursion P d → AllByRecursion P (c ++ d)
-each_append P [] d first rest = rest
-each_append P (r ∷ c) d first rest = (first.0, each_append P c d first.1 rest)
-
 each_reverse : (P : ℕ → Type 0) (c : List ℕ) → AllByRecursion P c → AllByRecursion P (reverse c)
 each_reverse P [] each = tt
 each_reverse P (r ∷ c) each =
-    let both : AllByRecursion P (reverse c ++ r ∷ []) = each_append P (reverse c) (r ∷ []) (each_reverse P c each.1) (each.0, tt) in
+    let both : AllByRecursion P (reverse c ++ r ∷ []) = recursion_from_All P _ (All-push P (reverse c) r (All-from_recursion P (reverse c) (each_reverse P c each.1)) each.0) in
     subst (AllByRecursion P) (sym (reverse-append (r ∷ []) c)) both
 
 chain_held : (m : List MRow) (h : Rows) (t : Option ℤ) (c : List ℕ) → IsLatestChainAt m h t c → AllByRecursion (IsHeld h) c

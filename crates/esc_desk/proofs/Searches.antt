@@ -1,40 +1,25 @@
 -- The first element of a list that passes a test, and the first receipt with a number and a digest.
-use Rattle.std.proofs.Common.{◌≡◌, ℕ, suc, ◌+◌, Bool, true, false, cond, ◌||◌, List, [], ◌∷◌, ◌++◌, length, Option, Some, None, refl, sym, ap, ◌∙◌, arith, true≢false}
+use Rattle.std.proofs.Common.{◌≡◌, ℕ, suc, ◌+◌, Bool, true, false, cond, ◌||◌, List, [], ◌∷◌, ◌++◌, length, Option, Some, None, is_some, refl, sym, ap, ◌∙◌, arith, true≢false}
 use Rattle.std.specs.List.{list_any, find}
+use Rattle.std.specs.Option.{option_or}
+use Rattle.std.proofs.lemmas.List.Folds.{find-append}
 use Rattle.esc_manifest.specs.declared.row.MRow.{MRow}
 use Rattle.esc_store.specs.ReplyValue.{ReplyValue, ReceiptValue, reply_kept, is_alike, reply_alike}
 
-pub find_some : {X : Type 0} (p : X → Bool) (xs : List X) (y : X) → find p xs ≡ Some y → list_any p xs ≡ true
-find_some p [] y e = absurd (cc)
-find_some p (x ∷ xs) y e = by_test (p x) (find_some p xs y) e
+-- one is found just where one passes
+pub any_find : {X : Type 0} (p : X → Bool) (xs : List X) → list_any p xs ≡ is_some (find p xs)
+any_find p [] = refl
+any_find p (x ∷ xs) = by_test (p x) (any_find p xs)
   where
-    by_test : (b : Bool) → (find p xs ≡ Some y → list_any p xs ≡ true) → cond b (Some x) (find p xs) ≡ Some y → (b || list_any p xs) ≡ true
-    by_test true cache e = refl
-    by_test false cache e = cache e
-
-pub find_none : {X : Type 0} (p : X → Bool) (xs : List X) → find p xs ≡ None → list_any p xs ≡ false
-find_none p [] e = refl
-find_none p (x ∷ xs) e = by_test (p x) (find_none p xs) e
-  where
-    by_test : (b : Bool) → (find p xs ≡ None → list_any p xs ≡ false) → cond b (Some x) (find p xs) ≡ None → (b || list_any p xs) ≡ false
-    by_test true cache e = absurd (cc)
-    by_test false cache e = cache e
+    by_test : (b : Bool) → list_any p xs ≡ is_some (find p xs) → (b || list_any p xs) ≡ is_some (cond b (Some x) (find p xs))
+    by_test true rest = refl
+    by_test false rest = rest
 
 pub find-front : {X : Type 0} (p : X → Bool) (xs ys : List X) (y : X) → find p xs ≡ Some y → find p (xs ++ ys) ≡ Some y
-find-front p [] ys y e = absurd (cc)
-find-front p (x ∷ xs) ys y e = by_test (p x) (find-front p xs ys y) e
-  where
-    by_test : (b : Bool) → (find p xs ≡ Some y → find p (xs ++ ys) ≡ Some y) → cond b (Some x) (find p xs) ≡ Some y → cond b (Some x) (find p (xs ++ ys)) ≡ Some y
-    by_test true cache e = e
-    by_test false cache e = cache e
+find-front {X = X} p xs ys y e = find-append p xs ys ∙ ap (λ (o : Option X). option_or o (find p ys)) e
 
 pub find-back : {X : Type 0} (p : X → Bool) (xs ys : List X) → find p xs ≡ None → find p (xs ++ ys) ≡ find p ys
-find-back p [] ys e = refl
-find-back p (x ∷ xs) ys e = by_test (p x) (find-back p xs ys) e
-  where
-    by_test : (b : Bool) → (find p xs ≡ None → find p (xs ++ ys) ≡ find p ys) → cond b (Some x) (find p xs) ≡ None → cond b (Some x) (find p (xs ++ ys)) ≡ find p ys
-    by_test true cache e = absurd (cc)
-    by_test false cache e = cache e
+find-back {X = X} p xs ys e = find-append p xs ys ∙ ap (λ (o : Option X). option_or o (find p ys)) e
 
 -- one more element at the end of a list changes nothing of what is found, if one of the list passes
 -- whenever it does
@@ -42,7 +27,7 @@ pub find-push-old : {X : Type 0} (p : X → Bool) (xs : List X) (x : X) → (p x
 find-push-old {X = X} p xs x old = by_find (find p xs) refl
   where
     none_here : (b : Bool) → p x ≡ b → find p xs ≡ None → cond b (Some x) None ≡ None
-    none_here true is none = absurd (true≢false (sym (old is) ∙ find_none p xs none))
+    none_here true is none = absurd (true≢false (sym (old is) ∙ any_find p xs ∙ ap is_some none))
     none_here false is none = refl
 
     by_find : (o : Option X) → find p xs ≡ o → find p (xs ++ x ∷ []) ≡ find p xs

@@ -24,7 +24,7 @@ use Rattle.esc_desk.specs.declared.walk.Pages.{Pages}
 use Rattle.esc_desk.specs.declared.walk.Walk.{Walk}
 use Rattle.esc_events.specs.Events.{EventValue, union, last_moment}
 use Rattle.esc_events.specs.LatestTables.{AreEntries, tables_of_chain}
-use Rattle.esc_events.specs.StateAfter.{kept_arrivals, IsApart, holds_by, held_rows}
+use Rattle.esc_events.specs.StateAfter.{kept_arrivals, IsApart, IsStateAfter, holds_by, held_rows}
 use Rattle.esc_desk.proofs.HeldRows.{contains_held}
 use Rattle.esc_desk.proofs.Members.{one_of}
 use Rattle.esc_desk.proofs.Moving.{chain_of}
@@ -44,6 +44,17 @@ held_in_range e r held =
     let holds = sym (contains_held sha256 reading (union e) (kept_arrivals sha256 reading e) r) ∙ held in
     let x = one_of (holds_by sha256 reading (union e) r) (kept_arrivals sha256 reading e) holds in
     held_within sha256 reading (union e) r x.0 x.2
+
+-- the entries of the tables after the events are the objects of a store that stands for them
+pub entries_kept : {e : List EventValue} {es : List Entry} {k : StoreState} → OneLatestChainAt → IsAccepted (union e) → IsApart sha256 reading e
+    → IsStateAfter sha256 reading e k → AreEntries e es → (q : KeyName) → lookup (key_eq q) es ≡ k.registry.content q
+entries_kept {e} {es} {k} law accepted apart stood entries q =
+    let rows = held_rows sha256 reading e in
+    let one : entries.chain ≡ k.steps =
+    law (union e) rows rows (last_moment e) entries.chain k.steps accepted (held_in_range e)
+    (λ r. (λ held. held, λ held. held)) entries.latest (chain_of e k stood apart) in
+    let same : tables_of_chain e entries.chain ≡ k.registry.content = ap (tables_of_chain e) one ∙ sym (same_content e k stood apart) in
+    entries.objects.each q ∙ ap (λ (f : ObjectsByKey). f q) same
 
 -- ---- the page at hand
 
@@ -148,13 +159,7 @@ module _ {S : Type 0} (g : Ghosts S) where
       → AreToCome g store pages (of_kinds kind es)
   begins store pages kind e es law accepted apart serves entries order items is from alone =
       let k = serves.kept in
-      let rows = held_rows sha256 reading e in
-      let latest = chain_of e k serves.stands_for apart in
-      let one : entries.chain ≡ k.steps =
-      law (union e) rows rows (last_moment e) entries.chain k.steps accepted (held_in_range e)
-      (λ r. (λ held. held, λ held. held)) entries.latest latest in
-      let same : tables_of_chain e entries.chain ≡ k.registry.content = ap (tables_of_chain e) one ∙ sym (same_content e k serves.stands_for apart) in
-      let are = from_the_first k.registry.content kind es order (λ q. entries.objects.each q ∙ ap (λ (f : ObjectsByKey). f q) same) in
+      let are = from_the_first k.registry.content kind es order (entries_kept law accepted apart serves.stands_for entries) in
       record {
         order = are.order;
         kept = k;

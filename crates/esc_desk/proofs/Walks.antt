@@ -6,6 +6,7 @@ use Rattle.std.specs.Option.{option_or, is_some}
 use Rattle.std.specs.Prelude.{MatchOption}
 use Rattle.std.specs.Ordering.{nat_cmp, is_le, is_ge, is_gt, match_ordering, ordering_then, ordering_reverse}
 use Rattle.std.specs.Cmp.Lexicographic.{slice_cmp, nat_list_cmp_total}
+use Rattle.std.proofs.lemmas.Bool.{and_parts}
 use Rattle.std.proofs.lemmas.Bool.Decides.{nat_tests}
 use Rattle.std.proofs.lemmas.Map.Entries.{lookup-filter-keys}
 use Rattle.std.specs.Cmp.{upto}
@@ -18,6 +19,7 @@ use Rattle.esc_apply.specs.ObjectStreams.{Entry, InOrder}
 use Rattle.esc_apply.specs.Registry.{ObjectsByKey}
 use Rattle.esc_tables.specs.KeyLaws.{one_key as same_key}
 use Rattle.esc_store.specs.Pages.{IsPage, last_text, is_on_page}
+use Rattle.esc_store.specs.TableKeys.{wanted_of}
 use Rattle.esc_desk.specs.Places.{first_kind, later_kind, IsPlaceBehind}
 use Rattle.esc_desk.specs.Walking.{of_kinds, is_behind, AreBehind}
 use Rattle.esc_desk.proofs.EntryLists.{Pass, in_order, rises, rises-filter, rises-append, all_passed, lookup-append, is_found, each_found, same_entries, pass_too}
@@ -108,16 +110,13 @@ module _ (content : ObjectsByKey) (kind : Kind) (from : List ℕ) (alone : Bool)
             rw (same_kind q Equal e, e) (split (is_past last q.text) (is_up_to last q.text) (is_from from q.text) (content q) (past_is last q.text))
         by_order Greater e = rw (same_kind q Greater e, e) (twice (not alone) (content q))
 
-    conjuncts : (x y z : Bool) → (x && y && z) ≡ true → (x ≡ true) × (y ≡ true) × (z ≡ true)
-    conjuncts true true true is = (refl, refl, refl)
-    conjuncts true true false is = absurd (true≢false (sym is))
-    conjuncts true false z is = absurd (true≢false (sym is))
-    conjuncts false y z is = absurd (true≢false (sym is))
-
     -- a key of the page is of its kind, from its first bytes on and up to its last
     parts : (q : KeyName) → on_page q ≡ true
         → ((kind_rank kind == kind_rank q.kind) ≡ true) × (is_from from q.text ≡ true) × (is_up_to last q.text ≡ true)
-    parts q on = conjuncts (kind_rank kind == kind_rank q.kind) (is_from from q.text) (is_up_to last q.text) on
+    parts q on =
+        let first = and_parts (kind_rank kind == kind_rank q.kind && is_from from q.text) (is_up_to last q.text) on in
+        let rest = and_parts (kind_rank kind == kind_rank q.kind) (is_from from q.text) first.0 in
+        (rest.0, rest.1, first.1)
 
     -- after the last, so not up to it
     above_last : (a : List ℕ) → is_past last a ≡ true → slice_cmp nat_cmp last a ≡ Less
@@ -366,16 +365,26 @@ from_first q = by_order (place Registrar q) refl
     by_order Equal e = rw e (above_nothing q.text)
     by_order Greater e = rw e refl
 
+-- the entries of one kind, or all, in order
+pub kinds_in_order : (kind : Option Kind) (es : List Entry) → InOrder es → InOrder (of_kinds kind es)
+kinds_in_order None es order = order
+kinds_in_order (Some kind) es order = in_order _ (rises-filter (λ (e : Entry). kind_rank e.0.kind == kind_rank kind) es (rises es order))
+
+-- what is found among them
+pub kinds_found : (content : ObjectsByKey) (kind : Option Kind) (es : List Entry) → ((q : KeyName) → lookup (key_eq q) es ≡ content q) → (q : KeyName) → lookup (key_eq q) (of_kinds kind es) ≡ wanted_of kind content q
+kinds_found content None es each q = each q
+kinds_found content (Some kind) es each q =
+    let is_of : KeyName → Bool = λ k. kind_rank k.kind == kind_rank kind in
+    lookup-filter-keys (key_eq q) is_of (is_of q) (λ k same. ap is_of (sym (same_key q k same))) es ∙ ap (λ o. cond (is_of q) o None) (each q)
+
 -- all entries of a content, or those of one kind, are those from the first place on
 pub from_the_first : (content : ObjectsByKey) (kind : Option Kind) (es : List Entry) → InOrder es → ((q : KeyName) → lookup (key_eq q) es ≡ content q)
     → AreBehind content (Some (first_kind kind)) [] (is_some kind) (of_kinds kind es)
 from_the_first content None es order each = record { order = order; each = λ q. each q ∙ ap (λ b. cond b (content q) None) (sym (from_first q)) }
 from_the_first content (Some kind) es order each =
-    let is_of : KeyName → Bool = λ k. kind_rank k.kind == kind_rank kind in
     record {
-      order = in_order (filter (λ (e : Entry). is_of e.0) es) (rises-filter (λ (e : Entry). is_of e.0) es (rises es order));
+      order = kinds_in_order (Some kind) es order;
       each = λ q.
           let tests = only_kind (kind_rank q.kind) (kind_rank kind) (is_from [] q.text) (above_nothing q.text) in
-          lookup-filter-keys (key_eq q) is_of (is_of q) (λ k same. ap is_of (sym (same_key q k same))) es
-          ∙ ap₂ (λ b o. cond b o None) (sym tests) (each q);
+          kinds_found content (Some kind) es each q ∙ ap (λ b. cond b (content q) None) (sym tests);
     }

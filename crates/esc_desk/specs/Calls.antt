@@ -119,13 +119,9 @@ module _ {S : Type 0} (g : Ghosts S) (old new : Desk S) where
     pub uncounted : OnErr result (writes_of new ≡ writes_of old)
     pub lost : OnErr result StillReflects
 
-  -- the desk remembers what it remembered before
-  abbrev pub RemembersStill : Type 0
-  RemembersStill = new.cache ≡ old.cache
-
   -- the call changed nothing, and the desk remembers what it remembered before
   abbrev pub IsUnchangedWithCache : Type 0
-  IsUnchangedWithCache = IsUnchangedDesk × RemembersStill
+  IsUnchangedWithCache = IsUnchangedDesk × (new.cache ≡ old.cache)
 
 -- this holds for every list of events that the desk reflected before the call, and those in doubt
 -- then

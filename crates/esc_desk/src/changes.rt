@@ -4,9 +4,7 @@ ghost use Rattle.std.specs.Prelude.{
   ◌≡◌,
   ◌+◌,
   ◌≤◌,
-  Some,
   length,
-  take,
   IfOk,
   IfErr,
   IfSome,
@@ -148,7 +146,8 @@ fn add_receipt<S: Alter>(
     }
 }
 
-// Lists the rows of a union, if there is one.
+// Lists the rows of a union, if there is one. Of the bodies that are parked for them those that are
+// their deposits are held, and the others are let go.
 fn list_rows<S: Alter>(
     change: &mut Change<'_, S>,
     alloc: Global,
@@ -158,24 +157,9 @@ fn list_rows<S: Alter>(
     ensures part { IsChangePart S.Store change.old change.new result (listed_more listing) }
     ensures cause { IfErr result IsS1OrS2 }
 {
-    match listing {
-        Some(listing) => list_union(change, alloc, listing),
-        None => Ok(()),
-    }
-}
-
-// Lists the rows of a union. Of the bodies that are parked for them those that are their deposits
-// are held, and the others are let go.
-fn list_union<S: Alter>(
-    change: &mut Change<'_, S>,
-    alloc: Global,
-    listing: Listing,
-) -> Result<(), SFault>
-    requires begins { take (length (listed_by change.now)) listing.union ≡ listed_by change.now }
-    ensures part { IsChangePart S.Store change.old change.new result (listed_more (Some listing)) }
-    ensures cause { IfErr result IsS1OrS2 }
-{
-    let Listing { union, judged } = listing;
+    let Some(Listing { union, judged }) = listing else {
+        return Ok(());
+    };
     let rows = copy_rows(alloc, union.rows())?;
     change.list(union)?;
     adopt_rows(change, &rows, &judged.adopted)?;

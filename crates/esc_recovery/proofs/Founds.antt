@@ -22,7 +22,7 @@ use Rattle.sqlite.specs.Closing.{IsCopied, HoldsAlone}
 use Rattle.sqlite.proofs.Theorems.{opens_again}
 use Rattle.esc_store.specs.StoreState.{StoreState}
 use Rattle.esc_store.specs.FirstVersion.{IsOfFirstVersion}
-use Rattle.esc_store.specs.StoreTables.{IsStore, IsBlank, IsOfVersion}
+use Rattle.esc_store.specs.StoreTables.{IsStore, IsOfVersion}
 use Rattle.esc_store.specs.Representation.{HoldsKept, LeavesOr}
 use Rattle.esc_store.specs.StandingLaws.{was_clean}
 use Rattle.esc_sql.specs.Schema.{no_schema}
@@ -81,14 +81,9 @@ held_is : (Is : Trees → Type 0) (committed : Trees) (image : Image) → ((tree
 held_is Is committed image holds it = subst Is (sym (∥∥₁_elim it.1 (Trees-set _ _) (holds it.0))) it.2
 
 -- what a connection that was just opened sees is what the files hold
-holds_what_is : {S : Type 0} (g : store.Ghosts S) (conn : Held S) (image : Image) (Is : Database → Type 0) → ((trees : Trees) → HoldsDatabase image trees → (state g conn).committed.trees ≡ trees)
+pub holds_what_is : {S : Type 0} (g : store.Ghosts S) (conn : Held S) (image : Image) (Is : Database → Type 0) → ((trees : Trees) → HoldsDatabase image trees → (state g conn).committed.trees ≡ trees)
     → Opens (state g conn) → IsLive (state g conn) → Is (state g conn).now → Holds Is image
 holds_what_is g conn image Is holds opens live is = λ trees held. ((state g conn).committed, ∥∥₁_elim held (Trees-set _ _) (holds trees), (live opens.is_open).1, subst Is opens.clean is)
-
--- so it is blank where the files are
-pub holds_blank : {S : Type 0} (g : store.Ghosts S) (conn : Held S) (image : Image) → ((trees : Trees) → HoldsDatabase image trees → (state g conn).committed.trees ≡ trees)
-    → Opens (state g conn) → IsLive (state g conn) → IsBlank (state g conn).now → Holds IsBlank image
-holds_blank g conn image holds opens live is = holds_what_is g conn image IsBlank holds opens live is
 
 -- a desk over what two files hold serves one of the lists, where it serves each list whose store was committed
 pub serves_one : {S : Type 0} (g : store.Ghosts S) (desk : Desk S) (committed : Trees) (image : Image) → ((trees : Trees) → HoldsDatabase image trees → committed ≡ trees)

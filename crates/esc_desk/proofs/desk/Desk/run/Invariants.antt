@@ -1,11 +1,6 @@
-use Rattle.std.proofs.Common.{◌≡◌, ◌≤◌, List, length, take, vec_capacity}
-use Rattle.esc_store.specs.Representation.{IsHonest}
-use Rattle.esc_events.specs.Events.{EventValue}
+use Rattle.std.proofs.Common.{◌≡◌, ◌≤◌, length, take, vec_capacity}
 use Rattle.esc_desk.specs.Asked.{as_events, as_outcomes}
-use Rattle.esc_desk.specs.Calls.{DeskLeaves, DeskLeavesRun}
-use Rattle.esc_desk.specs.Outcomes.{AreOutcomesOf}
-use Rattle.esc_desk.specs.Running.{Ran}
-use Rattle.esc_desk.specs.Reflection.{DeskReflects}
+use Rattle.esc_desk.proofs.RunLemmas.{Runs}
 use Rattle.esc_desk.proofs.desk.Desk.run.Given as goal
 
 -- the run so far
@@ -13,10 +8,5 @@ abbrev pub invariant-loop-arrival : goal.invariant-loop-arrival
 invariant-loop-arrival g l = record {
   counted : length l.outcomes.items ≡ l.arrival-index;
   room : length l.arrivals ≤ vec_capacity l.outcomes;
-  honest : IsHonest g.S.Store l.self.store → IsHonest g.S.Store l.fn.self.store;
-  ran : IsHonest g.S.Store l.self.store → (before : List EventValue) → DeskReflects g.S.Store l.fn.self before
-      → Ran g.S.Store l.fn.self l.self before (as_events (take l.arrival-index l.arrivals)) (as_outcomes l.outcomes.items);
-  cause : AreOutcomesOf (as_events (take l.arrival-index l.arrivals)) (as_outcomes l.outcomes.items);
-  crash : (before doubtful : List EventValue) → DeskReflects g.S.Store l.fn.self before → DeskLeaves g.S.Store l.fn.self before doubtful
-      → DeskLeavesRun g.S.Store l.self before doubtful (as_events (take l.arrival-index l.arrivals)) (as_outcomes l.outcomes.items);
+  runs : Runs g.S.Store l.fn.self l.self (as_events (take l.arrival-index l.arrivals)) (as_outcomes l.outcomes.items);
 }
