@@ -24,12 +24,7 @@ pub fn push_query<S: Alter + Drop>(
     connection: &mut Connection<S>,
     sql: &str,
 ) -> Result<(), Fail> {
-    let rows = connection.query_all(sql, &[])?;
-    push_rows(text, rows.as_slice())
-}
-
-fn push_rows(text: &mut String, rows: &[Row]) -> Result<(), Fail> {
-    for row in rows {
+    for row in &connection.query_all(sql, &[])? {
         push_row(text, row)?;
     }
     Ok(())

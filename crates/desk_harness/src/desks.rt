@@ -109,15 +109,11 @@ fn answer_at_desk<S: Alter + Drop>(
     line: &str,
 ) -> Result<Place<S>, Fail> {
     match line {
-        "close" => return Ok(Place::Database(connection_of(desk))),
+        "close" => return Ok(Place::Database(desk.into_store().into_connection())),
         "chain" => desk = push_chain(rt.alloc(), text, desk)?,
         _ => answer(rt, text, &mut desk, line)?,
     }
     Ok(Place::Desk(desk))
-}
-
-fn connection_of<S: Alter + Drop>(desk: Desk<S>) -> Connection<S> {
-    desk.into_store().into_connection()
 }
 
 fn answer<S: Alter + Drop>(

@@ -70,78 +70,34 @@ pub fn push_event<S: Alter + Drop>(
 ) -> Result<(), Fail> {
     let line = EventLine::new(rt, line)?;
     let before = desk.writes();
-    if let Some(work) = push_answer(rt.alloc(), text, desk, &line)? {
+    let (outcome, work) = outcome_of(rt.alloc(), desk, line.event()?);
+    push_outcome(rt.alloc(), text, line.rest(), &outcome)?;
+    if let Some(work) = work {
         push_work(text, &work, desk.writes().saturating_sub(before))?;
     }
     text.push_str("\n")?;
     Ok(())
 }
 
-fn push_answer<S: Alter + Drop>(
+// What comes of an event, and its work unless it is refused.
+fn outcome_of<S: Alter + Drop>(
     alloc: Global,
-    text: &mut String,
     desk: &mut Desk<S>,
-    line: &EventLine,
-) -> Result<Option<Work>, Fail> {
-    match line.event()? {
-        Event::Arrival(arrival) => arrive(alloc, text, desk, &arrival),
-        Event::Amend(manifest) => amend(alloc, text, desk, manifest),
-        Event::AsOf(moment) => as_of(alloc, text, desk, moment, line.rest()),
-    }
-}
-
-fn arrive<S: Alter + Drop>(
-    alloc: Global,
-    text: &mut String,
-    desk: &mut Desk<S>,
-    arrival: &Arrival<'_>,
-) -> Result<Option<Work>, Fail> {
-    match desk.arrive(alloc, &arrival.number, arrival.body) {
-        Ok((reply, work)) => {
-            push_reply(alloc, text, &reply)?;
-            Ok(Some(work))
-        }
-        Err(fault) => {
-            write!(text, "{fault}")?;
-            Ok(None)
-        }
-    }
-}
-
-fn amend<S: Alter + Drop>(
-    alloc: Global,
-    text: &mut String,
-    desk: &mut Desk<S>,
-    manifest: &[u8],
-) -> Result<Option<Work>, Fail> {
-    match desk.amend(alloc, manifest) {
-        Ok((added, work)) => {
-            write!(text, "added {added}")?;
-            Ok(Some(work))
-        }
-        Err(fault) => {
-            write!(text, "{fault}")?;
-            Ok(None)
-        }
-    }
-}
-
-fn as_of<S: Alter + Drop>(
-    alloc: Global,
-    text: &mut String,
-    desk: &mut Desk<S>,
-    moment: Option<i64>,
-    word: &str,
-) -> Result<Option<Work>, Fail> {
-    match desk.as_of(alloc, moment) {
-        Ok(work) => {
-            write!(text, "as of {word}")?;
-            Ok(Some(work))
-        }
-        Err(fault) => {
-            write!(text, "{fault}")?;
-            Ok(None)
-        }
+    event: Event<'_>,
+) -> (EventOutcome, Option<Work>) {
+    match event {
+        Event::Arrival(arrival) => match desk.arrive(alloc, &arrival.number, arrival.body) {
+            Ok((reply, work)) => (EventOutcome::Arrived(Outcome::Done(reply)), Some(work)),
+            Err(fault) => (EventOutcome::Arrived(Outcome::Lost(fault)), None),
+        },
+        Event::Amend(manifest) => match desk.amend(alloc, manifest) {
+            Ok((added, work)) => (EventOutcome::Amended(Ok(added)), Some(work)),
+            Err(fault) => (EventOutcome::Amended(Err(fault)), None),
+        },
+        Event::AsOf(moment) => match desk.as_of(alloc, moment) {
+            Ok(work) => (EventOutcome::Moved(Ok(())), Some(work)),
+            Err(fault) => (EventOutcome::Moved(Err(fault)), None),
+        },
     }
 }
 
@@ -185,10 +141,12 @@ fn push_outcomes(
 ) -> Result<(), Fail> {
     for (line, outcome) in lines.iter().zip(outcomes) {
         push_outcome(alloc, text, line.rest(), outcome)?;
+        text.push_str("\n")?;
     }
     Ok(())
 }
 
+// Adds what came of an event; `word` is what its line says after the first word.
 fn push_outcome(
     alloc: Global,
     text: &mut String,
@@ -203,6 +161,5 @@ fn push_outcome(
         EventOutcome::Moved(Ok(())) => write!(text, "as of {word}")?,
         EventOutcome::Moved(Err(fault)) => write!(text, "{fault}")?,
     }
-    text.push_str("\n")?;
     Ok(())
 }

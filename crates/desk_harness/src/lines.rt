@@ -4,7 +4,6 @@
 use crate::desks::{Place, answer_of_place};
 use crate::disks::{DiskChange, Disks, Room, connect, left_files};
 use crate::input::Input;
-use esc_desk::SFault;
 use esc_recovery::{files_of, reopen_desk};
 use sqlite::{Alter, Connection, FileStore, Files};
 use sqlite_disk::Disk;
@@ -61,7 +60,7 @@ fn over_files<D: Disk + Drop>(
             left(input.rt.alloc(), place, input.closes(), room)
         }
         Err((fault, files)) => {
-            refuse(input, fault)?;
+            input.answer(format!(in input.rt.alloc(); "{fault}\n")?)?;
             Ok(files)
         }
     }
@@ -109,11 +108,4 @@ fn answer<S: Alter + Drop>(input: &mut Input<'_>, place: Place<S>) -> Result<Pla
     let place = answer_of_place(input.rt, &mut text, place, line.as_str())?;
     input.answer(text)?;
     Ok(place)
-}
-
-// Answers the next line by a refusal.
-fn refuse(input: &mut Input<'_>, fault: SFault) -> Result<(), Fail> {
-    let mut text = String::new(input.rt.alloc());
-    writeln!(text, "{fault}")?;
-    input.answer(text)
 }

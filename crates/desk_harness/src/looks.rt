@@ -4,7 +4,6 @@ use crate::texts::{push_object, push_step, push_text};
 use esc_apply::Step;
 use esc_desk::{Desk, End, SFault};
 use esc_reports::{Report, printed_watermark, report};
-use esc_store::Store;
 use esc_tables::{Key, Object};
 use sqlite::Alter;
 use std::alloc::Global;
@@ -118,19 +117,11 @@ pub fn push_chain<S: Alter + Drop>(
     desk: Desk<S>,
 ) -> Result<Desk<S>, Fail> {
     let mut store = desk.into_store();
-    push_chain_of(alloc, text, &mut store)?;
-    Ok(Desk::open(store))
-}
-
-fn push_chain_of<S: Alter + Drop>(
-    alloc: Global,
-    text: &mut String,
-    store: &mut Store<S>,
-) -> Result<(), Fail> {
     match store.chain(alloc) {
-        Ok(steps) => push_steps(alloc, text, steps.as_slice()),
-        Err(fault) => push_fault(text, fault),
+        Ok(steps) => push_steps(alloc, text, steps.as_slice())?,
+        Err(fault) => push_fault(text, fault)?,
     }
+    Ok(Desk::open(store))
 }
 
 fn push_steps(alloc: Global, text: &mut String, steps: &[Step]) -> Result<(), Fail> {

@@ -300,36 +300,30 @@ fn command_named<'a>(
 }
 
 fn init_command<'a>(rt: &HostRuntime, given: &ArgMatches<'a>) -> Result<Option<Command<'a>>, Stop> {
-    match given.get_str("manifest") {
-        Some(path) => {
-            let manifest = manifest_of(rt, path)?;
-            Ok(Some(Command::Init { manifest }))
-        }
-        None => Ok(None),
-    }
+    let Some(path) = given.get_str("manifest") else {
+        return Ok(None);
+    };
+    let manifest = manifest_of(rt, path)?;
+    Ok(Some(Command::Init { manifest }))
 }
 
 fn amend_command<'a>(
     rt: &HostRuntime,
     given: &ArgMatches<'a>,
 ) -> Result<Option<Command<'a>>, Stop> {
-    match given.get_str("manifest") {
-        Some(path) => {
-            let text = amendment_of(rt, path)?;
-            Ok(Some(Command::Amend { text }))
-        }
-        None => Ok(None),
-    }
+    let Some(path) = given.get_str("manifest") else {
+        return Ok(None);
+    };
+    let text = amendment_of(rt, path)?;
+    Ok(Some(Command::Amend { text }))
 }
 
 fn as_of_command<'a>(alloc: Global, given: &ArgMatches<'a>) -> Result<Option<Command<'a>>, Stop> {
-    match given.get_str("moment") {
-        Some(word) => {
-            let moment = moment_named(alloc, word)?;
-            Ok(Some(Command::AsOf { moment }))
-        }
-        None => Ok(None),
-    }
+    let Some(word) = given.get_str("moment") else {
+        return Ok(None);
+    };
+    let moment = moment_named(alloc, word)?;
+    Ok(Some(Command::AsOf { moment }))
 }
 
 fn take_command<'a>(given: &ArgMatches<'a>) -> Option<Command<'a>> {

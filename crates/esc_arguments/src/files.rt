@@ -33,10 +33,9 @@ pub fn or_stop<T>(rt: &HostRuntime, path: &str, outcome: Result<T, Error>) -> Re
 
 /// Returns `E1 PATH` if a file can't be opened for reading and writing. Makes no file.
 pub fn check_access(rt: &HostRuntime, path: &str) -> Result<(), Stop> {
-    match File::options().read(true).write(true).open(rt, path) {
-        Ok(_) => Ok(()),
-        Err(error) => Err(stop_at(rt, path, &error)),
-    }
+    let opened = File::options().read(true).write(true).open(rt, path);
+    let _file = or_stop(rt, path, opened)?;
+    Ok(())
 }
 
 // The text of a manifest in a plain file, or in one that a link leads to. Of a file that is too

@@ -1,7 +1,7 @@
 //! The commands, from the words to the status.
 
+use crate::desk::read_report;
 use crate::ended::Ended;
-use crate::reader::read_report;
 use crate::run::Run;
 use esc_arguments::{
     Command, Invocation, Stop, check_access, invocation_of, matches_of, print_error, print_stop,

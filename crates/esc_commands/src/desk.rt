@@ -1,13 +1,14 @@
-//! What a command does with the desk of its store.
+//! What a command does with the desk or the reader of its store.
 //!
 //! It is done over any store: each use of a `FileStore` as one costs the prover seconds.
 
 use crate::ended::Ended;
 use crate::run::Run;
 use esc_arguments::{Command, Stop};
-use esc_desk::{AmendFault, Desk};
-use esc_reports::{Report, end_line, report};
+use esc_desk::{AmendFault, Desk, DeskReader};
+use esc_reports::{Report, end_line, report, stored_report};
 use sqlite::Alter;
+use sqlite_trees::store::Store;
 use std::alloc::Global;
 use std::io::Write;
 use std::net::{Net, TcpListener, TcpStream};
@@ -31,7 +32,8 @@ where
             Command::Init { .. } | Command::Migrate => Ok(Ended::done(line)),
             Command::Amend { text } => amend(alloc, desk, text),
             Command::AsOf { moment } => move_to(alloc, desk, *moment),
-            Command::Report(what) => report_text(alloc, desk, *what),
+            // The same text as that of a reader, where the files are opened by a desk alone.
+            Command::Report(what) => Ok(Ended::done(report(alloc, desk, *what)?)),
             Command::Take { folder } => {
                 let status = self.take_folder(desk, *folder)?;
                 Ok(Ended::silent(alloc, status))
@@ -69,10 +71,11 @@ fn move_to<S: Alter>(
     Ok(Ended::done(line.into_bytes()))
 }
 
-// The same text as that of a reader, where the files are opened by a desk alone.
-fn report_text<S: Alter>(alloc: Global, desk: &mut Desk<S>, what: Report) -> Result<Ended, Stop> {
-    match report(alloc, desk, what) {
-        Ok(text) => Ok(Ended::done(text)),
-        Err(fault) => Err(Stop::Store(fault)),
-    }
+/// `report --store FILE WHAT` and `export --store FILE KIND`: the text of a report.
+pub(crate) fn read_report<S: Store>(
+    alloc: Global,
+    reader: &mut DeskReader<S>,
+    what: Report,
+) -> Result<Ended, Stop> {
+    Ok(Ended::done(stored_report(alloc, reader, what)?))
 }

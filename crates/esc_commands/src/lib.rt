@@ -12,8 +12,7 @@
 //! | Module | Does |
 //! |---|---|
 //! | `commands` | from the words to the status: opens the store at a path, or makes it, and closes it |
-//! | `desk` | what a command does with the desk of its store |
-//! | `reader` | what a report does with a reader of its store |
+//! | `desk` | what a command does with the desk or the reader of its store |
 //! | `take` | takes the plain files of a folder, in byte order of names |
 //! | `serve` | serves connections on a port, one after the other, each within a time |
 //! | `run` | one run of the program: the runtime, the network and its two streams |
@@ -62,7 +61,6 @@
 mod commands;
 mod desk;
 mod ended;
-mod reader;
 mod run;
 mod serve;
 mod take;

@@ -22,45 +22,24 @@ pub fn out_of_memory() -> &'static [u8]
 pub fn refusal_response(alloc: Global, refusal: Refusal) -> Option<Vec<u8>>
     ensures text { IfSome result (λ text. text.items ≡ refusal_response refusal) }
 {
-    match refusal {
-        Refusal::BadRequest => response(
-            alloc,
-            "400 Bad Request",
-            "text/plain",
-            "",
-            b"bad request\n",
-        ),
-        Refusal::NotFound => response(alloc, "404 Not Found", "text/plain", "", b"not found\n"),
-        Refusal::PutOnly => response(
-            alloc,
+    let (status, allow, words): (&str, &str, &[u8]) = match refusal {
+        Refusal::BadRequest => ("400 Bad Request", "", b"bad request\n"),
+        Refusal::NotFound => ("404 Not Found", "", b"not found\n"),
+        Refusal::PutOnly => (
             "405 Method Not Allowed",
-            "text/plain",
             "Allow: PUT\r\n",
             b"method not allowed\n",
         ),
-        Refusal::GetOnly => response(
-            alloc,
+        Refusal::GetOnly => (
             "405 Method Not Allowed",
-            "text/plain",
             "Allow: GET\r\n",
             b"method not allowed\n",
         ),
-        Refusal::BadNumber => response(alloc, "400 Bad Request", "text/plain", "", b"N1\n"),
-        Refusal::LengthRequired => response(
-            alloc,
-            "411 Length Required",
-            "text/plain",
-            "",
-            b"length required\n",
-        ),
-        Refusal::TooLarge => response(
-            alloc,
-            "413 Content Too Large",
-            "text/plain",
-            "",
-            b"too large\n",
-        ),
-    }
+        Refusal::BadNumber => ("400 Bad Request", "", b"N1\n"),
+        Refusal::LengthRequired => ("411 Length Required", "", b"length required\n"),
+        Refusal::TooLarge => ("413 Content Too Large", "", b"too large\n"),
+    };
+    response(alloc, status, "text/plain", allow, words)
 }
 
 /// The response with this status (number and words), this media type and this body (RFC 9112,

@@ -47,26 +47,6 @@ a.example
 end
 ";
 
-/// What F5 and D6 leave, with the numbers that D6 declares.
-pub(crate) const AFTER_D6: &str = "escrow-bundle 1
-envelope.json 591
-{\"id\":\"F5\",\"type\":\"FULL\",\"watermark\":\"2024-03-11T00:00:00Z\",\"counts\":{\"registrar\":1,\"contact\":1,\"host\":0,\"domain\":3},\"contents\":[{\"name\":\"registrar\",\"kind\":\"registrar\",\"role\":\"parent\",\"key\":\"id\",\"fields\":[\"id\"],\"file\":\"registrar.csv\"},{\"name\":\"contact\",\"kind\":\"contact\",\"role\":\"parent\",\"key\":\"id\",\"fields\":[\"id\",\"clID\"],\"file\":\"contact.csv\"},{\"name\":\"domain\",\"kind\":\"domain\",\"role\":\"parent\",\"key\":\"name\",\"fields\":[\"name\",\"clID\",\"registrant\"],\"file\":\"domain.csv\"},{\"name\":\"domainNs\",\"kind\":\"domain\",\"role\":\"child\",\"key\":\"domainName\",\"fields\":[\"domainName\",\"hostName\"],\"file\":\"domainns.csv\"}]}
-registrar.csv 3
-R1
-
-contact.csv 6
-C1,R1
-
-domain.csv 32
-e.example,R1,C1
-f.example,R1,C9
-
-domainns.csv 24
-e.example,ns1.e.example
-
-end
-";
-
 /// Domain g.example is ok and gone, and expires before it is created, after the watermark;
 /// h.example was created on a date that is none.
 pub(crate) const DATED: &str = "escrow-bundle 1

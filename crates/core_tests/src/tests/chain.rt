@@ -1,10 +1,10 @@
-//! The chain, the gaps, the used rows and the bases of a small manifest, by the plain calls.
+//! The chain and the gaps of a small manifest, by the plain calls.
 
 ghost use Rattle.esc_chain.specs.Chain.{InRange};
 
 use super::asserts::assert_told;
 use esc_bundle::NoMemory;
-use esc_chain::{GapLine, Held, base_of, gaps, latest_chain, used};
+use esc_chain::{GapLine, Held, gaps, latest_chain};
 use esc_manifest::{MFault, Manifest, read_manifest};
 use std::alloc::Global;
 
@@ -24,36 +24,15 @@ D3,DIFF,2024-03-05T00:00:00Z,X9,1,0000000000000000000000000000000000000000000000
 /// Its rows that are held: F1, D2 and both D3.
 const HELD: [usize; 4] = [0, 1, 2, 7];
 
-/// What is asked, and what is said. The watermarks of bases are 2024-03-03, 04 and 10.
-static TOLD: [(&str, &str); 4] = [
-    ("chain", "[0, 1]"),
-    (
-        "gaps",
-        "1709424000000000000 FULL chain None
+/// What is said of them: the chain, and then a line for each listed place.
+const TOLD: &str = "[0, 1]
+1709424000000000000 FULL chain None
 1709510400000000000 DIFF chain Some(1)
 1709596800000000000 DIFF blocked None unlisted X9
 1709683200000000000 INCR missing Some(0)
 1710028800000000000 FULL missing Some(0)
 1710115200000000000 DIFF missing Some(0)
-",
-    ),
-    (
-        "used",
-        "Some(0)\nSome(1)\nSome(7)\nNone\nNone\nNone\nSome(1)\nSome(7)\n",
-    ),
-    (
-        "bases",
-        "Whole
-At(Place { watermark: 1709424000000000000, kind: Full })
-At(Place { watermark: 1709510400000000000, kind: Diff })
-At(Place { watermark: 1709424000000000000, kind: Full })
-Whole
-At(Place { watermark: 1710028800000000000, kind: Full })
-At(Place { watermark: 1709424000000000000, kind: Full })
-Unlisted
-",
-    ),
-];
+";
 
 // The place, the state, the awaited resend and the blocker of a line.
 fn push_line(text: &mut String, line: &GapLine) -> Result<(), NoMemory> {
@@ -66,7 +45,7 @@ fn push_line(text: &mut String, line: &GapLine) -> Result<(), NoMemory> {
     Ok(text.push_str("\n")?)
 }
 
-fn push_gaps(
+fn push_told(
     text: &mut String,
     alloc: Global,
     manifest: &Manifest,
@@ -74,63 +53,24 @@ fn push_gaps(
 ) -> Result<(), NoMemory>
     requires { InRange manifest.now held.now }
 {
+    let chain = latest_chain(alloc, manifest, held)?;
+    writeln!(text, "{chain:?}")?;
     for line in &gaps(alloc, manifest, held)? {
         push_line(text, line)?;
     }
     Ok(())
 }
 
-// The used row of the place of each row.
-fn push_used(text: &mut String, manifest: &Manifest, held: &Held) -> Result<(), NoMemory>
-    requires { InRange manifest.now held.now }
-{
-    for row in manifest.rows() {
-        let found = used(manifest, held, row.header.place);
-        writeln!(text, "{found:?}")?;
-    }
-    Ok(())
-}
-
-fn push_bases(text: &mut String, manifest: &Manifest) -> Result<(), NoMemory> {
-    for row in 0..manifest.rows().len() {
-        let base = base_of(manifest, row);
-        writeln!(text, "{base:?}")?;
-    }
-    Ok(())
-}
-
-fn push_told(
-    text: &mut String,
-    alloc: Global,
-    manifest: &Manifest,
-    held: &Held,
-    asked: &str,
-) -> Result<(), NoMemory>
-    requires { InRange manifest.now held.now }
-{
-    match asked {
-        "chain" => {
-            let chain = latest_chain(alloc, manifest, held)?;
-            Ok(write!(text, "{chain:?}")?)
-        }
-        "gaps" => push_gaps(text, alloc, manifest, held),
-        "used" => push_used(text, manifest, held),
-        _ => push_bases(text, manifest),
-    }
-}
-
-fn told(alloc: Global, asked: &str) -> Result<String, MFault> {
+fn told(alloc: Global) -> Result<String, MFault> {
     let manifest = read_manifest(alloc, LISTED.as_bytes())?;
     let mut text = String::new(alloc);
     if let Some(held) = Held::from_rows(alloc, &manifest, &HELD)? {
-        push_told(&mut text, alloc, &manifest, &held, asked)?;
+        push_told(&mut text, alloc, &manifest, &held)?;
     }
     Ok(text)
 }
 
 #[test]
 fn a_small_manifest(rt: HostRuntime) {
-    for (asked, answer) in &TOLD {
-        assert_told(&rt, *asked, told(rt.alloc(), asked), answer);
-    }
+    assert_told(&rt, "a small manifest", told(rt.alloc()), TOLD);
 }

@@ -1,47 +1,24 @@
 //! Findings in tables that are all in memory, and an export of such.
 
 use super::asserts::assert_told;
-use super::bodies::{AFTER_D6, DATED, WITH_CHILDREN};
+use super::bodies::{DATED, WITH_CHILDREN};
 use esc_bundle::{Fault, NoMemory};
 use esc_check::{export_rows, verify};
 use esc_envelope::Kind;
 use esc_tables::{Deposit, read_deposit};
 use std::alloc::Global;
 
-/// A body, and a line for each finding in what it has.
-static FOUND: [(&str, &str); 2] = [
-    (
-        AFTER_D6,
-        "Finding { code: 1, kind: Domain, key: \"e.example\", field: \"hostName\", value: \"ns1.e.example\", other: \"host\" }
-Finding { code: 1, kind: Domain, key: \"f.example\", field: \"registrant\", value: \"C9\", other: \"contact\" }
-Finding { code: 2, kind: Domain, key: \"\", field: \"count\", value: \"3\", other: \"2\" }
-",
-    ),
-    (
-        DATED,
-        "Finding { code: 3, kind: Domain, key: \"g.example\", field: \"status\", value: \"gone\", other: \"\" }
+/// A line for each finding in what a body has.
+const FOUND: &str = "\
+Finding { code: 3, kind: Domain, key: \"g.example\", field: \"status\", value: \"gone\", other: \"\" }
 Finding { code: 4, kind: Domain, key: \"g.example\", field: \"status\", value: \"ok\", other: \"\" }
 Finding { code: 5, kind: Domain, key: \"g.example\", field: \"crDate\", value: \"2024-03-04T00:00:00Z\", other: \"2024-03-03T00:00:00Z\" }
 Finding { code: 6, kind: Domain, key: \"g.example\", field: \"exDate\", value: \"2024-03-02T00:00:00Z\", other: \"2024-03-04T00:00:00Z\" }
 Finding { code: 7, kind: Domain, key: \"h.example\", field: \"crDate\", value: \"2024-03-04\", other: \"\" }
-",
-    ),
-];
+";
 
-/// A kind, and the export of the objects of a body.
-static EXPORTED: [(Kind, &str); 2] = [
-    (
-        Kind::Registrar,
-        "kind,key,table,row,field,value
-registrar,R1,registrar,0,id,R1
-registrar,R1,registrar,0,name,
-registrar,R2,registrar,0,id,R2
-registrar,R2,registrar,0,name,\"Net, \"\"One\"\"\"
-",
-    ),
-    (
-        Kind::Domain,
-        "kind,key,table,row,field,value
+/// The export of the domains of a body.
+const EXPORTED: &str = "kind,key,table,row,field,value
 domain,e.example,domain,0,name,e.example
 domain,e.example,domainNs,1,domainName,e.example
 domain,e.example,domainNs,1,hostName,ns1.e.example
@@ -49,9 +26,7 @@ domain,e.example,domainNs,2,domainName,e.example
 domain,e.example,domainNs,2,hostName,ns2.e.example
 domain,e.example,domainStatuses,1,domainName,e.example
 domain,e.example,domainStatuses,1,status,ok
-",
-    ),
-];
+";
 
 fn findings(alloc: Global, deposit: &Deposit) -> Result<String, NoMemory> {
     let watermark = deposit.header.place.watermark;
@@ -69,9 +44,7 @@ fn found_told(alloc: Global, body: &str) -> Result<String, Fault> {
 
 #[test]
 fn what_is_found(rt: HostRuntime) {
-    for (body, told) in &FOUND {
-        assert_told(&rt, *told, found_told(rt.alloc(), body), told);
-    }
+    assert_told(&rt, "findings", found_told(rt.alloc(), DATED), FOUND);
 }
 
 fn export_told(alloc: Global, kind: Kind) -> Result<String, Fault> {
@@ -85,7 +58,6 @@ fn export_told(alloc: Global, kind: Kind) -> Result<String, Fault> {
 
 #[test]
 fn what_is_exported(rt: HostRuntime) {
-    for (kind, told) in &EXPORTED {
-        assert_told(&rt, *kind, export_told(rt.alloc(), *kind), told);
-    }
+    let found = export_told(rt.alloc(), Kind::Domain);
+    assert_told(&rt, "an export", found, EXPORTED);
 }
