@@ -1,11 +1,10 @@
 -- Moments stand in order on an axis, and within it.
-use Rattle.std.proofs.Common.{◌≡◌, ℕ, ℤ, ◌+◌, ◌*◌, ◌/◌, ◌%◌, ◌<◌, ◌≤◌, min, Bool, true, false, refl, arith}
-use Rattle.std.specs.Prelude.{◌-ℤ◌, ◌≤ℤ◌, ◌==◌, int_lt}
-use Rattle.std.specs.Int.RustNames.{unsigned_abs}
+use Rattle.std.proofs.Common.{◌≡◌, ℕ, ℤ, ◌*◌, ◌/◌, ◌<◌, ◌≤◌, min, Bool, true, false, refl, arith}
+use Rattle.std.specs.Prelude.{◌≤ℤ◌, ◌==◌}
 use Rattle.std.proofs.lemmas.Bool.{eqb-false}
 use Rattle.std.proofs.lemmas.Int.{ints}
 use Rattle.std.proofs.lemmas.Nat.{div-add-mod', div_below, le-div}
-use Rattle.esc_handover.specs.Picture.{share, since, position, IsAxis}
+use Rattle.esc_handover.specs.Picture.{share, since, IsAxis}
 
 positive : (w : ℕ) → (w == 0) ≡ false → 0 < w
 positive w e = grind (arith, eqb-false w 0 e)

@@ -1,13 +1,11 @@
 -- Names are gathered, and lines written, from one row after another.
-use Rattle.std.proofs.Common.{◌≡◌, ℕ, ◌+◌, ◌<◌, List, [], ◌∷◌, ◌++◌, length, get_or, take, drop, map, refl, sym, ap, ◌∙◌}
-use Rattle.std.specs.List.{flat_map, fold}
+use Rattle.std.proofs.Common.{◌≡◌, ℕ, ◌+◌, ◌<◌, List, [], ◌∷◌, ◌++◌, length, get_or, drop, map, refl, sym, ap, ◌∙◌}
+use Rattle.std.specs.List.{flat_map}
 use Rattle.std.proofs.lemmas.List.{drop_more}
 use Rattle.std.proofs.lemmas.List.Sums.{fold-append}
-use Rattle.esc_tables.specs.KeyName.{KeyName}
 use Rattle.esc_tables.specs.ObjectValue.{RowValue}
 use Rattle.esc_apply.specs.ObjectStreams.{Entry}
-use Rattle.esc_csv.specs.Lines.{Line, line_text, text_of}
-use Rattle.esc_handover.specs.Layouts.{TableNameValue, LayoutValue, row_fields, row_line, entry_fields, columns_of, layout_of}
+use Rattle.esc_handover.specs.Layouts.{TableNameValue, LayoutValue, entry_fields, layout_of}
 use Rattle.esc_handover.specs.Gathering.{with_name, with_names, bare, with_fields, finished}
 use Rattle.esc_handover.proofs.Names.{once_each}
 

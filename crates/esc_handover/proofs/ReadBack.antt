@@ -1,14 +1,14 @@
 -- The text of a table reads as its lines.
-use Rattle.std.proofs.Common.{◌≡◌, ℕ, List, [], ◌∷◌, ◌++◌, map, refl, ap, ◌∙◌, codes}
+use Rattle.std.proofs.Common.{◌≡◌, ℕ, List, [], ◌∷◌, ◌++◌, map, refl, ap, codes}
 use Rattle.std.specs.List.{flat_map}
 use Rattle.csv.specs.Reading.{strip_bom}
 use Rattle.csv.specs.Writing.{read_back}
 use Rattle.esc_tables.specs.KeyName.{KeyName}
 use Rattle.esc_tables.specs.ObjectValue.{RowValue}
 use Rattle.esc_apply.specs.ObjectStreams.{Entry}
-use Rattle.esc_csv.specs.Lines.{Line, text_of}
-use Rattle.esc_csv.specs.Records.{records_of, IsUnmarked}
-use Rattle.esc_handover.specs.Layouts.{LayoutValue, TableNameValue, row_line, entry_rows, entry_lines, table_lines, table_csv, TablesAreReadBack}
+use Rattle.esc_csv.specs.Lines.{Line}
+use Rattle.esc_csv.specs.Records.{IsUnmarked}
+use Rattle.esc_handover.specs.Layouts.{LayoutValue, row_line, entry_rows, entry_lines, table_lines, table_csv}
 
 -- each line has the key, and so is read as it is
 rows_back : (columns : List (List ℕ)) (k : KeyName) (rows : List RowValue) (more : List Line) → map read_back more ≡ more

@@ -1,10 +1,10 @@
 -- A table is written piece by piece.
-use Rattle.std.proofs.Common.{◌≡◌, ℕ, List, [], ◌∷◌, ◌++◌, map, Option, None, Some, refl, sym, ap, ◌∙◌, subst, append_assoc, append-nil}
+use Rattle.std.proofs.Common.{◌≡◌, ℕ, List, ◌∷◌, ◌++◌, Option, None, Some, ap, ◌∙◌, append_assoc}
 use Rattle.std.specs.List.{flat_map}
 use Rattle.std.specs.Io.KnownBytes.{Appends}
 use Rattle.std.proofs.lemmas.List.Concat.{flat_map-append}
 use Rattle.esc_apply.specs.ObjectStreams.{Entry}
-use Rattle.esc_csv.specs.Lines.{Line, line_text, text_of}
+use Rattle.esc_csv.specs.Lines.{line_text, text_of}
 use Rattle.esc_handover.specs.Layouts.{LayoutValue, entry_lines}
 
 -- a write after others

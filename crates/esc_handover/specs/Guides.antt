@@ -1,5 +1,5 @@
--- The fields by which links, statuses and dates go, and how a declared table has them (RFC 9022, RFC
--- 5731 to 5733, and this project's profile).
+-- The fields by which links, statuses and dates go, and how a declared table has them (RFC 9022,
+-- RFC 5731 to 5733, and this project's profile).
 use Rattle.std.specs.Prelude.{
   ℕ,
   List,

@@ -136,7 +136,7 @@ fn are_fields_there(objects: &[(Kind, u64)], tables: &[Table]) -> bool
     guides.iter().all(|guide| !is_wanted(objects, *guide) || is_declared(tables, *guide))
 }
 
-fn has_disguise(guide: Guide, tables: &[Table]) -> bool
+pub(crate) fn has_disguise(guide: Guide, tables: &[Table]) -> bool
     ensures { result ≡ list_any (is_disguise guide) tables.now }
 {
     tables.iter().any(|table| is_disguise(guide, table))

@@ -4,7 +4,6 @@ use crate::progress::Progress;
 use crate::rebuild::apply_deposit;
 use esc_bundle::Fault;
 use esc_envelope::{Envelope, Table};
-use esc_manifest::MRow;
 use esc_store::{SFault, Store};
 use esc_tables::{Key, Object, read_bundled_envelope, read_deposit};
 use sha2::{Digest, Sha256};
@@ -25,28 +24,13 @@ pub struct ChainFacts {
     pub are_read: bool,
 }
 
-// The digest that a row lists.
-fn listed_digest(rows: &[MRow], row: usize) -> Option<[u8; 32]> {
-    let listed = rows.get(row)?;
-    Some(listed.digest)
-}
-
-// Whether a body has this SHA-256.
-fn has_digest(body: &[u8], listed: Option<[u8; 32]>) -> bool {
-    let digest = Sha256::digest(body);
-    match listed {
-        Some(listed) => listed.as_slice() == digest.as_slice(),
-        None => false,
-    }
-}
-
 // Whether the body that a store keeps for a row has the SHA-256 that the row lists.
 fn is_as_listed<S: Alter>(alloc: Global, store: &mut Store<S>, row: usize) -> Result<bool, SFault> {
-    let listed = listed_digest(store.manifest().rows(), row);
-    match store.body_of(alloc, row)? {
-        Some(body) => Ok(has_digest(&body, listed)),
-        None => Ok(false),
-    }
+    let listed = store.manifest().rows().get(row).map(|row| row.digest);
+    let digest = store
+        .body_of(alloc, row)?
+        .map(|body| Sha256::digest(body.as_slice()));
+    Ok(digest.is_some() && digest == listed)
 }
 
 /// The rows among these whose body isn't there, or has another SHA-256 than listed. The bodies are
@@ -128,16 +112,8 @@ impl ChainFacts {
 
 // Whether two tables are declared alike, but for the key and the file.
 fn is_same_table(table: &Table, other: &Table) -> bool {
-    table.name.as_str() == other.name.as_str()
+    table.name == other.name
         && table.kind == other.kind
         && table.parent == other.parent
-        && are_same(&table.fields, &other.fields)
-}
-
-fn are_same(fields: &[String], others: &[String]) -> bool {
-    fields.len() == others.len()
-        && fields
-            .iter()
-            .zip(others)
-            .all(|(field, other)| field.as_str() == other.as_str())
+        && table.fields == other.fields
 }

@@ -1,8 +1,8 @@
 //! What a test found, in words, and what to do. No clause says how it is told.
 
-use crate::acceptance::{is_by, is_counted, is_outdated, is_passed};
+use crate::acceptance::{has_disguise, is_by, is_counted, is_outdated, is_passed};
 use crate::guide::Guide;
-use crate::guides::{is_declared, is_disguise, is_wanted};
+use crate::guides::{is_declared, is_wanted};
 use crate::seen::Seen;
 use crate::test::Test;
 use esc_bundle::NoMemory;
@@ -52,13 +52,10 @@ fn place_words(alloc: Global, place: Place) -> Result<String, NoMemory> {
 
 // The last listed place up to the moment, if any.
 fn last_listed(moment: Option<i64>, gaps: &[GapLine]) -> Option<Place> {
-    let mut last = None;
-    for line in gaps {
-        if is_by(moment, line.place.watermark) {
-            last = Some(line.place);
-        }
-    }
-    last
+    gaps.iter()
+        .filter(|line| is_by(moment, line.place.watermark))
+        .last()
+        .map(|line| line.place)
 }
 
 fn end_detail(alloc: Global, seen: &Seen<'_>) -> Result<String, NoMemory> {
@@ -70,16 +67,16 @@ fn end_detail(alloc: Global, seen: &Seen<'_>) -> Result<String, NoMemory> {
     };
     let mut text = place_words(alloc, end)?;
     if let Some(moment) = seen.moment {
-        let words = moment_words(alloc, moment)?;
-        text.push_str(", up to the moment ")?;
-        text.push_str(words.as_str())?;
+        let moment = moment_words(alloc, moment)?;
+        write!(text, ", up to the moment {moment}")?;
     }
     if let Some(last) = last_listed(seen.moment, seen.gaps) {
         if last != end {
-            let words = place_words(alloc, last)?;
-            text.push_str(", and listed up to ")?;
-            text.push_str(words.as_str())?;
-            text.push_str("; take what `restore report gaps` names")?;
+            let last = place_words(alloc, last)?;
+            write!(
+                text,
+                ", and listed up to {last}; take what `restore report gaps` names"
+            )?;
         }
     }
     Ok(text)
@@ -167,18 +164,15 @@ fn counts_detail(alloc: Global, counts: &[(Kind, u64)]) -> Result<String, NoMemo
 
 // The table and the field of a guide: the table's name, or its kind where the parent rows have it.
 fn push_guide(text: &mut String, guide: Guide) -> Result<(), NoMemory> {
-    let table = guide.child_name();
     push_item(
         text,
-        if table.is_empty() {
-            guide.kind().name()
-        } else {
-            table
+        match guide.child_name() {
+            "" => guide.kind().name(),
+            table => table,
         },
     )?;
-    text.push_str(" ")?;
-    text.push_str(guide.field_name())?;
-    Ok(())
+    let field = guide.field_name();
+    Ok(write!(text, " {field}")?)
 }
 
 fn fields_detail(alloc: Global, seen: &Seen<'_>) -> Result<String, NoMemory> {
@@ -196,14 +190,10 @@ fn fields_detail(alloc: Global, seen: &Seen<'_>) -> Result<String, NoMemory> {
     Ok(text)
 }
 
-fn has_disguise(guide: Guide, seen: &Seen<'_>) -> bool {
-    seen.tables.iter().any(|table| is_disguise(guide, table))
-}
-
 fn names_detail(alloc: Global, seen: &Seen<'_>) -> Result<String, NoMemory> {
     let mut text = String::new(alloc);
     for guide in Guide::ALL {
-        if has_disguise(guide, seen) {
+        if has_disguise(guide, seen.tables) {
             push_guide(&mut text, guide)?;
         }
     }

@@ -13,8 +13,6 @@ use std::collections::BTreeMap;
 const OVER_LIMIT: u8 = 4;
 /// U6: the id or the watermark has another form.
 const WRONG_MEMBER: u8 = 6;
-/// U7: a table has another form.
-const WRONG_TABLE: u8 = 7;
 /// U11: there are over 100,000 rows.
 const TOO_MANY_ROWS: u8 = 11;
 
@@ -35,37 +33,16 @@ struct Sheet<'a> {
     lines: Lines,
 }
 
-// Where a row stands: under this key, as its parent row or not.
-#[derive(Clone, Copy)]
-struct Stand<'a> {
-    key: &'a Key,
-    is_parent: bool,
-}
-
 fn field_of(row: &Row, at: usize) -> &str {
-    match row.cell(at) {
-        Some((field, _)) => field,
-        None => "",
-    }
+    row.cell(at).map_or("", |(field, _)| field)
 }
 
 fn text_of(row: &Row, at: usize) -> &str {
-    match row.cell(at) {
-        Some((_, text)) => text,
-        None => "",
-    }
+    row.cell(at).map_or("", |(_, text)| text)
 }
 
 fn has_same_fields(row: &Row, other: &Row) -> bool {
-    if row.len() != other.len() {
-        return false;
-    }
-    for at in 0..row.len() {
-        if field_of(row, at) != field_of(other, at) {
-            return false;
-        }
-    }
-    true
+    row.len() == other.len() && (0..row.len()).all(|at| field_of(row, at) == field_of(other, at))
 }
 
 // Whether a text is that of a key, in which the letters of a domain's or a host's name are lowered.
@@ -77,28 +54,9 @@ fn is_key(key: &Key, text: &str) -> bool {
 }
 
 impl<'a> Sheet<'a> {
-    // A table that this row is the first of, without its line.
-    fn of(alloc: Global, stand: Stand<'_>, first: &'a Row) -> Result<Sheet<'a>, NoMemory> {
-        let key = stand.key;
-        let mut keys = Vec::new(alloc);
-        for _ in 0..first.len() {
-            keys.push(true)?;
-        }
-        Ok(Sheet {
-            kind: key.kind,
-            is_parent: stand.is_parent,
-            first,
-            keys,
-            lines: Lines::new(alloc),
-        })
-    }
-
-    // Whether this row can be declared with those so far.
-    fn takes(&self, stand: Stand<'_>, row: &Row) -> bool {
-        let key = stand.key;
-        self.kind == key.kind
-            && self.is_parent == stand.is_parent
-            && has_same_fields(self.first, row)
+    // Whether this row of an object of a kind can be declared with those so far.
+    fn takes(&self, kind: Kind, is_parent: bool, row: &Row) -> bool {
+        self.kind == kind && self.is_parent == is_parent && has_same_fields(self.first, row)
     }
 
     // Adds the line of a row.
@@ -129,63 +87,53 @@ struct Draft<'a> {
 
 impl<'a> Draft<'a> {
     fn add_object(&mut self, key: &Key, object: &'a Object) -> Result<(), BundleRefusal> {
-        let stand = Stand {
-            key,
-            is_parent: true,
-        };
-        self.add_row(stand, &object.parent)?;
+        self.add_row(key, true, &object.parent)?;
         for row in &object.children {
-            let stand = Stand {
-                key,
-                is_parent: false,
-            };
-            self.add_row(stand, row)?;
+            self.add_row(key, false, row)?;
         }
         Ok(())
     }
 
-    fn add_row(&mut self, stand: Stand<'_>, row: &'a Row) -> Result<(), BundleRefusal> {
+    fn add_row(&mut self, key: &Key, is_parent: bool, row: &'a Row) -> Result<(), BundleRefusal> {
         if self.rows >= MOST_ROWS {
             return Err(BundleRefusal::Refused(TOO_MANY_ROWS));
         }
         self.rows += 1;
-        let at = self.sheet_for(stand, row)?;
-        match self.sheets.get_mut(at) {
-            Some(sheet) => Ok(sheet.add(self.alloc, stand.key, row)?),
-            None => Err(BundleRefusal::Refused(OVER_LIMIT)),
+        let at = self.sheet_for(key.kind, is_parent, row)?;
+        let Some(sheet) = self.sheets.get_mut(at) else {
+            return Err(BundleRefusal::Refused(OVER_LIMIT));
+        };
+        if !sheet.takes(key.kind, is_parent, row) {
+            return Err(BundleRefusal::Mixed(String::from_str(self.alloc, row.table())?));
         }
+        Ok(sheet.add(self.alloc, key, row)?)
     }
 
     // The index of the table of a row, which is added if there is none yet.
-    fn sheet_for(&mut self, stand: Stand<'_>, row: &'a Row) -> Result<usize, BundleRefusal> {
+    fn sheet_for(
+        &mut self,
+        kind: Kind,
+        is_parent: bool,
+        first: &'a Row,
+    ) -> Result<usize, BundleRefusal> {
         let found = self
             .sheets
             .iter()
-            .position(|sheet| sheet.first.table() == row.table());
-        let Some(at) = found else {
-            return self.new_sheet(stand, row);
-        };
-        if self.takes_at(at, stand, row) {
-            Ok(at)
-        } else {
-            let table = String::from_str(self.alloc, row.table())?;
-            Err(BundleRefusal::Mixed(table))
+            .position(|sheet| sheet.first.table() == first.table());
+        if let Some(at) = found {
+            return Ok(at);
         }
-    }
-
-    fn takes_at(&self, at: usize, stand: Stand<'_>, row: &Row) -> bool {
-        match self.sheets.get(at) {
-            Some(sheet) => sheet.takes(stand, row),
-            None => false,
-        }
-    }
-
-    fn new_sheet(&mut self, stand: Stand<'_>, row: &'a Row) -> Result<usize, BundleRefusal> {
         let at = self.sheets.len();
         if at >= MOST_TABLES {
             return Err(BundleRefusal::Refused(OVER_LIMIT));
         }
-        self.sheets.push(Sheet::of(self.alloc, stand, row)?)?;
+        self.sheets.push(Sheet {
+            kind,
+            is_parent,
+            first,
+            keys: vec![in self.alloc; true; first.len()]?,
+            lines: Lines::new(self.alloc),
+        })?;
         Ok(at)
     }
 }
@@ -210,11 +158,9 @@ fn section_name(alloc: Global, number: usize) -> Result<String, NoMemory> {
     Ok(format!(in alloc; "table-{number}.csv")?)
 }
 
-fn push_comma(text: &mut String, at: usize) -> Result<(), NoMemory> {
-    if at > 0 {
-        text.push_str(",")?;
-    }
-    Ok(())
+// What stands before the item with this number, from 0.
+fn comma(number: usize) -> &'static str {
+    if number > 0 { "," } else { "" }
 }
 
 fn push_header(
@@ -229,19 +175,17 @@ fn push_header(
     let Some(moment) = watermark_text(alloc, watermark)? else {
         return Err(BundleRefusal::Refused(WRONG_MEMBER));
     };
-    let words = format!(in alloc;
+    write!(
+        text,
         "{{\"id\":\"{id}\",\"type\":\"FULL\",\"watermark\":\"{moment}\",\"counts\":{{"
     )?;
-    text.push_str(words.as_str())?;
     Ok(())
 }
 
-fn push_counts(alloc: Global, text: &mut String, counts: &[(Kind, u64)]) -> Result<(), NoMemory> {
+fn push_counts(text: &mut String, counts: &[(Kind, u64)]) -> Result<(), NoMemory> {
     for (at, (kind, count)) in counts.iter().enumerate() {
-        push_comma(text, at)?;
-        let name = kind.name();
-        let words = format!(in alloc; "\"{name}\":{count}")?;
-        text.push_str(words.as_str())?;
+        let (comma, name) = (comma(at), kind.name());
+        write!(text, "{comma}\"{name}\":{count}")?;
     }
     text.push_str("},\"contents\":[")?;
     Ok(())
@@ -257,17 +201,16 @@ fn push_sheet(
 ) -> Result<(), BundleRefusal> {
     let table = sheet.first.table();
     let Some(key) = sheet.key_field() else {
-        let table = String::from_str(alloc, table)?;
-        return Err(BundleRefusal::Unkeyed(table));
+        return Err(BundleRefusal::Unkeyed(String::from_str(alloc, table)?));
     };
     let kind = sheet.kind.name();
     let role = if sheet.is_parent { "parent" } else { "child" };
     let file = section_name(alloc, number)?;
-    push_comma(text, number)?;
-    let words = format!(in alloc;
-        "\n{{\"name\":\"{table}\",\"kind\":\"{kind}\",\"role\":\"{role}\",\"key\":\"{key}\",\"file\":\"{file}\",\"fields\":["
+    let comma = comma(number);
+    write!(
+        text,
+        "{comma}\n{{\"name\":\"{table}\",\"kind\":\"{kind}\",\"role\":\"{role}\",\"key\":\"{key}\",\"file\":\"{file}\",\"fields\":["
     )?;
-    text.push_str(words.as_str())?;
     push_fields(text, sheet.first)?;
     text.push_str("]}")?;
     Ok(())
@@ -275,10 +218,8 @@ fn push_sheet(
 
 fn push_fields(text: &mut String, row: &Row) -> Result<(), NoMemory> {
     for at in 0..row.len() {
-        push_comma(text, at)?;
-        text.push_str("\"")?;
-        text.push_str(field_of(row, at))?;
-        text.push_str("\"")?;
+        let (comma, field) = (comma(at), field_of(row, at));
+        write!(text, "{comma}\"{field}\"")?;
     }
     Ok(())
 }
@@ -292,29 +233,12 @@ fn envelope_of(
 ) -> Result<Vec<u8>, BundleRefusal> {
     let mut text = String::new(alloc);
     push_header(alloc, &mut text, id, watermark)?;
-    push_counts(alloc, &mut text, counts)?;
+    push_counts(&mut text, counts)?;
     for (number, sheet) in sheets.iter().enumerate() {
         push_sheet(alloc, &mut text, number, sheet)?;
     }
     text.push_str("]}")?;
     Ok(text.into_bytes())
-}
-
-// Adds the section of a table.
-fn push_section(
-    alloc: Global,
-    sections: &mut Vec<(String, Vec<u8>)>,
-    number: usize,
-    sheet: Sheet<'_>,
-) -> Result<(), BundleRefusal> {
-    let table = sheet.first.table();
-    let text = sheet.lines.into_text()?;
-    if text.starts_with(MARK) {
-        let table = String::from_str(alloc, table)?;
-        return Err(BundleRefusal::Marked(table));
-    }
-    sections.push((section_name(alloc, number)?, text))?;
-    Ok(())
 }
 
 /// A bundle of these tables under this id and watermark, with these counts.
@@ -330,7 +254,12 @@ pub(crate) fn draft_bundle(
     let mut sections = Vec::new(alloc);
     sections.push((String::from_str(alloc, "envelope.json")?, envelope))?;
     for (number, sheet) in sheets.into_iter().enumerate() {
-        push_section(alloc, &mut sections, number, sheet)?;
+        let table = sheet.first.table();
+        let text = sheet.lines.into_text()?;
+        if text.starts_with(MARK) {
+            return Err(BundleRefusal::Marked(String::from_str(alloc, table)?));
+        }
+        sections.push((section_name(alloc, number)?, text))?;
     }
     Ok(write_bundle(alloc, &sections)?)
 }

@@ -9,10 +9,9 @@ use std::io::{Error, ErrorKind, Write};
 /// doesn't let the file be read and written, else `S1`. Makes no file.
 pub fn unopened_stop(rt: &HostRuntime, path: &str) -> Stop {
     let opened = File::options().read(true).write(true).open(rt, path);
-    match or_stop(rt, path, opened) {
-        Ok(_) => Stop::Store(SFault::S1),
-        Err(stop) => stop,
-    }
+    or_stop(rt, path, opened)
+        .err()
+        .unwrap_or(Stop::Store(SFault::S1))
 }
 
 /// Writes a new file: beside its place first, and from there to its place in one step, so that
@@ -27,10 +26,7 @@ fn put_file(rt: &HostRuntime, beside: &str, path: &str, bytes: &[u8]) -> Result<
         return Err(Error::from(ErrorKind::AlreadyExists));
     }
     let file = File::create_new(rt, beside)?;
-    let placed = match write_new(file, bytes) {
-        Ok(()) => fs::rename(rt, beside, path),
-        Err(error) => Err(error),
-    };
+    let placed = write_new(file, bytes).and_then(|()| fs::rename(rt, beside, path));
     if placed.is_err() {
         let _ = fs::remove_file(rt, beside);
     }

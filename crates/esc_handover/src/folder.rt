@@ -24,12 +24,7 @@ pub struct NewFolder<'a> {
 
 // Whether a folder has nothing in it.
 fn is_empty(rt: &HostRuntime, path: &str) -> Result<bool, Error> {
-    let mut entries = fs::read_dir(rt, path)?;
-    match entries.next() {
-        None => Ok(true),
-        Some(Ok(_)) => Ok(false),
-        Some(Err(error)) => Err(error),
-    }
+    Ok(fs::read_dir(rt, path)?.next().transpose()?.is_none())
 }
 
 fn find_room(rt: &HostRuntime, path: &str) -> Result<(), Error> {
@@ -102,8 +97,7 @@ impl<'a> NewFolder<'a> {
     pub(crate) fn add_sum(&mut self, name: &str) -> Result<(), Stop> {
         let digest = self.digest(name)?;
         let digest = hex::encode(self.rt.alloc(), &digest)?;
-        let line = format!(in self.rt.alloc(); "{digest}  {name}\n")?;
-        self.sums.push_str(line.as_str())?;
+        write!(self.sums, "{digest}  {name}\n")?;
         Ok(())
     }
 
@@ -139,10 +133,7 @@ impl<'a> NewFolder<'a> {
 
     /// Puts it in its place, if all that belongs in it was written; else removes it.
     pub fn finish(self, written: Result<(), Stop>) -> Result<(), Stop> {
-        let finished = match written {
-            Ok(()) => self.put(),
-            Err(stop) => Err(stop),
-        };
+        let finished = written.and_then(|()| self.put());
         if finished.is_err() {
             let _ = fs::remove_dir_all(self.rt, self.beside.as_str());
         }

@@ -52,8 +52,7 @@ fn is_for_database(alloc: Global, layout: &Layout) -> Result<bool, Stop> {
 }
 
 fn is_reserved(name: &str) -> bool {
-    match name.as_bytes().get(..RESERVED.len()) {
-        Some(front) => front.eq_ignore_ascii_case(RESERVED),
-        None => false,
-    }
+    name.as_bytes()
+        .get(..RESERVED.len())
+        .is_some_and(|front| front.eq_ignore_ascii_case(RESERVED))
 }

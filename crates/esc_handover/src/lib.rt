@@ -26,10 +26,10 @@
 //! little memory. `text_in` gives the text of a field in a row, and `repeated` finds names that are
 //! the same but for case. `digest_of` is the SHA-256 of what a reader gives.
 //!
-//! What `handover` does without its desk is here, too. [`StoreFacts`] is what a desk and the bodies of
-//! its store say: `gaps_of`, `read_findings`, `read_bodies` and `are_made_by` find it, and
-//! `answer_of` makes the lines or the page of it. `bundle_or_stop` gives the bundle, and `place_file`
-//! writes a file in one step. `check_layouts` says whether tables can be files; then
+//! What `handover` does without its desk is here, too. [`StoreFacts`] is what a desk and the bodies
+//! of its store say: `gaps_of`, `read_findings`, `read_bodies` and `are_made_by` find it, and
+//! `answer_of` makes the lines or the page of it. `bundle_or_stop` gives the bundle, and
+//! `place_file` writes a file in one step. `check_layouts` says whether tables can be files; then
 //! `write_table_file` and a [`Database`] write them to a [`NewFolder`], with their sums. A
 //! [`Progress`] tells on standard error how far that is, where it takes long. A [`Stop`] says what
 //! all of this stops for, in a line and a status.
@@ -79,7 +79,10 @@
 //!
 //! Of what touches files, a store or standard error it is proved that no call is unsafe and that
 //! each ends: no contract can say what a file holds or what is printed, so that is tested on the
-//! built program. `gaps_of` gives the lines of `esc_chain`.
+//! built program. So it is with `chain`, `database`, `detail`, `draft`, `files`, `folder`,
+//! `layout_check`, `progress`, `reading`, `registry_bundle`, `stop` and `table_file`, with
+//! `store_facts` but for `answer_of`, and with what is below `page` but for `axis`, `group` and
+//! `share`. `gaps_of` gives the lines of `esc_chain`.
 #![tactic(auto)]
 
 mod acceptance;

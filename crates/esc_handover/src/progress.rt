@@ -69,13 +69,9 @@ impl<'a> Progress<'a> {
 
     // Without a clock nothing is told of what was read.
     fn is_due(&self) -> bool {
-        let Some(told) = self.told else {
-            return false;
-        };
-        match told.elapsed(self.rt) {
-            Ok(time) => time.as_secs() >= PAUSE,
-            Err(_) => false,
-        }
+        self.told
+            .and_then(|told| told.elapsed(self.rt).ok())
+            .is_some_and(|time| time.as_secs() >= PAUSE)
     }
 }
 

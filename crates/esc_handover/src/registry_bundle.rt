@@ -11,15 +11,6 @@ use std::collections::BTreeMap;
 /// U11: there are over 100,000 rows.
 const TOO_MANY_ROWS: u8 = 11;
 
-// How many objects there are of all kinds.
-fn object_count(objects: &BTreeMap<Kind, u64>) -> u64 {
-    let mut count: u64 = 0;
-    for number in objects.values() {
-        count = count.saturating_add(*number);
-    }
-    count
-}
-
 /// `U11` of a bundle at this path, if there are more objects than it has rows. They needn't be read
 /// for that.
 pub fn check_object_count(
@@ -27,7 +18,10 @@ pub fn check_object_count(
     objects: &BTreeMap<Kind, u64>,
     path: &str,
 ) -> Result<(), Stop> {
-    if object_count(objects) > MOST_ROWS as u64 {
+    let count = objects
+        .values()
+        .fold(0u64, |count, number| count.saturating_add(*number));
+    if count > MOST_ROWS as u64 {
         let refusal = BundleRefusal::Refused(TOO_MANY_ROWS);
         return Err(Stop::unbundled(alloc, refusal, path));
     }
@@ -42,8 +36,5 @@ pub fn bundle_or_stop(
     tables: &BTreeMap<Key, Object>,
     path: &str,
 ) -> Result<Vec<u8>, Stop> {
-    match bundle_of(alloc, id, watermark, tables) {
-        Ok(text) => Ok(text),
-        Err(refusal) => Err(Stop::unbundled(alloc, refusal, path)),
-    }
+    bundle_of(alloc, id, watermark, tables).map_err(|refusal| Stop::unbundled(alloc, refusal, path))
 }

@@ -44,18 +44,15 @@ impl Stop {
         if error.kind() == ErrorKind::OutOfMemory {
             return Stop::NO_MEMORY;
         }
-        match String::from_str(rt.alloc(), path) {
-            Ok(path) => Stop::Unreadable(path),
-            Err(_) => Stop::NO_MEMORY,
-        }
+        String::from_str(rt.alloc(), path).map_or(Stop::NO_MEMORY, Stop::Unreadable)
     }
 
     /// The tables are no bundle, which was to be at this path.
     pub(crate) fn unbundled(alloc: Global, refusal: BundleRefusal, path: &str) -> Stop {
-        match String::from_str(alloc, path) {
-            Ok(path) => Stop::Unbundled { refusal, path },
-            Err(_) => Stop::NO_MEMORY,
-        }
+        String::from_str(alloc, path).map_or(
+            Stop::NO_MEMORY,
+            |path| Stop::Unbundled { refusal, path },
+        )
     }
 
     /// The program's status.
@@ -135,10 +132,7 @@ impl<T: Drop> From<AllocFailed<T>> for Stop {
 
 /// What a call at a path returned, or the stop for it: `E1 PATH`, or `S2` where memory was refused.
 pub fn or_stop<T>(rt: &HostRuntime, path: &str, outcome: Result<T, Error>) -> Result<T, Stop> {
-    match outcome {
-        Ok(value) => Ok(value),
-        Err(error) => Err(Stop::at(rt, path, &error)),
-    }
+    outcome.map_err(|error| Stop::at(rt, path, &error))
 }
 
 /// Prints what the program stops for, and returns its status. If there is no memory for the line,

@@ -141,8 +141,7 @@ fn lines_answer(alloc: Global, seen: &Seen<'_>) -> Result<Answer, NoMemory> {
     let mut text = String::new(alloc);
     let lines = lines_of(alloc, seen)?;
     for line in &lines {
-        let words = format!(in alloc; "{line}\n")?;
-        text.push_str(words.as_str())?;
+        write!(text, "{line}\n")?;
     }
     Ok(Answer {
         text: text.into_bytes(),

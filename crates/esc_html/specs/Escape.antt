@@ -1,4 +1,5 @@
--- How a text is escaped, and how what was escaped is read (HTML Standard, sections 13.1.2.3 and 13.5).
+-- How a text is escaped, and how what was escaped is read (HTML Standard, sections 13.1.2.3 and
+-- 13.5).
 use Rattle.std.specs.Prelude.{
   ℕ,
   List,
@@ -12,7 +13,6 @@ use Rattle.std.specs.Prelude.{
   Option,
   Some,
   None,
-  option_map,
   codes,
 }
 use Rattle.std.specs.List.{flat_map}

@@ -1,31 +1,10 @@
 //! `bundle --store FILE --id ID OUT`: the tables of a store as one deposit.
 
-use crate::store_file::{Task, use_store};
 use esc_cli::DONE;
 use esc_desk::Desk;
-use esc_handover::{Answer, Stop, bundle_or_stop, check_object_count, place_file};
+use esc_handover::{Answer, Stop, bundle_or_stop, check_object_count};
 use sqlite::Alter;
 use std::alloc::Global;
-
-/// The words of the command: the store, the id of the deposit, the bundle's path, and whether it is
-/// told how far the work is.
-#[derive(Clone, Copy)]
-pub struct Bundling<'a> {
-    pub store: &'a str,
-    pub id: &'a str,
-    pub target: &'a str,
-    pub is_watched: bool,
-}
-
-/// Writes the bundle, or nothing.
-pub fn write_bundle(rt: &HostRuntime, words: Bundling<'_>) -> Result<(), Stop> {
-    let task = Task::Bundle {
-        id: words.id,
-        path: words.target,
-    };
-    let made = use_store(rt, words.store, words.is_watched, task)?;
-    place_file(rt, words.target, &made.text)
-}
 
 /// The bundle of a desk's tables under this id, at the watermark of the chain's end. A path is that
 /// of the bundle. More objects than a bundle has rows aren't read.

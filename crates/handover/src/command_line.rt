@@ -1,13 +1,11 @@
 //! The words of the program, and what it does for them.
 
-use crate::bundle::{Bundling, write_bundle};
-use crate::page::{Paging, write_page};
 use crate::store_file::{Task, use_store};
-use crate::tables::{Tabling, write_tables};
+use crate::tables::Tabling;
 use clap::builder::ValueParser;
 use clap::{ArgMatches, Error};
-use esc_cli::{Argument, ArgumentForm, DONE, Program, Subcommand, USAGE, print_answer};
-use esc_handover::{Stop, or_stop, tell_stop};
+use esc_cli::{Argument, ArgumentForm, Program, Subcommand, USAGE, print_answer};
+use esc_handover::{Stop, check_place, or_stop, place_file, tell_stop};
 use std::io::Write;
 
 /// The version of the program, and that of the stores that it opens.
@@ -197,36 +195,31 @@ pub fn run_words<O: Write, E: Write>(
     }
 }
 
-// What the program is asked to do.
+// What the program is asked to do: with which store, and whether it is told how far the work is.
 #[derive(Clone, Copy)]
-enum Command<'a> {
-    Check { store: &'a str, is_watched: bool },
-    Page(Paging<'a>),
-    Bundle(Bundling<'a>),
-    Tables(Tabling<'a>),
+struct Command<'a> {
+    store: &'a str,
+    is_watched: bool,
+    task: Task<'a>,
 }
 
-// Does what is asked for. Returns the status.
+// Does what is asked for: writes what it is to write, or nothing. Returns the status.
 fn perform<O: Write>(rt: &HostRuntime, command: Command<'_>, out: &mut O) -> Result<u8, Stop> {
-    match command {
-        Command::Check { store, is_watched } => {
-            let made = use_store(rt, store, is_watched, Task::Check)?;
-            or_stop(rt, "-", out.write_all(&made.text))?;
-            Ok(made.status)
-        }
-        Command::Page(words) => {
-            write_page(rt, words)?;
-            Ok(DONE)
-        }
-        Command::Bundle(words) => {
-            write_bundle(rt, words)?;
-            Ok(DONE)
-        }
-        Command::Tables(words) => {
-            write_tables(words)?;
-            Ok(DONE)
-        }
+    let Command {
+        store,
+        is_watched,
+        task,
+    } = command;
+    if let Task::Tables(words) = task {
+        check_place(rt, words.folder)?;
     }
+    let made = use_store(rt, store, is_watched, task)?;
+    match task {
+        Task::Check => or_stop(rt, "-", out.write_all(&made.text))?,
+        Task::Page { path } | Task::Bundle { path, .. } => place_file(rt, path, &made.text)?,
+        Task::Tables(_) => {}
+    }
+    Ok(made.status)
 }
 
 // The status of what was done.
@@ -240,53 +233,35 @@ fn finish<E: Write>(rt: &HostRuntime, err: &mut E, done: Result<u8, Stop>) -> u8
 // What the matched words ask for. `clap` makes sure that there is a command with its arguments.
 fn command_of<'a>(rt: &'a HostRuntime, matches: &ArgMatches<'a>) -> Option<Command<'a>> {
     let (name, given) = matches.subcommand()?;
-    let store = given.get_str("store")?;
-    let is_watched = given.get_flag("progress");
-    match name {
-        "check" => Some(Command::Check { store, is_watched }),
-        "page" => {
-            let target = given.get_str("target")?;
-            Some(Command::Page(Paging {
-                store,
-                target,
-                is_watched,
-            }))
-        }
-        "bundle" => {
-            let id = given.get_str("id")?;
-            let target = given.get_str("target")?;
-            Some(Command::Bundle(Bundling {
-                store,
-                id,
-                target,
-                is_watched,
-            }))
-        }
-        "tables" => tables_command(rt, store, given),
-        _ => None,
-    }
+    Some(Command {
+        store: given.get_str("store")?,
+        is_watched: given.get_flag("progress"),
+        task: task_of(rt, name, given)?,
+    })
 }
 
-fn tables_command<'a>(
-    rt: &'a HostRuntime,
-    store: &'a str,
-    given: &ArgMatches<'a>,
-) -> Option<Command<'a>> {
-    let folder = given.get_str("folder")?;
-    Some(Command::Tables(Tabling {
-        rt,
-        store,
-        folder,
-        has_database: given.get_flag("sqlite"),
-        is_watched: given.get_flag("progress"),
-    }))
+fn task_of<'a>(rt: &'a HostRuntime, name: &str, given: &ArgMatches<'a>) -> Option<Task<'a>> {
+    match name {
+        "check" => Some(Task::Check),
+        "page" => Some(Task::Page {
+            path: given.get_str("target")?,
+        }),
+        "bundle" => Some(Task::Bundle {
+            id: given.get_str("id")?,
+            path: given.get_str("target")?,
+        }),
+        "tables" => Some(Task::Tables(Tabling {
+            rt,
+            folder: given.get_str("folder")?,
+            has_database: given.get_flag("sqlite"),
+        })),
+        _ => None,
+    }
 }
 
 // Prints the help or the version that was asked for, or what is wrong with the words. Returns the
 // status.
 fn tell_error<O: Write, E: Write>(rt: &HostRuntime, error: &Error, out: &mut O, err: &mut E) -> u8 {
-    match or_stop(rt, "-", print_answer(rt.alloc(), error, out, err)) {
-        Ok(status) => status,
-        Err(stop) => tell_stop(rt, err, &stop),
-    }
+    let printed = or_stop(rt, "-", print_answer(rt.alloc(), error, out, err));
+    finish(rt, err, printed)
 }

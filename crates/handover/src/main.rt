@@ -32,7 +32,6 @@
 //! | `store_file` | opens the store in a file, and closes it |
 //! | `bundle` | `bundle`: the tables as one deposit |
 //! | `check` | `check` and `page`: what is seen of a store |
-//! | `page` | `page`: a store as a page |
 //! | `tables` | `tables`: the tables as files |
 //!
 //! What needs no desk is in [`esc_handover`]: what the bodies of a store say, texts and pages, how
@@ -45,7 +44,6 @@
 mod bundle;
 mod check;
 mod command_line;
-mod page;
 mod store_file;
 mod tables;
 

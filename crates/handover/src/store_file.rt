@@ -12,14 +12,14 @@ use std::alloc::Global;
 /// What is made of a store.
 #[derive(Clone, Copy)]
 pub enum Task<'a> {
-    /// The bundle of its tables under this id; refusals name the path that it is to be at.
+    /// The bundle of its tables under this id, which is to be at this path.
     Bundle { id: &'a str, path: &'a str },
     /// The lines of its acceptance.
     Check,
     /// Nothing: its tables are written as files.
     Tables(Tabling<'a>),
-    /// A page that shows it.
-    Page,
+    /// A page that shows it, which is to be at this path.
+    Page { path: &'a str },
 }
 
 /// Does a task with the store in a file, and tells how far it is if that is asked for. What stops
@@ -59,7 +59,7 @@ fn use_desk<S: Alter>(
             (desk, made)
         }
         Task::Check => acceptance(alloc, desk, Form::Lines, progress),
-        Task::Page => acceptance(alloc, desk, Form::Page, progress),
+        Task::Page { .. } => acceptance(alloc, desk, Form::Page, progress),
         Task::Tables(words) => {
             let made = desk_tables(&mut desk, words, progress);
             (desk, made)

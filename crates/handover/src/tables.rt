@@ -1,35 +1,24 @@
 //! `tables --store FILE DIR`: the tables of a store as files.
 
-use crate::store_file::{Task, use_store};
 use esc_cli::DONE;
 use esc_desk::Desk;
 use esc_envelope::Kind;
 use esc_handover::{
-    Answer, Database, Layout, NewFolder, Progress, Stop, TableName, check_layouts, check_place,
-    read_layouts, read_table_names, write_table_file,
+    Answer, Database, Layout, NewFolder, Progress, Stop, TableName, check_layouts, read_layouts,
+    read_table_names, write_table_file,
 };
 use sqlite::Alter;
 use std::alloc::Global;
 
-/// The words of the command: the store, the folder, whether a database is made as well, and whether
-/// it is told how far the work is.
+/// The words of the command: the folder, and whether a database is made as well.
 #[derive(Clone, Copy)]
 pub struct Tabling<'a> {
     pub rt: &'a HostRuntime,
-    pub store: &'a str,
     pub folder: &'a str,
     pub has_database: bool,
-    pub is_watched: bool,
 }
 
-/// Writes the files, or nothing.
-pub fn write_tables(words: Tabling<'_>) -> Result<(), Stop> {
-    check_place(words.rt, words.folder)?;
-    use_store(words.rt, words.store, words.is_watched, Task::Tables(words))?;
-    Ok(())
-}
-
-/// Writes the tables of a desk as files.
+/// Writes the tables of a desk as files, or nothing.
 pub fn desk_tables<S: Alter>(
     desk: &mut Desk<S>,
     words: Tabling<'_>,

@@ -24,21 +24,20 @@ pub(crate) fn objects_section(alloc: Global, seen: &Seen<'_>) -> Html {
 }
 
 fn greatest(numbers: &[(Kind, u64)]) -> u64 {
-    let mut most = 0;
-    for (_, number) in numbers {
-        most = (*number).max(most);
-    }
-    most
+    numbers.iter().map(|number| number.1).max().unwrap_or(0)
 }
 
 fn number_of(numbers: &[(Kind, u64)], kind: Kind) -> Option<u64> {
-    let found = numbers.iter().find(|number| number.0 == kind)?;
-    Some(found.1)
+    numbers
+        .iter()
+        .find(|number| number.0 == kind)
+        .map(|number| number.1)
 }
 
 fn kind_cells(alloc: Global, seen: &Seen<'_>, kind: Kind, most: u64) -> Html {
     let objects = number_of(seen.objects, kind).unwrap_or(0);
-    let (declared, compared) = match number_of(seen.counts, kind) {
+    let count = number_of(seen.counts, kind);
+    let (declared, compared) = match count {
         None => (Cell::Nothing, "not declared"),
         Some(count) if count == objects => (Cell::Number(count), "as declared"),
         Some(count) => (Cell::Number(count), "otherwise than declared"),
@@ -48,7 +47,7 @@ fn kind_cells(alloc: Global, seen: &Seen<'_>, kind: Kind, most: u64) -> Html {
         alloc,
         "declared",
         14,
-        share_of(number_of(seen.counts, kind).unwrap_or(0), most),
+        share_of(count.unwrap_or(0), most),
     ));
     let picture = [
         (Attribute::Hidden, Value::Text("true")),

@@ -1,6 +1,7 @@
 //! What the sections of a page have in common.
 
 use crate::detail::{moment_words, one_line};
+use esc_bundle::NoMemory;
 use esc_html::{Attribute, Html, Tag, Value};
 use std::alloc::Global;
 
@@ -43,7 +44,12 @@ pub(crate) fn of_class(alloc: Global, tag: Tag, class: &str, inside: Html) -> Ht
 
 /// A piece, and then a moment.
 pub(crate) fn with_moment(alloc: Global, html: Html, moment: i64) -> Html {
-    match moment_words(alloc, moment) {
+    with_words(html, moment_words(alloc, moment))
+}
+
+// A piece, and then a text, unless memory was refused for it.
+fn with_words(html: Html, words: Result<String, NoMemory>) -> Html {
+    match words {
         Ok(words) => html.text(words.as_str()),
         Err(_) => html.refused(),
     }
@@ -132,17 +138,9 @@ fn cell_inside(alloc: Global, cell: Cell<'_>) -> Html {
     match cell {
         Cell::Nothing => html,
         Cell::Word(word) => html.text(word),
-        Cell::Text(text) => with_one_line(alloc, html, text),
+        Cell::Text(text) => with_words(html, one_line(alloc, text)),
         Cell::Number(number) => html.number(number),
         Cell::Moment(moment) => with_moment(alloc, html, moment),
         Cell::Fault(number) => html.text("U").number(u64::from(number)),
-    }
-}
-
-// A piece, and then a text of a deposit, on one line.
-fn with_one_line(alloc: Global, html: Html, text: &str) -> Html {
-    match one_line(alloc, text) {
-        Ok(words) => html.text(words.as_str()),
-        Err(_) => html.refused(),
     }
 }

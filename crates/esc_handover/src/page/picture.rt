@@ -54,8 +54,8 @@ pub(crate) fn state_word(state: State) -> &'static str {
     }
 }
 
-// The id of the shape that marks a state.
-fn shape_of(state: State) -> &'static str {
+/// The id of the shape that marks a state.
+pub(crate) fn shape_of(state: State) -> &'static str {
     match state {
         State::Chain => "chain",
         State::Standing => "standing",
@@ -151,14 +151,9 @@ fn lanes(alloc: Global) -> Html {
     let mut html = Html::new(alloc);
     for kind in LANES {
         let rail = rail_of(kind);
+        let name = Html::new(alloc).text(lane_name(kind));
         html = html
-            .add(label(
-                alloc,
-                "lane",
-                0,
-                rail.saturating_sub(28),
-                Html::new(alloc).text(lane_name(kind)),
-            ))
+            .add(label(alloc, "lane", 0, rail.saturating_sub(28), name))
             .add(line(alloc, "rail", (0, 1000), (rail, rail)));
     }
     html
@@ -173,8 +168,8 @@ fn label(alloc: Global, class: &str, x: u32, y: u64, text: Html) -> Html {
     Html::new(alloc).element(Tag::Label, &attributes, text)
 }
 
-// A line from one pair of ends to the other: how far along, and at which height.
-fn line(alloc: Global, class: &str, xs: (u32, u32), ys: (u64, u64)) -> Html {
+/// A line from one pair of ends to the other: how far along, and at which height.
+pub(crate) fn line(alloc: Global, class: &str, xs: (u32, u32), ys: (u64, u64)) -> Html {
     let attributes = [
         (Attribute::Class, Value::Text(class)),
         (Attribute::X1, Value::Share(xs.0)),
@@ -205,12 +200,13 @@ fn moment_line(alloc: Global, axis: Axis, moment: Option<i64>) -> Html {
     };
     let x = axis.position(moment);
     let class = if x < 500 { "moment from" } else { "moment to" };
+    let word = Html::new(alloc).text("moment");
     line(alloc, "moment", (x, x), (TOP, BOTTOM)).add(label(
         alloc,
         class,
         x,
         TOP.saturating_sub(4),
-        Html::new(alloc).text("moment"),
+        word,
     ))
 }
 
@@ -219,31 +215,16 @@ fn moment_line(alloc: Global, axis: Axis, moment: Option<i64>) -> Html {
 fn marks(alloc: Global, axis: Axis, gaps: &[GapLine]) -> Result<Html, NoMemory> {
     let mut html = Html::new(alloc);
     for kind in LANES {
-        html = html.add(marks_of_lane(alloc, axis, gaps, kind)?);
-    }
-    Ok(html)
-}
-
-fn marks_of_lane(
-    alloc: Global,
-    axis: Axis,
-    gaps: &[GapLine],
-    kind: DepositType,
-) -> Result<Html, NoMemory> {
-    let mut html = Html::new(alloc);
-    for state in STATES {
-        let look = Look {
-            kind,
-            state,
-            is_awaited: false,
-        };
-        let awaited = Look {
-            is_awaited: true,
-            ..look
-        };
-        html = html
-            .add(marks_of_look(alloc, axis, gaps, look)?)
-            .add(marks_of_look(alloc, axis, gaps, awaited)?);
+        for state in STATES {
+            for is_awaited in [false, true] {
+                let look = Look {
+                    kind,
+                    state,
+                    is_awaited,
+                };
+                html = html.add(marks_of_look(alloc, axis, gaps, look)?);
+            }
+        }
     }
     Ok(html)
 }

@@ -3,7 +3,7 @@
 use crate::page::axis::Axis;
 use crate::page::group::{Group, Grouping, groups_of};
 use crate::page::part::{Cell, leaf, of_class, row, section, table};
-use crate::page::picture::{LANES, lane_name, picture, state_word, used};
+use crate::page::picture::{LANES, lane_name, picture, shape_of, state_word, used};
 use crate::seen::Seen;
 use esc_bundle::NoMemory;
 use esc_chain::{GapLine, State};
@@ -44,44 +44,33 @@ pub(crate) fn release_section(alloc: Global, seen: &Seen<'_>) -> Result<Html, No
 
 // ---- what the marks mean
 
+// What is said of each state, after how many places have it.
+const KEY: [(State, &str); 4] = [
+    (State::Chain, " in the chain, which is the line"),
+    (
+        State::Standing,
+        " standing: a chain ends there, and it isn't the latest",
+    ),
+    (State::Blocked, " blocked: what it builds on isn't held"),
+    (State::Missing, " missing: not held"),
+];
+
 fn key(alloc: Global, gaps: &[GapLine]) -> Html {
     let awaited = gaps
         .iter()
         .filter(|line| line.awaited.is_some() && line.state != State::Missing)
         .count();
-    key_of(
-        alloc,
-        gaps,
-        State::Chain,
-        "chain",
-        " in the chain, which is the line",
-    )
-    .add(key_of(
-        alloc,
-        gaps,
-        State::Standing,
-        "standing",
-        " standing: a chain ends there, and it isn't the latest",
-    ))
-    .add(key_of(
-        alloc,
-        gaps,
-        State::Blocked,
-        "blocked",
-        " blocked: what it builds on isn't held",
-    ))
-    .add(key_of(alloc, gaps, State::Missing, "missing", " missing: not held"))
-    .add(key_point(
+    let mut html = Html::new(alloc);
+    for (state, words) in KEY {
+        let count = gaps.iter().filter(|line| line.state == state).count();
+        html = html.add(key_point(alloc, shape_of(state), count, words));
+    }
+    html.add(key_point(
         alloc,
         "awaited",
         awaited,
         " held, and a later resend is awaited",
     ))
-}
-
-fn key_of(alloc: Global, gaps: &[GapLine], state: State, shape: &str, words: &str) -> Html {
-    let count = gaps.iter().filter(|line| line.state == state).count();
-    key_point(alloc, shape, count, words)
 }
 
 fn key_point(alloc: Global, shape: &str, count: usize, words: &str) -> Html {

@@ -5,7 +5,6 @@ use crate::line::Line;
 use crate::page::part::{leaf, of_class, section, table, with_moment};
 use crate::seen::Seen;
 use esc_chain::State;
-use esc_envelope::Kind;
 use esc_html::{Attribute, Html, Tag, Value};
 use std::alloc::Global;
 
@@ -48,24 +47,20 @@ fn moment(alloc: Global, moment: Option<i64>) -> Html {
 }
 
 fn facts(alloc: Global, seen: &Seen<'_>) -> Html {
+    let objects = seen
+        .objects
+        .iter()
+        .fold(0u64, |count, of_kind| count.saturating_add(of_kind.1));
     let chain = seen
         .gaps
         .iter()
         .filter(|line| line.state == State::Chain)
         .count();
     fact(alloc, "Deposits in the chain: ", chain as u64)
-        .add(fact(alloc, "Objects: ", object_count(seen.objects)))
+        .add(fact(alloc, "Objects: ", objects))
         .add(fact(alloc, "Findings: ", seen.findings.len() as u64))
         .add(fact(alloc, "Orphans: ", seen.orphans))
         .add(fact(alloc, "Parked bodies: ", seen.parked as u64))
-}
-
-fn object_count(objects: &[(Kind, u64)]) -> u64 {
-    let mut count: u64 = 0;
-    for (_, number) in objects {
-        count = count.saturating_add(*number);
-    }
-    count
 }
 
 fn fact(alloc: Global, label: &str, number: u64) -> Html {

@@ -1,10 +1,10 @@
 //! The way of the chain through its deposits.
 
 use crate::page::axis::Axis;
-use crate::page::picture::rail_of;
+use crate::page::picture::{line, rail_of};
 use esc_chain::{GapLine, State};
-use esc_envelope::{DepositType, Place};
-use esc_html::{Attribute, Html, Tag, Value};
+use esc_envelope::DepositType;
+use esc_html::Html;
 use std::alloc::Global;
 
 // Where a deposit stands: on which lane, and how far along.
@@ -28,21 +28,8 @@ impl Stretch {
     }
 
     fn line(self, alloc: Global) -> Html {
-        let attributes = [
-            (Attribute::Class, Value::Text("way")),
-            (Attribute::X1, Value::Share(self.from.x)),
-            (Attribute::Y1, Value::Number(rail_of(self.from.kind))),
-            (Attribute::X2, Value::Share(self.to.x)),
-            (Attribute::Y2, Value::Number(rail_of(self.to.kind))),
-        ];
-        Html::new(alloc).element(Tag::Line, &attributes, Html::new(alloc))
-    }
-}
-
-fn stand_of(axis: Axis, place: Place) -> Stand {
-    Stand {
-        kind: place.kind,
-        x: axis.position(place.watermark),
+        let ys = (rail_of(self.from.kind), rail_of(self.to.kind));
+        line(alloc, "way", (self.from.x, self.to.x), ys)
     }
 }
 
@@ -50,11 +37,11 @@ fn stand_of(axis: Axis, place: Place) -> Stand {
 pub(crate) fn way(alloc: Global, axis: Axis, gaps: &[GapLine]) -> Html {
     let mut html = Html::new(alloc);
     let mut last: Option<Stretch> = None;
-    for line in gaps {
-        if line.state != State::Chain {
-            continue;
-        }
-        let to = stand_of(axis, line.place);
+    for gap in gaps.iter().filter(|gap| gap.state == State::Chain) {
+        let to = Stand {
+            kind: gap.place.kind,
+            x: axis.position(gap.place.watermark),
+        };
         last = match last {
             None => Some(Stretch { from: to, to }),
             Some(stretch) if stretch.is_along(to.kind) => Some(Stretch { to, ..stretch }),

@@ -1,4 +1,4 @@
-use Rattle.std.proofs.Common.{map, ap, sym, ◌∙◌}
+use Rattle.std.proofs.Common.{map, ap}
 use Rattle.esc_handover.proofs.Cells.{Cell, next_cell, no_cell}
 use Rattle.esc_handover.proofs.Gathered.{name_added}
 use Rattle.esc_handover.proofs.layout.add_row_fields.Goals.{in-Some+in_ok-add_name, in_default}

@@ -1,7 +1,6 @@
 use Rattle.std.proofs.Common.{List, map, sym, ap, ◌∙◌}
 use Rattle.esc_apply.specs.ObjectStreams.{Entry}
-use Rattle.esc_handover.specs.Layouts.{LayoutValue, layout_of}
-use Rattle.esc_handover.specs.Gathering.{with_fields, finished}
+use Rattle.esc_handover.specs.Gathering.{finished}
 use Rattle.esc_handover.proofs.Came.{came}
 use Rattle.esc_handover.proofs.Gathered.{all_finished, none_left, from_bare}
 use Rattle.esc_handover.proofs.layout.layouts_from.Goals as goal

@@ -1,4 +1,4 @@
-use Rattle.std.proofs.Common.{List, map, ap, ◌∙◌, string_bytes}
+use Rattle.std.proofs.Common.{map, ap, ◌∙◌, string_bytes}
 use Rattle.esc_tables.specs.ObjectValue.{RowValue}
 use Rattle.esc_handover.specs.Gathering.{with_name}
 use Rattle.esc_handover.proofs.Gathered.{name_added, next_row}

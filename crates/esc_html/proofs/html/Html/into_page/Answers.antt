@@ -1,7 +1,7 @@
 use Rattle.std.proofs.Common.{◌≡◌, ◌∙◌, ℕ, List, Option, Some, Vec, Global, option_map, sym, ap, subst}
 use Rattle.std.specs.Prelude.{IfSome}
 use Rattle.std.proofs.lemmas.Result.{IfOk-weaker}
-use Rattle.esc_html.specs.Markup.{IsMarkup, page_text, markup_text}
+use Rattle.esc_html.specs.Markup.{IsMarkup, page_text}
 use Rattle.esc_html.proofs.html.Html.into_page.Goals as goal
 
 pub returns-in-Some-clause-markup : goal.returns-in-Some-clause-markup
