@@ -30,19 +30,19 @@ fields_seen k names =
     λ j. nat_le (sym (length-map names string_bytes) j) 64
     && (sym (list_all-map is_id string_bytes names) j && (once j && sym (list_any_map (is_key k) string_bytes names) j))
 
-pairs_seen : (names others : List (String Global))
-    → list_all (λ p. bytes_eq (string_bytes p.0) (string_bytes p.1)) (zip names others)
-    ≡ list_all (λ p. bytes_eq p.0 p.1) (zip (map string_bytes names) (map string_bytes others))
-pairs_seen [] others = refl
-pairs_seen (n ∷ names) [] = refl
-pairs_seen (n ∷ names) (o ∷ others) =
-    ap (λ (b : Bool). bytes_eq (string_bytes n) (string_bytes o) && b) (pairs_seen names others)
+-- a test of pairs sees what contracts see of both
+pub pairs_seen : {A B X Y : Type 0} (f : A → X) (g : B → Y) (test : X × Y → Bool) (xs : List A) (ys : List B)
+    → list_all (λ p. test (f p.0, g p.1)) (zip xs ys) ≡ list_all test (zip (map f xs) (map g ys))
+pairs_seen f g test [] ys = refl
+pairs_seen f g test (x ∷ xs) [] = refl
+pairs_seen f g test (x ∷ xs) (y ∷ ys) = ap (λ (b : Bool). test (f x, g y) && b) (pairs_seen f g test xs ys)
 
 pub same_seen : (names others : List (String Global))
     → ((length names == length others) && list_all (λ p. bytes_eq (string_bytes p.0) (string_bytes p.1)) (zip names others))
     ≡ are_same (map string_bytes names) (map string_bytes others)
 same_seen names others =
-    λ j. (sym (length-map names string_bytes) j == sym (length-map others string_bytes) j) && pairs_seen names others j
+    λ j. (sym (length-map names string_bytes) j == sym (length-map others string_bytes) j)
+    && pairs_seen string_bytes string_bytes (λ p. bytes_eq p.0 p.1) names others j
 
 pub equal_numbers : (a b : ℕ) → a ≡ b → (a == b) ≡ true
 equal_numbers a b same = grind (arith, nat_tests)

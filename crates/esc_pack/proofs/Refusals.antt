@@ -1,25 +1,22 @@
 -- Which row, file or table is refused.
-use Rattle.std.proofs.Common.{◌≡◌, ◌∙◌, ℕ, zero, suc, ◌+◌, ◌<◌, ◌≤◌, Bool, List, [], ◌∷◌, ◌++◌, length, take, drop, get_or, refl, sym, ap, subst, arith, inl, inr, Some}
-use Rattle.std.specs.Prelude.{slice_get, ◌==◌, true, Err}
+use Rattle.std.proofs.Common.{◌≡◌, ◌∙◌, ℕ, zero, suc, ◌+◌, ◌<◌, ◌≤◌, Bool, List, [], ◌∷◌, ◌++◌, length, take, drop, get_or, refl, sym, ap, subst, arith, inl, Some}
+use Rattle.std.specs.Prelude.{slice_get, ◌==◌, true}
 use Rattle.std.specs.List.{list_all, zip}
 use Rattle.std.specs.Str.{is_utf8}
 use Rattle.std.proofs.lemmas.Bool.{and_parts}
 use Rattle.std.proofs.lemmas.Bool.Decides.{nat_tests}
-use Rattle.std.proofs.lemmas.Option.{slice_get-get_or}
+use Rattle.std.proofs.lemmas.List.{length-take}
+use Rattle.std.proofs.lemmas.Option.{slice_get-get_or, slice_get_read}
+use Rattle.std.proofs.lemmas.Slice.Zip.{length-zip}
 use Rattle.esc_csv.specs.Lines.{Line}
 use Rattle.esc_bundle.specs.declared.fault.Fault.{Fault}
 use Rattle.esc_bundle.specs.declared.fault.Fault.TheVariants.{Refused as refused_by, NoMemory as no_memory}
-use Rattle.esc_bundle.specs.Bundle.{Named, IsBundle}
-use Rattle.esc_bundle.specs.Writing.{IsUnwritten}
-use Rattle.esc_envelope.specs.Envelope.{envelope_of}
 use Rattle.esc_envelope.specs.EnvelopeValue.{TableValue}
-use Rattle.esc_tables.specs.Reading.{reading}
-use Rattle.esc_pack.specs.Bundling.{AreSectionsOf}
 use Rattle.esc_pack.specs.declared.bundle_fault.BundleFault.{BundleFault}
 use Rattle.esc_pack.specs.declared.bundle_fault.BundleFault.TheVariants.{Refused, Unmatched, Heading, Row, Marked, NoMemory}
 use Rattle.esc_pack.specs.GivenRows.{GivenTable, has_width}
-use Rattle.esc_pack.specs.BundleRefusals.{of_fault, OrNoMemory, is_table_row, IsFileRefusal, IsTableRefusal, IsTablesRefusal, IsSectionsRefusal, IsBundleRefusal}
-use Rattle.esc_pack.proofs.SectionFacts.{IsFile}
+use Rattle.esc_pack.specs.BundleRefusals.{of_fault, OrNoMemory, is_table_row, IsFileRefusal, IsTableRefusal, IsTablesRefusal}
+use Rattle.esc_pack.proofs.SectionFacts.{IsFile, pair_at}
 
 -- another reason for the same refusal
 pub or_weaker : (P Q : BundleFault → Type 0) → ((e : BundleFault) → P e → Q e) → (e : BundleFault) → OrNoMemory P e
@@ -59,23 +56,13 @@ file_refused {given} {i} {table} {heading} {text} {e} t file refused =
       subst (λ (h : Bool). IsFileRefusal t h text table i e) file.same_heading refused,
     )
 
--- two elements of one place are a pair
-zip_at : {A B : Type 0} (xs : List A) (ys : List B) (k : ℕ) {x : A} {y : B} → slice_get xs k ≡ Some x → slice_get ys k ≡ Some y
-    → slice_get (zip xs ys) k ≡ Some (x, y)
-zip_at [] ys k at_x at_y = absurd cc
-zip_at (a ∷ xs) [] k at_x at_y = absurd cc
-zip_at (a ∷ xs) (b ∷ ys) zero at_x at_y = cc
-zip_at (a ∷ xs) (b ∷ ys) (suc k) at_x at_y = zip_at xs ys k at_x at_y
-
 -- a table is refused
 pub table_refused : (tables : List TableValue) (given : List GivenTable) (first : ℕ) {i : ℕ} {t : TableValue} {g : GivenTable}
     {e : BundleFault} → i < length tables → length given ≡ length tables → t ≡ get_or tables i t → g ≡ get_or given i g
     → IsTableRefusal (t, g) (first + i) e → IsTablesRefusal (zip tables given) first e
 table_refused tables given first {i} {t} {g} lt same is_t is_g refused =
-    let table : slice_get tables i ≡ Some t = slice_get-get_or tables i t lt ∙ ap (λ (x : TableValue). Some x) (sym is_t) in
-    let inside : i < length given = omega (arith, lt, same) in
-    let files : slice_get given i ≡ Some g = slice_get-get_or given i g inside ∙ ap (λ (x : GivenTable). Some x) (sym is_g) in
-    (i, (t, g), zip_at tables given i table files, refused)
+    let pair = pair_at tables given lt same is_t is_g in
+    (i, (t, g), slice_get_read (zip tables given) _ i (t, g) refl pair.0 pair.1, refused)
 
 get_front : {A : Type 0} (front back : List A) (k : ℕ) {x : A} → slice_get front k ≡ Some x → slice_get (front ++ back) k ≡ Some x
 get_front [] back k at = absurd cc
@@ -109,28 +96,10 @@ back_refused {pairs} {first} {e} front back parts many refused =
 -- as many pairs as first tables
 pub pairs_many : {A B : Type 0} (xs : List A) (ys : List B) → length xs ≤ length ys
     → length (zip xs (take (length xs) ys)) ≡ length xs
-pairs_many [] ys le = refl
-pairs_many (a ∷ xs) [] le = absurd (omega (arith, le))
-pairs_many (a ∷ xs) (b ∷ ys) le = ap (λ (n : ℕ). suc n) (pairs_many xs ys (omega (arith, le)))
+pairs_many xs ys le = omega (arith, length-zip xs (take (length xs) ys), length-take (length xs) ys)
 
--- a description is no envelope
-pub envelope_refused : (description : List ℕ) (given : List GivenTable) (f : Fault)
-    → ((n : ℕ) → f ≡ refused_by n → envelope_of description ≡ Err n)
-    → OrNoMemory (IsSectionsRefusal description given) (of_fault f)
-envelope_refused description given (refused_by n) told = inl (n, refl, told n refl)
-envelope_refused description given no_memory told = tt
-
--- no bundle has the sections
-pub unwritten : {description : List ℕ} {given : List GivenTable} {sections : List Named} (f : Fault)
-    → AreSectionsOf description given sections → ((n : ℕ) → f ≡ refused_by n → IsUnwritten sections n)
-    → OrNoMemory (IsBundleRefusal description given) (of_fault f)
-unwritten {description} {given} {sections} (refused_by n) are told = inr (n, sections, refl, are, inl (told n refl))
-unwritten no_memory are told = tt
-
--- the bundle that has them is no deposit
-pub unread : {description : List ℕ} {given : List GivenTable} {sections : List Named} {body : List ℕ} (f : Fault)
-    → AreSectionsOf description given sections → IsBundle body sections
-    → ((n : ℕ) → f ≡ refused_by n → reading body ≡ Err n) → OrNoMemory (IsBundleRefusal description given) (of_fault f)
-unread {description} {given} {sections} {body} (refused_by n) are bundle told =
-    inr (n, sections, refl, are, inr (body, bundle, told n refl))
-unread no_memory are bundle told = tt
+-- what a body, a frame or an envelope is refused for, files are refused for
+pub fault_refused : (P : BundleFault → Type 0) (f : Fault) → ((n : ℕ) → f ≡ refused_by n → P (Refused n))
+    → OrNoMemory P (of_fault f)
+fault_refused P (refused_by n) told = told n refl
+fault_refused P no_memory told = tt

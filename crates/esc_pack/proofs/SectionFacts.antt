@@ -1,16 +1,19 @@
 -- The sections of tables, and what is read of them.
-use Rattle.std.proofs.Common.{◌≡◌, ◌≢◌, ◌∙◌, ℕ, zero, suc, ◌+◌, ◌<◌, ◌≤◌, false, ◌++◌, get_or, Result, Err, Option, Bor, refl, sym, ap, subst, arith}
-use Rattle.std.specs.Prelude.{Bool, true, List, [], ◌∷◌, length, map, take, drop, Ok, Some, All, AllPairs, nat_lt, ◌==◌, if◌then◌else◌}
-use Rattle.std.specs.List.{zip, list_all, flat_map, find}
+use Rattle.std.proofs.Common.{◌≡◌, ◌≢◌, ◌∙◌, ℕ, suc, ◌+◌, ◌<◌, ◌≤◌, false, ◌++◌, get_or, Result, Err, Option, Bor, refl, sym, ap, subst, arith}
+use Rattle.std.specs.Prelude.{Bool, true, List, [], ◌∷◌, length, map, take, drop, Ok, All, AllPairs, nat_lt, ◌==◌, if◌then◌else◌, slice_get}
+use Rattle.std.specs.List.{zip, list_all, flat_map}
 use Rattle.std.specs.Str.{bytes_eq}
 use Rattle.std.proofs.lemmas.Bool.Decides.{nat_tests}
 use Rattle.std.proofs.lemmas.Grind.{flat_map-append}
-use Rattle.std.proofs.lemmas.List.{take_more, take_all, append_assoc, append-nil, length-take, length-map, get_or-map}
+use Rattle.std.proofs.lemmas.List.{take_more, take_all, append_assoc, append-nil, map-append, length-map, get_or-map}
 use Rattle.std.proofs.lemmas.Bool.{and_parts, false_from_ne_true}
 use Rattle.std.proofs.lemmas.Slice.Eq.{bytes_eq-Decides}
 use Rattle.std.specs.Option.{option_map_or}
 use Rattle.std.proofs.lemmas.List.Elements.{All-push}
-use Rattle.std.proofs.lemmas.List.Folds.{list_all-append}
+use Rattle.std.proofs.lemmas.List.Folds.{list_all-append, find_at}
+use Rattle.std.proofs.lemmas.List.Sums.{position_or_len_is}
+use Rattle.std.proofs.lemmas.Option.{slice_get-get_or}
+use Rattle.std.proofs.lemmas.Slice.Zip.{length-zip, get_or-zip}
 use Rattle.csv.specs.Reading.{strip_bom, is_bom}
 use Rattle.csv.specs.Writing.{read_back}
 use Rattle.esc_csv.specs.Lines.{Line, text_of}
@@ -131,14 +134,14 @@ one_file_whole test {given} {i} {heading} {text} file before one =
     ap (list_all test) (more_rows file) ∙ list_all-append test (rows_before given i) (file_rows heading text)
     ∙ rw (before, one) refl
 
--- one more table beside its files
-zip_push : {A B : Type 0} (xs : List A) (ys : List B) (x : A) (y : B) → length xs ≡ length ys
-    → zip (xs ++ x ∷ []) (ys ++ y ∷ []) ≡ zip xs ys ++ (x, y) ∷ []
-zip_push [] [] x y e = refl
-zip_push [] (b ∷ ys) x y e = absurd (omega arith)
-zip_push (a ∷ xs) [] x y e = absurd (omega arith)
-zip_push {A} {B} (a ∷ xs) (b ∷ ys) x y e =
-    ap (λ (ps : List (A × B)). (a, b) ∷ ps) (zip_push xs ys x y (omega arith))
+-- a table beside its files
+pub pair_at : (tables : List TableValue) (given : List GivenTable) {i : ℕ} {t : TableValue} {g : GivenTable}
+    → i < length tables → length given ≡ length tables → t ≡ get_or tables i t → g ≡ get_or given i g
+    → (i < length (zip tables given)) × ((t, g) ≡ get_or (zip tables given) i (t, g))
+pair_at tables given {i} {t} {g} lt same is_t is_g = (
+  omega (arith, length-zip tables given),
+  (λ k. (is_t k, is_g k)) ∙ sym (get_or-zip tables given i (t, g) lt (omega arith)),
+)
 
 zip_append : {A B : Type 0} (xs more : List A) (ys : List B) → length xs ≤ length ys
     → zip (xs ++ more) ys ≡ zip xs (take (length xs) ys) ++ zip more (drop (length xs) ys)
@@ -146,20 +149,6 @@ zip_append [] more ys e = refl
 zip_append (a ∷ xs) more [] e = absurd (omega arith)
 zip_append {A} {B} (a ∷ xs) more (b ∷ ys) e =
     ap (λ (ps : List (A × B)). (a, b) ∷ ps) (zip_append xs more ys (omega arith))
-
-map_append : {A B : Type 0} (f : A → B) (xs ys : List A) → map f (xs ++ ys) ≡ map f xs ++ map f ys
-map_append f [] ys = refl
-map_append {A} {B} f (x ∷ xs) ys = ap (λ (l : List B). f x ∷ l) (map_append f xs ys)
-
--- one more table, and its files
-pub one_pair : (tables : List TableValue) (given : List GivenTable) {i : ℕ} {t : TableValue} {g : GivenTable}
-    → i < length tables → length given ≡ length tables → t ≡ get_or tables i t → g ≡ get_or given i g
-    → zip (take (i + 1) tables) (take (i + 1) given) ≡ zip (take i tables) (take i given) ++ (t, g) ∷ []
-one_pair tables given {i} {t} {g} lt same is_t is_g =
-    let more_tables : take (i + 1) tables ≡ take i tables ++ t ∷ [] = taken tables t lt is_t in
-    let more_given : take (i + 1) given ≡ take i given ++ g ∷ [] = taken given g (omega (arith, lt, same)) is_g in
-    let many : length (take i tables) ≡ length (take i given) = omega (arith, length-take i tables, length-take i given) in
-    rw (more_tables, more_given) (zip_push (take i tables) (take i given) t g many)
 
 -- the tables of an envelope beside their files: those of the contents, then those of the deletes
 pub in_parts : {e seen : EnvelopeValue} {first more : List TableValue} (given : List GivenTable)
@@ -172,17 +161,7 @@ in_parts {e} {seen} {first} {more} given view contents deletes fits =
 -- the sections of tables, a part of them after the other
 pub sections_split : {all : List (TableValue × GivenTable)} (front back : List (TableValue × GivenTable))
     → all ≡ front ++ back → map section_of all ≡ map section_of front ++ map section_of back
-sections_split front back parts = ap (map section_of) parts ∙ map_append section_of front back
-
--- the first element that passes a test
-find_first : {A : Type 0} (test : A → Bool) (xs : List A) (k : ℕ) (d : A) → k < length xs
-    → test (get_or xs k d) ≡ true → ((j : ℕ) → j < k → test (get_or xs j d) ≡ false)
-    → find test xs ≡ Some (get_or xs k d)
-find_first test [] k d lt hit others = absurd (omega (arith, lt))
-find_first test (x ∷ xs) zero d lt hit others = rw hit refl
-find_first test (x ∷ xs) (suc k) d lt hit others =
-    let later = find_first test xs k d (omega arith) hit (λ j l. others (suc j) (omega arith)) in
-    rw (others 0 (omega arith)) later
+sections_split front back parts = ap (map section_of) parts ∙ map-append section_of front back
 
 -- the section of a table is found by its name
 named_bytes : (ps : List (TableValue × GivenTable)) → AllPairs (λ s t. s.name ≢ t.name) (map section_of ps)
@@ -200,7 +179,8 @@ named_bytes ps distinct k d lt =
     λ j l.
     let differ = subst (λ (s : Named). (get_or sections j none).name ≢ s.name) (at k lt) (distinct j k none l inside) in
     false_from_ne_true _ (λ same. differ ((bytes_eq-Decides (get_or sections j none).name name).0 same)) in
-    let found = find_first has_name sections k none inside hit others in
+    let first = position_or_len_is has_name sections k none (omega arith) others (λ _. hit) in
+    let found = find_at has_name sections ∙ ap (slice_get sections) first ∙ slice_get-get_or sections k none inside in
     ap (λ (o : Option Named). option_map_or (λ s. s.bytes) o []) found ∙ ap (λ (s : Named). s.bytes) (at k lt)
 
 tables_read : (files : List Named) (ts : List TableValue) (gs : List GivenTable) → length gs ≡ length ts

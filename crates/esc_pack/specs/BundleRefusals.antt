@@ -1,29 +1,12 @@
 -- Why there is no bundle of a description and of files: each refusal is one that applies (this
 -- project's profile).
-use Rattle.std.specs.Prelude.{
-  ◌≡◌,
-  ◌⊎◌,
-  ◌+◌,
-  ℕ,
-  List,
-  Bool,
-  true,
-  false,
-  ◌==◌,
-  ◌&&◌,
-  Some,
-  Ok,
-  Err,
-  length,
-  slice_get,
-}
+use Rattle.std.specs.Prelude.{◌≡◌, ◌⊎◌, ◌+◌, ℕ, List, Bool, true, false, ◌==◌, ◌&&◌, Some, Ok, Err}
+use Rattle.std.specs.Prelude.{length, slice_get}
 use Rattle.std.specs.List.{list_all, zip}
 use Rattle.std.specs.Str.{is_utf8}
 use Rattle.esc_bundle.specs.declared.fault.Fault.{Fault}
-use Rattle.esc_bundle.specs.declared.fault.Fault.TheVariants.{
-  Refused as refused_by,
-  NoMemory as no_memory,
-}
+use Rattle.esc_bundle.specs.declared.fault.Fault.TheVariants.{Refused as refused_by}
+use Rattle.esc_bundle.specs.declared.fault.Fault.TheVariants.{NoMemory as no_memory}
 use Rattle.esc_bundle.specs.Bundle.{Named, IsBundle}
 use Rattle.esc_bundle.specs.Writing.{IsUnwritten}
 use Rattle.esc_csv.specs.Lines.{Line, text_of}
@@ -32,14 +15,9 @@ use Rattle.esc_envelope.specs.EnvelopeValue.{TableValue, EnvelopeValue}
 use Rattle.esc_envelope.specs.Envelope.{envelope_of}
 use Rattle.esc_tables.specs.Reading.{tables_of, reading}
 use Rattle.esc_pack.specs.declared.bundle_fault.BundleFault.{BundleFault}
-use Rattle.esc_pack.specs.declared.bundle_fault.BundleFault.TheVariants.{
-  Refused,
-  Unmatched,
-  Heading,
-  Row,
-  Marked,
-  NoMemory,
-}
+use Rattle.esc_pack.specs.declared.bundle_fault.BundleFault.TheVariants.{Refused, Unmatched}
+use Rattle.esc_pack.specs.declared.bundle_fault.BundleFault.TheVariants.{Heading, Row, Marked}
+use Rattle.esc_pack.specs.declared.bundle_fault.BundleFault.TheVariants.{NoMemory}
 use Rattle.esc_pack.specs.GivenRows.{GivenTable, file_rows, given_rows, IsHeaded}
 use Rattle.esc_pack.specs.Bundling.{AreSectionsOf}
 

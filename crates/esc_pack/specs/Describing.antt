@@ -45,16 +45,8 @@ use Rattle.esc_pack.specs.declared.known_table.KnownTable.{KnownTable}
 use Rattle.esc_pack.specs.declared.proposal.Why.{Why}
 use Rattle.esc_pack.specs.declared.proposal.Why.TheVariants.{Name, Heading, Other}
 use Rattle.esc_pack.specs.KnownFields.{desk_field}
-use Rattle.esc_pack.specs.KnownTables.{
-  known_tables,
-  contents_tables,
-  deletes_tables,
-  file_stem,
-  table_name,
-  table_kind,
-  is_parent,
-  is_key,
-}
+use Rattle.esc_pack.specs.KnownTables.{known_tables, contents_tables, deletes_tables, file_stem}
+use Rattle.esc_pack.specs.KnownTables.{table_name, table_kind, is_parent, is_key}
 use Rattle.esc_pack.specs.TableFiles.{SourceValue, SourcesValue, sources_of}
 
 -- a file of a folder

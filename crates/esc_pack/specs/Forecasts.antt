@@ -14,12 +14,8 @@ use Rattle.esc_manifest.specs.Listed.{as_listed, row_with_digest}
 use Rattle.esc_manifest.specs.ManifestRows.{row_at}
 use Rattle.esc_manifest.specs.RowFaults.{is_diff}
 use Rattle.esc_pack.specs.declared.forecast.Forecast.{Forecast}
-use Rattle.esc_pack.specs.declared.forecast.Forecast.TheVariants.{
-  Unlisted,
-  Unreadable,
-  Differing,
-  Holding,
-}
+use Rattle.esc_pack.specs.declared.forecast.Forecast.TheVariants.{Unlisted, Unreadable, Differing}
+use Rattle.esc_pack.specs.declared.forecast.Forecast.TheVariants.{Holding}
 use Rattle.esc_pack.specs.declared.member.Member.{Member}
 use Rattle.esc_pack.specs.declared.member.Member.TheVariants.{Id, Kind, Watermark, Resend, PrevId}
 
@@ -28,13 +24,9 @@ abbrev pub said : Result DepositValue ℕ → Result HeaderValue ℕ
 said (Ok d) = Ok d.header
 said (Err n) = Err n
 
--- what is found of a deposit with this header at row r
-abbrev pub header_forecast : List MRow → ℕ → HeaderValue → Forecast
-header_forecast m r h = if as_listed (row_at m r).header h then Holding r else Differing r h
-
--- the same of a deposit, or of the refusal of a body that is none
+-- what is found at row r of a deposit with this header, or of the refusal of a body that is none
 abbrev pub row_forecast : List MRow → ℕ → Result HeaderValue ℕ → Forecast
-row_forecast m r (Ok h) = header_forecast m r h
+row_forecast m r (Ok h) = if as_listed (row_at m r).header h then Holding r else Differing r h
 row_forecast m r (Err n) = Unreadable r n
 
 -- the same where a row has the body's SHA-256, or none has

@@ -1,21 +1,7 @@
 -- The rows that an agent's files have for a declared table (this project's profile of RFC 9022's
 -- CSV model).
-use Rattle.std.specs.Prelude.{
-  ◌≡◌,
-  ℕ,
-  List,
-  Bool,
-  length,
-  true,
-  [],
-  ◌∷◌,
-  take,
-  drop,
-  ◌==◌,
-  ◌&&◌,
-  nat_lt,
-  if◌then◌else◌,
-}
+use Rattle.std.specs.Prelude.{◌≡◌, ℕ, List, Bool, length, true, [], ◌∷◌, take, drop, ◌==◌, ◌&&◌}
+use Rattle.std.specs.Prelude.{nat_lt, if◌then◌else◌}
 use Rattle.std.specs.List.{flat_map, list_all, zip}
 use Rattle.esc_csv.specs.Lines.{Line, text_of}
 use Rattle.esc_csv.specs.Records.{records_of}

@@ -77,7 +77,7 @@ file_stem Dnssec = codes "dnssec"
 file_stem IdnLanguage = codes "idnLanguage"
 file_stem Nndn = codes "NNDN"
 
--- the name of the table that is declared
+-- the name of the table that is declared: the stem of its files, but for these
 abbrev pub table_name : KnownTable → List ℕ
 table_name RegistrarDeletes = codes "registrar"
 table_name ContactDeletes = codes "contact"
@@ -85,24 +85,12 @@ table_name HostDeletes = codes "host"
 table_name DomainDeletes = codes "domain"
 table_name IdnLanguageDeletes = codes "idn"
 table_name NndnDeletes = codes "nndn"
-table_name Registrar = codes "registrar"
-table_name Contact = codes "contact"
-table_name ContactPostal = codes "contactPostal"
-table_name ContactStatuses = codes "contactStatuses"
-table_name ContactTransfer = codes "contactTransfer"
-table_name ContactDisclose = codes "contactDisclose"
-table_name Host = codes "host"
-table_name HostAddresses = codes "hostAddresses"
-table_name HostStatuses = codes "hostStatuses"
-table_name Domain = codes "domain"
-table_name DomainContacts = codes "domainContacts"
 table_name DomainNameServers = codes "domainNs"
 table_name DomainNameServersAddresses = codes "domainHostAttr"
-table_name DomainStatuses = codes "domainStatuses"
-table_name DomainTransfer = codes "domainTransfer"
 table_name Dnssec = codes "secDNS"
 table_name IdnLanguage = codes "idn"
 table_name Nndn = codes "nndn"
+table_name k = file_stem k
 
 -- the kind of its objects
 abbrev pub table_kind : KnownTable → Kind
@@ -139,51 +127,23 @@ is_of_deletes HostDeletes = true
 is_of_deletes DomainDeletes = true
 is_of_deletes IdnLanguageDeletes = true
 is_of_deletes NndnDeletes = true
-is_of_deletes Registrar = false
-is_of_deletes Contact = false
-is_of_deletes ContactPostal = false
-is_of_deletes ContactStatuses = false
-is_of_deletes ContactTransfer = false
-is_of_deletes ContactDisclose = false
-is_of_deletes Host = false
-is_of_deletes HostAddresses = false
-is_of_deletes HostStatuses = false
-is_of_deletes Domain = false
-is_of_deletes DomainContacts = false
-is_of_deletes DomainNameServers = false
-is_of_deletes DomainNameServersAddresses = false
-is_of_deletes DomainStatuses = false
-is_of_deletes DomainTransfer = false
-is_of_deletes Dnssec = false
-is_of_deletes IdnLanguage = false
-is_of_deletes Nndn = false
+is_of_deletes k = false
 
 -- whether it is a parent table, with a row for each object or deleted key, and not a child table
 abbrev pub is_parent : KnownTable → Bool
-is_parent RegistrarDeletes = true
-is_parent ContactDeletes = true
-is_parent HostDeletes = true
-is_parent DomainDeletes = true
-is_parent IdnLanguageDeletes = true
-is_parent NndnDeletes = true
-is_parent Registrar = true
-is_parent Contact = true
 is_parent ContactPostal = false
 is_parent ContactStatuses = false
 is_parent ContactTransfer = false
 is_parent ContactDisclose = false
-is_parent Host = true
 is_parent HostAddresses = false
 is_parent HostStatuses = false
-is_parent Domain = true
 is_parent DomainContacts = false
 is_parent DomainNameServers = false
 is_parent DomainNameServersAddresses = false
 is_parent DomainStatuses = false
 is_parent DomainTransfer = false
 is_parent Dnssec = false
-is_parent IdnLanguage = true
-is_parent Nndn = true
+is_parent k = true
 
 -- the names that the key of a kind's rows has in headings
 abbrev pub key_names : Kind → List (List ℕ)

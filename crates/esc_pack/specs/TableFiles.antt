@@ -1,19 +1,7 @@
 -- The files of declared tables: two members of a declaration that the readers of a bundle pass over
 -- (this project's profile).
-use Rattle.std.specs.Prelude.{
-  ℕ,
-  List,
-  [],
-  ◌∷◌,
-  Bool,
-  false,
-  Option,
-  Some,
-  None,
-  option_map,
-  option_and_then,
-  codes,
-}
+use Rattle.std.specs.Prelude.{ℕ, List, [], ◌∷◌, Bool, false, Option, Some, None, option_map}
+use Rattle.std.specs.Prelude.{option_and_then, codes}
 use Rattle.serde_json.specs.Data.{Data}
 use Rattle.serde_json.specs.Find.{get, as_bool, as_str}
 use Rattle.esc_envelope.specs.Envelope.{json_of}

@@ -1,44 +1,20 @@
 //! The bundle of an agent's files.
 
-ghost use Rattle.std.specs.Prelude.{
-  ◌≡◌,
-  ◌+◌,
-  ◌^◌,
-  ◌<◌,
-  ◌++◌,
-  ◌∷◌,
-  [],
-  ℕ,
-  List,
-  All,
-  map,
-  length,
-  Ok,
-  Err,
-  IfOk,
-  IfErr,
-  OnOk,
-};
+ghost use Rattle.std.specs.Prelude.{◌≡◌, ◌+◌, ◌^◌, ◌<◌, ◌++◌, ◌∷◌, [], All, map, length, IfOk};
+ghost use Rattle.std.specs.Prelude.{IfErr, OnOk};
 ghost use Rattle.std.specs.List.{zip};
-ghost use Rattle.esc_bundle.specs.Bundle.{Named, IsBundle};
 ghost use Rattle.esc_bundle.specs.Writing.{named};
-ghost use Rattle.esc_tables.specs.DepositValue.{DepositValue};
-ghost use Rattle.esc_tables.specs.Reading.{tables_of, reading};
+ghost use Rattle.esc_tables.specs.Reading.{tables_of};
 ghost use Rattle.esc_pack.specs.GivenRows.{IsReadBack};
 ghost use Rattle.esc_pack.specs.Bundling.{sections_of, description_section, AreHeaded};
 ghost use Rattle.esc_pack.specs.Bundling.{AreSectionsOf, IsBundleOf};
-ghost use Rattle.esc_pack.specs.BundleRefusals.{
-  OrNoMemory,
-  IsTablesRefusal,
-  IsGivenRefusal,
-  IsSectionsRefusal,
-  IsBundleRefusal,
-};
+ghost use Rattle.esc_pack.specs.BundleRefusals.{OrNoMemory, IsTablesRefusal, IsGivenRefusal};
+ghost use Rattle.esc_pack.specs.BundleRefusals.{IsSectionsRefusal, IsBundleRefusal};
 
 use crate::bundle_fault::BundleFault;
 use crate::given::TableFiles;
 use crate::table_text::table_text;
-use esc_bundle::{Fault, NoMemory, frame_is_exact, write_bundle};
+use esc_bundle::{NoMemory, frame_is_exact, write_bundle};
 use esc_envelope::{Envelope, Table, read_envelope};
 use esc_tables::read_deposit;
 use std::alloc::Global;
@@ -129,30 +105,6 @@ fn described_sections(
     Ok(sections)
 }
 
-// The bundle of a description and of the files for the tables that it declares.
-fn described_bundle(
-    alloc: Global,
-    description: &[u8],
-    given: &[TableFiles<'_>],
-) -> Result<Vec<u8>, BundleFault>
-    ensures bundle { IfOk result (λ body. (sections : List Named)
-        × AreSectionsOf description.now given.now sections × IsBundle body.items sections) }
-    ensures refused { IfErr result (OrNoMemory (IsBundleRefusal description.now given.now)) }
-{
-    let sections = described_sections(alloc, description, given)?;
-    Ok(write_bundle(alloc, &sections)?)
-}
-
-// Reads a body as a deposit.
-fn check_deposit(alloc: Global, body: &[u8]) -> Result<(), Fault>
-    ensures read { OnOk result ((d : DepositValue) × (reading body.now ≡ Ok d)) }
-    ensures refused { IfErr result (λ e. (n : ℕ) → e ≡ Fault.Refused n
-        → reading body.now ≡ Err n) }
-{
-    read_deposit(alloc, body)?;
-    Ok(())
-}
-
 /// The bundle of a description, which is its first section as it is, and of the files that an agent
 /// sent for each table that it declares, contents before deletes. `read_deposit` reads it as
 /// exactly the deposit that the rows of these files make.
@@ -170,8 +122,9 @@ pub fn bundle_of_files(
     ensures bundled { IfOk result (λ body. IsBundleOf description.now given.now body.items) }
     ensures refused { IfErr result (OrNoMemory (IsBundleRefusal description.now given.now)) }
 {
-    let body = described_bundle(alloc, description, given)?;
-    check_deposit(alloc, &body)?;
+    let sections = described_sections(alloc, description, given)?;
+    let body = write_bundle(alloc, &sections)?;
+    read_deposit(alloc, &body)?;
     frame_is_exact();
     Ok(body)
 }

@@ -2,20 +2,9 @@
 
 ghost use Rattle.std.specs.Prelude.{◌≡◌, IfOk, OnOk, Ok, true, filter_map, option_map};
 ghost use Rattle.std.specs.List.{find};
-ghost use Rattle.esc_pack.specs.KnownTables.{
-  known_tables,
-  contents_tables,
-  deletes_tables,
-  file_stem,
-};
-ghost use Rattle.esc_pack.specs.Describing.{
-  is_file_of,
-  table_named,
-  draft_of,
-  are_proposed,
-  IsDescriptionOf,
-  IsProposalOf,
-};
+ghost use Rattle.esc_pack.specs.KnownTables.{contents_tables, deletes_tables, file_stem};
+ghost use Rattle.esc_pack.specs.Describing.{is_file_of, table_named, draft_of, are_proposed};
+ghost use Rattle.esc_pack.specs.Describing.{IsDescriptionOf, IsProposalOf};
 
 use crate::bundle_fault::BundleFault;
 use crate::draft::{Draft, are_proposed, drafts_of, unknown_files};
@@ -34,34 +23,6 @@ struct Drafts {
     deletes: Vec<Draft>,
 }
 
-// All known tables.
-#[tactic(auto, unfolding(crate::specs::KnownTables::contents_tables, crate::specs::KnownTables::deletes_tables,))]
-fn all_known() -> [KnownTable; 24]
-    ensures { result ≡ known_tables }
-{
-    KnownTable::ALL
-}
-
-// The first of these tables whose stem the name begins with.
-fn first_named<'a>(known: &'a [KnownTable], name: &str) -> Option<&'a KnownTable>
-    ensures { option_map (λ k. k.now) result
-        ≡ find (λ k. is_file_of (file_stem k) name.now) known.now }
-{
-    known.iter().find(|table| is_file_of(table.file_stem().as_bytes(), name.as_bytes()))
-}
-
-/// The known table that a file's name stands for, if any: the one whose stem it begins with, with a
-/// dash or a dot after it that `delete` doesn't follow.
-pub fn table_named(name: &str) -> Option<KnownTable>
-    ensures { result ≡ table_named name.now }
-{
-    let known = all_known();
-    match first_named(&known, name) {
-        Some(table) => Some(*table),
-        None => None,
-    }
-}
-
 // Those of contents.
 #[tactic(auto, unfolding(crate::specs::KnownTables::contents_tables))]
 fn contents_known() -> [KnownTable; 18]
@@ -76,6 +37,30 @@ fn deletes_known() -> [KnownTable; 6]
     ensures { result ≡ deletes_tables }
 {
     KnownTable::DELETES
+}
+
+// The place of the first of these tables whose stem the name begins with.
+fn place_named<'a>(known: &'a [KnownTable], name: &str) -> Option<&'a KnownTable>
+    ensures { option_map (λ k. k.now) result
+        ≡ find (λ k. is_file_of (file_stem k) name.now) known.now }
+{
+    known.iter().find(|table| is_file_of(table.file_stem().as_bytes(), name.as_bytes()))
+}
+
+// That table.
+fn first_named(known: &[KnownTable], name: &str) -> Option<KnownTable>
+    ensures { result ≡ find (λ k. is_file_of (file_stem k) name.now) known.now }
+{
+    place_named(known, name).copied()
+}
+
+/// The known table that a file's name stands for, if any: the one whose stem it begins with, with a
+/// dash or a dot after it that `delete` doesn't follow.
+pub fn table_named(name: &str) -> Option<KnownTable>
+    ensures { result ≡ table_named name.now }
+{
+    let deleted = first_named(&deletes_known(), name);
+    deleted.or(first_named(&contents_known(), name))
 }
 
 // The tables that are proposed of files.
@@ -107,13 +92,9 @@ fn check_text(alloc: Global, drafts: &Drafts, text: &[u8]) -> Result<(), BundleF
         text.now) }
 {
     let envelope = read_envelope(alloc, text)?;
-    let Some(sources) = read_sources(alloc, text)? else {
-        return Err(BundleFault::Unmatched);
-    };
-    if is_of_drafts(drafts, &envelope, &sources) {
-        Ok(())
-    } else {
-        Err(BundleFault::Unmatched)
+    match read_sources(alloc, text)? {
+        Some(sources) if is_of_drafts(drafts, &envelope, &sources) => Ok(()),
+        _ => Err(BundleFault::Unmatched),
     }
 }
 

@@ -10,9 +10,6 @@ ghost use Rattle.esc_pack.specs.Describing.{
   has_fields,
   name_in,
   draft_of,
-  is_known_as,
-  has_role,
-  has_known_key,
   is_declared_draft,
   is_filed,
   are_proposed,
@@ -128,9 +125,10 @@ fn names_in(
 {
     let mut names = Vec::new(alloc);
     for file in files {
-        if let Some(name) = name_in(alloc, table, fields, file)? {
-            names.push(name)?;
-        }
+        let Some(name) = name_in(alloc, table, fields, file)? else {
+            continue;
+        };
+        names.push(name)?;
     }
     Ok(names)
 }
@@ -164,9 +162,10 @@ pub(crate) fn drafts_of(
 {
     let mut drafts = Vec::new(alloc);
     for table in tables {
-        if let Some(draft) = draft_of(alloc, files, *table)? {
-            drafts.push(draft)?;
-        }
+        let Some(draft) = draft_of(alloc, files, *table)? else {
+            continue;
+        };
+        drafts.push(draft)?;
     }
     Ok(drafts)
 }
@@ -227,53 +226,25 @@ pub(crate) fn unknown_files(
 {
     let mut unknown = Vec::new(alloc);
     for file in files {
-        if let Some(one) = unknown_of(alloc, files, file)? {
-            unknown.push(one)?;
-        }
+        let Some(one) = unknown_of(alloc, files, file)? else {
+            continue;
+        };
+        unknown.push(one)?;
     }
     Ok(unknown)
 }
 
-// Whether a declared table has the name and the kind of this one.
-fn is_known_as(known: KnownTable, table: &Table) -> bool
-    ensures { result ≡ is_known_as known table.now }
-{
-    table.name.as_str() == known.table_name() && known.kind() == table.kind
-}
-
-// Whether it has its role.
-fn has_role(known: KnownTable, table: &Table) -> bool
-    ensures { result ≡ has_role known table.now }
-{
-    if table.parent {
-        known.is_parent()
-    } else {
-        !known.is_parent()
-    }
-}
-
-// Whether its key is one of this one's.
-fn has_key(known: KnownTable, table: &Table) -> bool
-    ensures { result ≡ has_known_key known table.now }
-{
-    known.is_key(table.fields[table.key].as_str())
-}
-
-// Whether it has just these fields.
-fn have_fields(fields: &Fields, table: &Table) -> bool
-    ensures { result ≡ are_same table.now.fields fields.now }
-{
-    are_same(&table.fields, &fields.names)
-}
-
-// Whether a table is declared as proposed.
+// Whether a table is declared as proposed: its name, its kind, its role, one of its keys and just
+// its fields.
 fn is_declared(draft: &Draft, table: &Table) -> bool
     ensures { result ≡ is_declared_draft (draft.now, table.now) }
 {
-    is_known_as(draft.table, table)
-        && has_role(draft.table, table)
-        && has_key(draft.table, table)
-        && have_fields(&draft.fields, table)
+    let known = draft.table;
+    table.name.as_str() == known.table_name()
+        && known.kind() == table.kind
+        && table.parent == known.is_parent()
+        && known.is_key(table.fields[table.key].as_str())
+        && are_same(&table.fields, &draft.fields.names)
 }
 
 // Whether the files of a table are named as proposed.

@@ -149,19 +149,13 @@ fn table_flaw(
             return Ok(format!(in alloc; "{member}: missing, or not of its form")?);
         }
     }
-    let what = if before.iter().any(|other| has_name_of(other, table)) {
+    let name = text_at(table, "name");
+    let what = if before.iter().any(|other| text_at(other, "name") == name) {
         "name: that of an earlier table"
     } else {
         "kind: that of an earlier parent table"
     };
     Ok(String::from_str(alloc, what)?)
-}
-
-fn has_name_of(other: &Value, table: &Value) -> bool {
-    match text_at(other, "name") {
-        Some(name) => text_at(table, "name") == Some(name),
-        None => false,
-    }
 }
 
 // Whether a member of a table is there and has its form. The key is one of the table's fields; where
@@ -181,10 +175,7 @@ fn is_right_in(alloc: Global, list: &str, table: &Value, member: &str) -> Result
 }
 
 fn first_as_key(alloc: Global, table: &Value) -> Result<String, NoMemory> {
-    let Some(fields) = array_of(table, "fields") else {
-        return Ok(String::new(alloc));
-    };
-    let [first, ..] = fields else {
+    let Some([first, ..]) = array_of(table, "fields") else {
         return Ok(String::new(alloc));
     };
     let key = first.to_string(alloc)?;

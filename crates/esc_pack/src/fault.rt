@@ -4,7 +4,6 @@ ghost use Rattle.std.specs.Prelude.{◌≡◌};
 ghost use Rattle.esc_pack.specs.declared.fault.ReleaseFault.TheVariants.{NoMemory as no_memory};
 
 use esc_bundle::NoMemory;
-use std::alloc::{AllocError, AllocFailed};
 use std::error::Error;
 use std::fmt;
 
@@ -33,22 +32,6 @@ impl From<NoMemory> for ReleaseFault {
     ghost from_gives = { λ _ e. e ≡ no_memory };
 
     fn from(_error: NoMemory) -> ReleaseFault {
-        ReleaseFault::NoMemory
-    }
-}
-
-impl From<AllocError> for ReleaseFault {
-    ghost from_gives = { λ _ e. e ≡ no_memory };
-
-    fn from(_error: AllocError) -> ReleaseFault {
-        ReleaseFault::NoMemory
-    }
-}
-
-impl<T: Drop> From<AllocFailed<T>> for ReleaseFault {
-    ghost from_gives = { λ _ e. e ≡ no_memory };
-
-    fn from(_error: AllocFailed<T>) -> ReleaseFault {
         ReleaseFault::NoMemory
     }
 }

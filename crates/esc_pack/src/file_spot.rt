@@ -109,26 +109,13 @@ fn section_number(at: usize) -> usize {
 
 // How many tables have this file.
 fn tables_of(envelope: &Envelope, name: &str) -> usize {
-    let contents = count_of(envelope.contents.as_slice(), name);
-    contents.saturating_add(count_of(envelope.deletes.as_slice(), name))
-}
-
-fn count_of(tables: &[Table], name: &str) -> usize {
-    tables
-        .iter()
-        .filter(|table| table.file.as_str() == name)
-        .count()
+    let tables = envelope.contents.iter().chain(&envelope.deletes);
+    tables.filter(|table| table.file.as_str() == name).count()
 }
 
 fn table_of<'a>(envelope: &'a Envelope, name: &str) -> Option<&'a Table> {
-    match table_among(envelope.contents.as_slice(), name) {
-        Some(table) => Some(table),
-        None => table_among(envelope.deletes.as_slice(), name),
-    }
-}
-
-fn table_among<'a>(tables: &'a [Table], name: &str) -> Option<&'a Table> {
-    tables.iter().find(|table| table.file.as_str() == name)
+    let mut tables = envelope.contents.iter().chain(&envelope.deletes);
+    tables.find(|table| table.file.as_str() == name)
 }
 
 // The first row, in the order of sections, that fails a test.
@@ -186,7 +173,10 @@ fn row_flaw(
     match test {
         RowTest::Whole => width_flaw(alloc, table, record),
         RowTest::Key => key_flaw(alloc, table, record),
-        RowTest::Count => count_flaw(alloc, number),
+        RowTest::Count if number > MOST_ROWS as usize => {
+            Ok(Some(String::from_str(alloc, ": more than 100,000 rows")?))
+        }
+        RowTest::Count => Ok(None),
     }
 }
 
@@ -216,18 +206,7 @@ fn key_flaw(alloc: Global, table: &Table, record: &Record) -> Result<Option<Stri
     Ok(None)
 }
 
-fn count_flaw(alloc: Global, number: usize) -> Result<Option<String>, NoMemory> {
-    if number > MOST_ROWS as usize {
-        Ok(Some(String::from_str(alloc, ": more than 100,000 rows")?))
-    } else {
-        Ok(None)
-    }
-}
-
 fn field_flaw(alloc: Global, table: &Table, place: usize, what: &str) -> Result<String, NoMemory> {
-    let name = match table.fields.get(place) {
-        Some(name) => name.as_str(),
-        None => "",
-    };
+    let name = table.fields.get(place).map_or("", |name| name.as_str());
     Ok(format!(in alloc; ", column {name}: {what}")?)
 }

@@ -4,17 +4,8 @@ ghost use Rattle.std.specs.Prelude.{◌≡◌, ◌<◌, length, not, IfOk};
 ghost use Rattle.std.specs.List.{list_all, list_any};
 ghost use Rattle.esc_tables.specs.Reading.{reading};
 ghost use Rattle.esc_manifest.specs.Listed.{as_listed};
-ghost use Rattle.esc_pack.specs.Forecasts.{
-  said,
-  header_forecast,
-  row_forecast,
-  forecast,
-  is_at_row,
-  forecast_listed_row,
-  forecast_held_row,
-  members,
-  differs,
-};
+ghost use Rattle.esc_pack.specs.Forecasts.{said, row_forecast, forecast, is_at_row};
+ghost use Rattle.esc_pack.specs.Forecasts.{forecast_listed_row, forecast_held_row, members, differs};
 
 use crate::member::Member;
 use esc_bundle::{Fault, NoMemory};
@@ -67,19 +58,9 @@ fn found(rows: &[MRow], row: usize, said: Result<Header, u8>) -> Forecast
     ensures { result ≡ row_forecast rows.now row said }
 {
     match said {
-        Ok(header) => compare(rows, row, header),
+        Ok(header) if is_as_listed(&rows[row].header, &header) => Forecast::Holding(row),
+        Ok(header) => Forecast::Differing(row, header),
         Err(number) => Forecast::Unreadable(row, number),
-    }
-}
-
-fn compare(rows: &[MRow], row: usize, header: Header) -> Forecast
-    requires { row < length rows.now }
-    ensures { result ≡ header_forecast rows.now row header }
-{
-    if is_as_listed(&rows[row].header, &header) {
-        Forecast::Holding(row)
-    } else {
-        Forecast::Differing(row, header)
     }
 }
 

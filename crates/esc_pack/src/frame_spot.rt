@@ -33,15 +33,11 @@ struct Front<'a> {
 /// Where a body is no bundle.
 pub(crate) fn frame_spot(alloc: Global, body: &[u8]) -> Result<String, NoMemory> {
     if body.len() > MOST_BYTES {
-        return flaw_text(alloc, 0, Flaw::Text("more than 16,777,216 bytes"));
+        return Ok(String::from_str(alloc, "more than 16,777,216 bytes")?);
     }
     match body.strip_prefix(FIRST_LINE) {
         Some(text) => section_spot(alloc, text),
-        None => flaw_text(
-            alloc,
-            0,
-            Flaw::Text("the first line is not \"escrow-bundle 1\""),
-        ),
+        None => Ok(String::from_str(alloc, "the first line is not \"escrow-bundle 1\"")?),
     }
 }
 
@@ -72,7 +68,11 @@ fn flaw_text(alloc: Global, number: usize, flaw: Flaw<'_>) -> Result<String, NoM
 // The name of the section at the front of a text, and what follows it.
 fn next_section<'a>(before: &[&str], text: &'a [u8]) -> Result<(&'a str, &'a [u8]), Flaw<'a>> {
     if text.starts_with(LAST_LINE) {
-        return Err(end_flaw(before));
+        return Err(Flaw::Text(if before.is_empty() {
+            "no section before the line \"end\""
+        } else {
+            "more after the line \"end\""
+        }));
     }
     let Some(front) = front_of(text) else {
         return Err(Flaw::Unnamed("no line with a name and a length"));
@@ -83,15 +83,6 @@ fn next_section<'a>(before: &[&str], text: &'a [u8]) -> Result<(&'a str, &'a [u8
     match after_section(before, name, front) {
         Ok(rest) => Ok((name, rest)),
         Err(what) => Err(Flaw::Named(name, what)),
-    }
-}
-
-// What is wrong with the last line of a body that is no bundle.
-fn end_flaw(before: &[&str]) -> Flaw<'static> {
-    if before.is_empty() {
-        Flaw::Text("no section before the line \"end\"")
-    } else {
-        Flaw::Text("more after the line \"end\"")
     }
 }
 
@@ -147,10 +138,8 @@ fn index_of(bytes: &[u8], byte: u8) -> Option<usize>
 }
 
 fn split_at_byte(bytes: &[u8], separator: u8) -> Option<(&[u8], &[u8])> {
-    match index_of(bytes, separator) {
-        Some(at) => Some((&bytes[..at], &bytes[at + 1..])),
-        None => None,
-    }
+    let at = index_of(bytes, separator)?;
+    Some((&bytes[..at], &bytes[at + 1..]))
 }
 
 fn is_length(digits: &[u8]) -> bool {
@@ -161,17 +150,8 @@ fn is_length(digits: &[u8]) -> bool {
 }
 
 fn length_of(digits: &[u8]) -> Option<usize> {
-    let text = str::from_utf8(digits).ok()?;
-    match text.parse::<usize>() {
-        Ok(length) => {
-            if length <= MOST_BYTES {
-                Some(length)
-            } else {
-                None
-            }
-        }
-        Err(_) => None,
-    }
+    let length = str::from_utf8(digits).ok()?.parse::<usize>().ok()?;
+    (length <= MOST_BYTES).then_some(length)
 }
 
 fn name_of(name: &[u8]) -> Option<&str> {

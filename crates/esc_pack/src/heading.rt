@@ -1,17 +1,7 @@
 //! The first row of a file, as the heading of a table.
 
-ghost use Rattle.std.specs.Prelude.{
-  ◌≡◌,
-  ◌==◌,
-  ◌&&◌,
-  nat_le,
-  IfOk,
-  map,
-  length,
-  count_by,
-  string_bytes,
-  true,
-};
+ghost use Rattle.std.specs.Prelude.{◌≡◌, ◌==◌, ◌&&◌, nat_le, IfOk, map, length, count_by};
+ghost use Rattle.std.specs.Prelude.{string_bytes, true};
 ghost use Rattle.std.specs.List.{list_all, list_any};
 ghost use Rattle.std.specs.Str.{bytes_eq, is_utf8};
 ghost use Rattle.esc_envelope.specs.Id.{is_id};

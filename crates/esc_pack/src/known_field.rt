@@ -3,14 +3,8 @@
 ghost use Rattle.std.specs.Prelude.{◌≡◌, ◌&&◌, option_map};
 ghost use Rattle.std.specs.List.{find};
 ghost use Rattle.std.specs.Str.{bytes_eq};
-ghost use Rattle.esc_pack.specs.KnownFields.{
-  known_fields,
-  model_name,
-  is_field_of,
-  known_field,
-  desk_field,
-  names_field,
-};
+ghost use Rattle.esc_pack.specs.KnownFields.{model_name, is_field_of, known_field, desk_field};
+ghost use Rattle.esc_pack.specs.KnownFields.{names_field};
 
 /// A field by which the desk finds links, statuses or dates. In the heading of a file it may have
 /// the name that the CSV model gives it (RFC 9022, section 4.6.2.2).
@@ -81,22 +75,9 @@ impl KnownField {
         match self {
             KnownField::ContactId => table == "domainContacts",
             KnownField::HostName => table == "domainNs",
-            KnownField::ClId
-            | KnownField::Registrant
-            | KnownField::IdnTableId
-            | KnownField::CrDate
-            | KnownField::ExDate
-            | KnownField::Status => true,
+            _ => true,
         }
     }
-}
-
-// All known fields.
-#[tactic(auto, unfolding(crate::specs::KnownFields::known_fields))]
-fn all_known() -> [KnownField; 8]
-    ensures { result ≡ known_fields }
-{
-    KnownField::ALL
 }
 
 // The first of these fields that a table has under this name.
@@ -108,14 +89,11 @@ fn first_named<'a>(known: &'a [KnownField], table: &str, name: &[u8]) -> Option<
 }
 
 // The field that a name in a heading of a table stands for, if any.
+#[tactic(auto, unfolding(crate::specs::KnownFields::known_fields))]
 fn known_field(table: &str, name: &[u8]) -> Option<KnownField>
     ensures { result ≡ known_field table.now name.now }
 {
-    let known = all_known();
-    match first_named(&known, table, name) {
-        Some(field) => Some(*field),
-        None => None,
-    }
+    first_named(&KnownField::ALL, table, name).copied()
 }
 
 /// The desk's name of what a heading of a table names; other names stay as they are.

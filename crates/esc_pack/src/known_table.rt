@@ -37,44 +37,10 @@ pub enum KnownTable {
 
 impl KnownTable {
     ghost use Rattle.std.specs.Prelude.{◌≡◌};
-    ghost use Rattle.esc_pack.specs.KnownTables.{
-      file_stem,
-      table_name,
-      table_kind,
-      is_of_deletes,
-      is_parent,
-      is_key,
-    };
+    ghost use Rattle.esc_pack.specs.KnownTables.{file_stem, table_name, table_kind, is_of_deletes};
+    ghost use Rattle.esc_pack.specs.KnownTables.{is_parent, is_key};
 
-    /// All of them. A file's name stands for one at most.
-    pub const ALL: [KnownTable; 24] = [
-        KnownTable::RegistrarDeletes,
-        KnownTable::ContactDeletes,
-        KnownTable::HostDeletes,
-        KnownTable::DomainDeletes,
-        KnownTable::IdnLanguageDeletes,
-        KnownTable::NndnDeletes,
-        KnownTable::Registrar,
-        KnownTable::Contact,
-        KnownTable::ContactPostal,
-        KnownTable::ContactStatuses,
-        KnownTable::ContactTransfer,
-        KnownTable::ContactDisclose,
-        KnownTable::Host,
-        KnownTable::HostAddresses,
-        KnownTable::HostStatuses,
-        KnownTable::Domain,
-        KnownTable::DomainContacts,
-        KnownTable::DomainNameServers,
-        KnownTable::DomainNameServersAddresses,
-        KnownTable::DomainStatuses,
-        KnownTable::DomainTransfer,
-        KnownTable::Dnssec,
-        KnownTable::IdnLanguage,
-        KnownTable::Nndn,
-    ];
-
-    /// Those of contents.
+    /// Those of contents. A file's name stands for one of all at most.
     pub const CONTENTS: [KnownTable; 18] = [
         KnownTable::Registrar,
         KnownTable::Contact,
@@ -138,29 +104,21 @@ impl KnownTable {
         }
     }
 
-    /// The name of the table that is declared.
+    /// The name of the table that is declared: mostly the stem of its files.
     pub fn table_name(self) -> &'static str
         ensures { result.now ≡ table_name self }
     {
         match self {
-            KnownTable::RegistrarDeletes | KnownTable::Registrar => "registrar",
-            KnownTable::ContactDeletes | KnownTable::Contact => "contact",
-            KnownTable::HostDeletes | KnownTable::Host => "host",
-            KnownTable::DomainDeletes | KnownTable::Domain => "domain",
+            KnownTable::RegistrarDeletes => "registrar",
+            KnownTable::ContactDeletes => "contact",
+            KnownTable::HostDeletes => "host",
+            KnownTable::DomainDeletes => "domain",
             KnownTable::IdnLanguageDeletes | KnownTable::IdnLanguage => "idn",
             KnownTable::NndnDeletes | KnownTable::Nndn => "nndn",
-            KnownTable::ContactPostal => "contactPostal",
-            KnownTable::ContactStatuses => "contactStatuses",
-            KnownTable::ContactTransfer => "contactTransfer",
-            KnownTable::ContactDisclose => "contactDisclose",
-            KnownTable::HostAddresses => "hostAddresses",
-            KnownTable::HostStatuses => "hostStatuses",
-            KnownTable::DomainContacts => "domainContacts",
             KnownTable::DomainNameServers => "domainNs",
             KnownTable::DomainNameServersAddresses => "domainHostAttr",
-            KnownTable::DomainStatuses => "domainStatuses",
-            KnownTable::DomainTransfer => "domainTransfer",
             KnownTable::Dnssec => "secDNS",
+            _ => self.file_stem(),
         }
     }
 
@@ -197,32 +155,15 @@ impl KnownTable {
     pub fn is_of_deletes(self) -> bool
         ensures { result ≡ is_of_deletes self }
     {
-        match self {
+        matches!(
+            self,
             KnownTable::RegistrarDeletes
-            | KnownTable::ContactDeletes
-            | KnownTable::HostDeletes
-            | KnownTable::DomainDeletes
-            | KnownTable::IdnLanguageDeletes
-            | KnownTable::NndnDeletes => true,
-            KnownTable::Registrar
-            | KnownTable::Contact
-            | KnownTable::ContactPostal
-            | KnownTable::ContactStatuses
-            | KnownTable::ContactTransfer
-            | KnownTable::ContactDisclose
-            | KnownTable::Host
-            | KnownTable::HostAddresses
-            | KnownTable::HostStatuses
-            | KnownTable::Domain
-            | KnownTable::DomainContacts
-            | KnownTable::DomainNameServers
-            | KnownTable::DomainNameServersAddresses
-            | KnownTable::DomainStatuses
-            | KnownTable::DomainTransfer
-            | KnownTable::Dnssec
-            | KnownTable::IdnLanguage
-            | KnownTable::Nndn => false,
-        }
+                | KnownTable::ContactDeletes
+                | KnownTable::HostDeletes
+                | KnownTable::DomainDeletes
+                | KnownTable::IdnLanguageDeletes
+                | KnownTable::NndnDeletes
+        )
     }
 
     /// Whether it is a parent table, with a row for each object or deleted key, and not a child
@@ -231,18 +172,6 @@ impl KnownTable {
         ensures { result ≡ is_parent self }
     {
         match self {
-            KnownTable::RegistrarDeletes
-            | KnownTable::ContactDeletes
-            | KnownTable::HostDeletes
-            | KnownTable::DomainDeletes
-            | KnownTable::IdnLanguageDeletes
-            | KnownTable::NndnDeletes
-            | KnownTable::Registrar
-            | KnownTable::Contact
-            | KnownTable::Host
-            | KnownTable::Domain
-            | KnownTable::IdnLanguage
-            | KnownTable::Nndn => true,
             KnownTable::ContactPostal
             | KnownTable::ContactStatuses
             | KnownTable::ContactTransfer
@@ -255,6 +184,7 @@ impl KnownTable {
             | KnownTable::DomainStatuses
             | KnownTable::DomainTransfer
             | KnownTable::Dnssec => false,
+            _ => true,
         }
     }
 

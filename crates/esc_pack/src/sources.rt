@@ -5,15 +5,8 @@ ghost use Rattle.serde_json.specs.Find.{get, as_str};
 ghost use Rattle.serde_json.specs.View.{view};
 ghost use Rattle.esc_envelope.specs.Envelope.{json_of};
 ghost use Rattle.esc_envelope.specs.DeclaredTables.{all_of};
-ghost use Rattle.esc_pack.specs.TableFiles.{
-  heading_from,
-  only_file,
-  texts_in,
-  files_from,
-  source_of,
-  sources_in,
-  sources_of,
-};
+ghost use Rattle.esc_pack.specs.TableFiles.{heading_from, only_file, texts_in, files_from};
+ghost use Rattle.esc_pack.specs.TableFiles.{source_of, sources_in, sources_of};
 
 use esc_bundle::NoMemory;
 use esc_envelope::{array_in, array_of, text_at};

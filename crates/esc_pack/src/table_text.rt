@@ -1,23 +1,7 @@
 //! The rows of an agent's files as one text.
 
-ghost use Rattle.std.specs.Prelude.{
-  ◌≡◌,
-  ◌++◌,
-  ◌∷◌,
-  ◌<◌,
-  ◌==◌,
-  ◌&&◌,
-  map,
-  length,
-  true,
-  false,
-  IfOk,
-  IfErr,
-  OnOk,
-  [],
-  take,
-  string_bytes,
-};
+ghost use Rattle.std.specs.Prelude.{◌≡◌, ◌++◌, ◌∷◌, ◌<◌, ◌==◌, ◌&&◌, map, length, true, false};
+ghost use Rattle.std.specs.Prelude.{IfOk, IfErr, OnOk, [], take, string_bytes};
 ghost use Rattle.std.specs.List.{list_all, zip};
 ghost use Rattle.csv.specs.Reading.{is_bom};
 ghost use Rattle.esc_csv.specs.Lines.{Line, line_text, text_of};
@@ -26,13 +10,8 @@ ghost use Rattle.esc_pack.specs.GivenRows.{file_rows, given_rows, has_width};
 ghost use Rattle.esc_pack.specs.GivenRows.{is_table_heading, IsHeaded, IsReadBack};
 ghost use Rattle.esc_pack.specs.KnownFields.{names_field};
 ghost use Rattle.esc_pack.specs.Bundling.{AreHeaded};
-ghost use Rattle.esc_pack.specs.BundleRefusals.{
-  OrNoMemory,
-  is_table_row,
-  IsRowRefusal,
-  IsFileRefusal,
-  IsTableRefusal,
-};
+ghost use Rattle.esc_pack.specs.BundleRefusals.{OrNoMemory, is_table_row, IsRowRefusal};
+ghost use Rattle.esc_pack.specs.BundleRefusals.{IsFileRefusal, IsTableRefusal};
 
 use crate::bundle_fault::BundleFault;
 use crate::given::TableFiles;

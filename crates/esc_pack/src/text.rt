@@ -2,7 +2,6 @@
 //! read again (`describe_files`).
 
 use crate::draft::Draft;
-use crate::known_table::KnownTable;
 use esc_bundle::NoMemory;
 use serde_json::json;
 use std::alloc::Global;
@@ -42,50 +41,31 @@ fn push_texts(
     Ok(())
 }
 
-fn push_words(
-    alloc: Global,
-    text: &mut String,
-    table: KnownTable,
-    key: &str,
-) -> Result<(), NoMemory> {
-    let (name, kind) = (table.table_name(), table.kind().name());
-    let role = if table.is_parent() { "parent" } else { "child" };
-    let words = format!(in alloc;
-        "{{\"name\":\"{name}\",\"kind\":\"{kind}\",\"role\":\"{role}\",\"key\":\"{key}\""
-    )?;
-    text.push_str(words.as_str())?;
-    Ok(())
-}
-
-// The name of the section of a table.
-fn push_section(alloc: Global, text: &mut String, table: KnownTable) -> Result<(), NoMemory> {
-    text.push_str(",\"file\":\"")?;
-    if table.is_of_deletes() {
-        text.push_str("deleted-")?;
-    }
-    let name = table.table_name().to_ascii_lowercase(alloc)?;
-    text.push_str(name.as_str())?;
-    text.push_str(".csv\",\"heading\":true")?;
-    Ok(())
-}
-
 // The first field that is a key of the table.
 fn key_field(draft: &Draft) -> &str {
-    match draft
-        .fields
-        .names
-        .iter()
+    let mut names = draft.fields.names.iter();
+    names
         .find(|name| draft.table.is_key(name.as_str()))
-    {
-        Some(key) => key.as_str(),
-        None => "",
-    }
+        .map_or("", |key| key.as_str())
 }
 
 fn push_table(alloc: Global, text: &mut String, draft: &Draft) -> Result<(), NoMemory> {
+    let (table, key) = (draft.table, key_field(draft));
+    let (name, kind) = (table.table_name(), table.kind().name());
+    let role = if table.is_parent() { "parent" } else { "child" };
+    // The name of its section.
+    let front = if table.is_of_deletes() {
+        "deleted-"
+    } else {
+        ""
+    };
+    let file = name.to_ascii_lowercase(alloc)?;
+    let words = format!(in alloc;
+        "{{\"name\":\"{name}\",\"kind\":\"{kind}\",\"role\":\"{role}\",\"key\":\"{key}\",\
+        \"file\":\"{front}{file}.csv\",\"heading\":true"
+    )?;
     push_comma(text, ",\n")?;
-    push_words(alloc, text, draft.table, key_field(draft))?;
-    push_section(alloc, text, draft.table)?;
+    text.push_str(words.as_str())?;
     push_texts(alloc, text, ",\"fields\":", &draft.fields.names)?;
     push_texts(alloc, text, ",\"from\":", &draft.files)?;
     text.push_str("}")?;

@@ -1,7 +1,7 @@
 //! A release manifest as a text.
 
 ghost use Rattle.std.specs.Prelude.{◌≡◌, ◌++◌, ◌∷◌, [], All, Some, IfOk, OnOk};
-ghost use Rattle.std.specs.Prelude.{string_bytes, unwrap_or};
+ghost use Rattle.std.specs.Prelude.{string_bytes};
 ghost use Rattle.hex.specs.Hex.{encode_lower};
 ghost use Rattle.esc_envelope.specs.Watermark.{IsInYears, watermark_text_of};
 ghost use Rattle.esc_csv.specs.Lines.{line_text};
@@ -41,15 +41,6 @@ fn digest_field(alloc: Global, digest: &[u8; 32]) -> Result<String, NoMemory>
     ensures read { OnOk result (digest_of (encode_lower digest.now) ≡ Some digest.now) }
 {
     Ok(hex::encode(alloc, digest.as_slice())?)
-}
-
-fn prev_field(row: &MRow) -> &[u8]
-    ensures { result.now ≡ unwrap_or row.now.header.prev [] }
-{
-    match &row.header.prev {
-        Some(prev) => prev.as_bytes(),
-        None => &[],
-    }
 }
 
 fn write_heading(lines: &mut Lines) -> Result<(), NoMemory>
@@ -94,7 +85,7 @@ fn write_row(alloc: Global, lines: &mut Lines, row: &MRow) -> Result<(), NoMemor
         row.header.id.as_bytes(),
         row.header.place.kind.name().as_bytes(),
         watermark.as_bytes(),
-        prev_field(row),
+        row.header.prev.as_deref().unwrap_or("").as_bytes(),
         resend.as_bytes(),
         digest.as_bytes(),
     )

@@ -23,42 +23,27 @@ pub struct Bundling<'a> {
 /// Writes the bundle, or nothing. Returns what the desk won't look at in it, in lines.
 pub fn write_bundle(rt: &HostRuntime, words: Bundling<'_>) -> Result<String, Stop> {
     let description = read_file(rt, words.envelope)?;
-    let body = described_bundle(rt, words, &description)?;
+    let sources = sources_of(rt, &description, words.envelope)?;
+    check_folder(rt, words.folder)?;
+    let body = bundle_of_sources(rt, words, &description, &sources)?;
     let unseen = unseen_fields(rt, &description)?;
     place_file(rt, words.target, &body)?;
     Ok(unseen)
 }
 
-// The bundle of the files that the description declares.
-fn described_bundle(
-    rt: &HostRuntime,
-    words: Bundling<'_>,
-    description: &[u8],
-) -> Result<Vec<u8>, Stop> {
-    let sources = sources_of(rt, description, words.envelope)?;
-    check_folder(rt, words.folder)?;
-    bundle_of_sources(rt, words, description, &sources)
-}
-
 // The sources of the tables that a description declares, contents before deletes.
 fn sources_of(rt: &HostRuntime, description: &[u8], path: &str) -> Result<Vec<Source>, Stop> {
-    let Some(found) = read_sources(rt.alloc(), description)? else {
-        return Err(undeclared(rt, description, path));
-    };
-    let sources = in_order(found)?;
-    if !have_own_files(rt, &sources)? {
-        return Err(undeclared(rt, description, path));
+    if let Some(found) = read_sources(rt.alloc(), description)? {
+        let Sources {
+            contents: mut sources,
+            mut deletes,
+        } = found;
+        sources.append(&mut deletes)?;
+        if have_own_files(rt, &sources)? {
+            return Ok(sources);
+        }
     }
-    Ok(sources)
-}
-
-fn in_order(found: Sources) -> Result<Vec<Source>, Stop> {
-    let Sources {
-        mut contents,
-        mut deletes,
-    } = found;
-    contents.append(&mut deletes)?;
-    Ok(contents)
+    Err(undeclared(rt, description, path))
 }
 
 // Whether the names in the sources are those of files in a folder, each there once: so no name
@@ -68,10 +53,7 @@ fn have_own_files(rt: &HostRuntime, sources: &[Source]) -> Result<bool, Stop> {
     for source in sources {
         for file in &source.files {
             let name = file.as_str();
-            if !is_file_name(name) {
-                return Ok(false);
-            }
-            if !names.insert(name)? {
+            if !is_file_name(name) || !names.insert(name)? {
                 return Ok(false);
             }
         }
@@ -98,6 +80,7 @@ fn undeclared(rt: &HostRuntime, description: &[u8], path: &str) -> Stop {
     }
 }
 
+// The bundle of the files that the description declares.
 fn bundle_of_sources(
     rt: &HostRuntime,
     words: Bundling<'_>,
@@ -132,63 +115,32 @@ fn given_tables<'a>(
 ) -> Result<Vec<TableFiles<'a>>, Stop> {
     let mut given = Vec::new(rt.alloc());
     for (source, files) in sources.iter().zip(tables) {
-        push_table(rt, &mut given, source.has_heading, files)?;
+        given.push(TableFiles {
+            has_heading: source.has_heading,
+            files: slices_of(rt, files)?,
+        })?;
     }
     Ok(given)
 }
 
-fn push_table<'a>(
-    rt: &HostRuntime,
-    given: &mut Vec<TableFiles<'a>>,
-    has_heading: bool,
-    files: &'a [Vec<u8>],
-) -> Result<(), Stop> {
-    let files = slices_of(rt, files)?;
-    given.push(TableFiles { has_heading, files })?;
-    Ok(())
-}
-
 // A fault, with the path that has it: a file's, the description's, or the bundle's.
 fn stop_of(rt: &HostRuntime, words: Bundling<'_>, sources: &[Source], fault: &BundleFault) -> Stop {
-    match *fault {
-        BundleFault::Refused { code: code @ 5..=7 } => Stop::at(
-            rt,
-            Refusal::Unread(code),
-            words.envelope,
-        ),
-        BundleFault::Unmatched => Stop::at(rt, Refusal::Unread(WRONG_TABLE), words.envelope),
-        BundleFault::Refused { code } => Stop::at(rt, Refusal::Unread(code), words.target),
-        BundleFault::Heading { table, file } => {
-            stop_in(
-                rt,
-                words.folder,
-                file_name(sources, table, file),
-                Refusal::Heading,
-            )
+    let (refusal, table, file) = match *fault {
+        BundleFault::Refused { code: code @ 5..=7 } => {
+            return Stop::at(rt, Refusal::Unread(code), words.envelope);
         }
-        BundleFault::Row { table, file, row } => {
-            stop_in(
-                rt,
-                words.folder,
-                file_name(sources, table, file),
-                Refusal::Row(row),
-            )
+        BundleFault::Unmatched => {
+            return Stop::at(rt, Refusal::Unread(WRONG_TABLE), words.envelope);
         }
-        BundleFault::Marked { table } => {
-            stop_in(
-                rt,
-                words.folder,
-                file_name(sources, table, 0),
-                Refusal::Marked,
-            )
+        BundleFault::Refused { code } => {
+            return Stop::at(rt, Refusal::Unread(code), words.target);
         }
-        BundleFault::NoMemory => Stop::NoMemory,
-    }
-}
-
-// A refusal of a file in the folder.
-fn stop_in(rt: &HostRuntime, folder: &str, name: &str, refusal: Refusal) -> Stop {
-    match path_in(rt.alloc(), folder, name) {
+        BundleFault::Heading { table, file } => (Refusal::Heading, table, file),
+        BundleFault::Row { table, file, row } => (Refusal::Row(row), table, file),
+        BundleFault::Marked { table } => (Refusal::Marked, table, 0),
+        BundleFault::NoMemory => return Stop::NoMemory,
+    };
+    match path_in(rt.alloc(), words.folder, file_name(sources, table, file)) {
         Ok(path) => Stop::At { refusal, path },
         Err(_) => Stop::NoMemory,
     }
@@ -196,11 +148,8 @@ fn stop_in(rt: &HostRuntime, folder: &str, name: &str, refusal: Refusal) -> Stop
 
 // The name of a file of a table.
 fn file_name(sources: &[Source], table: usize, file: usize) -> &str {
-    match sources.get(table) {
-        Some(source) => match source.files.get(file) {
-            Some(name) => name.as_str(),
-            None => "",
-        },
+    match sources.get(table).and_then(|source| source.files.get(file)) {
+        Some(name) => name.as_str(),
         None => "",
     }
 }

@@ -2,7 +2,7 @@
 
 use crate::files::{read_body, read_manifest_at};
 use crate::forecast_lines::{file_line, missing_line};
-use crate::stop::{Stop, or_stop};
+use crate::stop::{Stop, or_stop, print};
 use esc_cli::{OneLine, path_in, plain_files};
 use esc_envelope::is_id;
 use esc_manifest::Manifest;
@@ -54,18 +54,18 @@ fn check_by_rows<'a, O: Write, E: Write>(
         out,
         err,
     };
-    check.tell_unnamed(listing.unnamed)?;
-    let are_held = check.check_names(folder, &listing.names)?;
+    for _ in 0..listing.unnamed {
+        check.tell("N1", "(a name that is no UTF-8)")?;
+    }
+    let mut are_held = listing.unnamed == 0;
+    for name in &listing.names {
+        are_held &= check.check_file(folder, name.as_str())?;
+    }
     check.print_missing()?;
-    Ok(listing.unnamed == 0 && are_held)
+    Ok(are_held)
 }
 
 impl<O: Write, E: Write> Check<'_, O, E> {
-    // Prints on standard output, whose path is `-`.
-    fn print(&mut self, line: &str) -> Result<(), Stop> {
-        or_stop(self.rt, "-", self.out.write_all(line.as_bytes()))
-    }
-
     // Prints a refusal that doesn't stop the check, in the words of `restore take`. A failure of
     // standard error is ignored: there is nowhere to report it.
     fn tell(&mut self, refusal: &str, name: &str) -> Result<(), Stop> {
@@ -74,22 +74,7 @@ impl<O: Write, E: Write> Check<'_, O, E> {
         Ok(())
     }
 
-    fn tell_unnamed(&mut self, count: usize) -> Result<(), Stop> {
-        for _ in 0..count {
-            self.tell("N1", "(a name that is no UTF-8)")?;
-        }
-        Ok(())
-    }
-
-    // Looks at the files of these names, and says whether each would be held.
-    fn check_names(&mut self, folder: &str, names: &[String]) -> Result<bool, Stop> {
-        let mut are_held = true;
-        for name in names {
-            are_held &= self.check_file(folder, name.as_str())?;
-        }
-        Ok(are_held)
-    }
-
+    // Looks at the file of this name, and says whether it would be held.
     fn check_file(&mut self, folder: &str, name: &str) -> Result<bool, Stop> {
         if !is_id(name) {
             self.tell("N1", name)?;
@@ -113,7 +98,7 @@ impl<O: Write, E: Write> Check<'_, O, E> {
             name,
             body,
         )?;
-        self.print(line.as_str())?;
+        print(self.rt, self.out, line.as_bytes())?;
         let is_held = forecast.held_row().is_some();
         self.forecasts.push(forecast)?;
         Ok(is_held)
@@ -124,7 +109,7 @@ impl<O: Write, E: Write> Check<'_, O, E> {
         for (at, row) in manifest.rows().iter().enumerate() {
             if !is_there(&self.forecasts, at) {
                 let line = missing_line(self.rt, &row.header)?;
-                self.print(line.as_str())?;
+                print(self.rt, self.out, line.as_bytes())?;
             }
         }
         Ok(())

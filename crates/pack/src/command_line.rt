@@ -109,6 +109,15 @@ A-Z a-z 0-9 . _ -) and E2 NAME (over 16,777,216 bytes). M10 row 2 is a FILE that
 status is 0 if each file is A1, even if there is no file for a row.
 ";
 
+/// The folder of three of the commands.
+const FOLDER: Argument = Argument {
+    id: "folder",
+    form: ArgumentForm::Word,
+    value_name: "DIR",
+    values: ValueParser::String,
+    help: "The folder of the files",
+};
+
 static PROGRAM: Program = Program {
     name: "pack",
     version: VERSION,
@@ -140,13 +149,7 @@ static PROGRAM: Program = Program {
                     values: ValueParser::String,
                     help: "The description of the tables",
                 },
-                Argument {
-                    id: "folder",
-                    form: ArgumentForm::Word,
-                    value_name: "DIR",
-                    values: ValueParser::String,
-                    help: "The folder of the files",
-                },
+                FOLDER,
                 Argument {
                     id: "target",
                     form: ArgumentForm::Word,
@@ -160,13 +163,7 @@ static PROGRAM: Program = Program {
             name: "describe",
             about: "Proposes a description of a folder's CSV files, by their names and their headings",
             details: Some(PROPOSAL),
-            arguments: &[Argument {
-                id: "folder",
-                form: ArgumentForm::Word,
-                value_name: "DIR",
-                values: ValueParser::String,
-                help: "The folder of the files",
-            }],
+            arguments: &[FOLDER],
         },
         Subcommand {
             name: "check",
@@ -180,13 +177,7 @@ static PROGRAM: Program = Program {
                     values: ValueParser::String,
                     help: "The release manifest",
                 },
-                Argument {
-                    id: "folder",
-                    form: ArgumentForm::Word,
-                    value_name: "DIR",
-                    values: ValueParser::String,
-                    help: "The folder of the files",
-                },
+                FOLDER,
             ],
         },
     ],
@@ -213,36 +204,23 @@ pub fn run_words<O: Write, E: Write>(
 fn task_of<'m, 'a>(matches: &'m ArgMatches<'a>) -> Option<Task<'m, 'a>> {
     let (name, given) = matches.subcommand()?;
     match name {
-        "manifest" => {
-            let paths = given.get_strs("bundle")?;
-            Some(Task::Manifest { paths })
-        }
-        "bundle" => {
-            let bundling = bundling_of(given)?;
-            Some(Task::Bundle(bundling))
-        }
-        "describe" => {
-            let folder = given.get_str("folder")?;
-            Some(Task::Describe { folder })
-        }
-        "check" => {
-            let manifest = given.get_str("manifest")?;
-            let folder = given.get_str("folder")?;
-            Some(Task::Check(Checking { manifest, folder }))
-        }
+        "manifest" => Some(Task::Manifest {
+            paths: given.get_strs("bundle")?,
+        }),
+        "bundle" => Some(Task::Bundle(Bundling {
+            envelope: given.get_str("envelope")?,
+            folder: given.get_str("folder")?,
+            target: given.get_str("target")?,
+        })),
+        "describe" => Some(Task::Describe {
+            folder: given.get_str("folder")?,
+        }),
+        "check" => Some(Task::Check(Checking {
+            manifest: given.get_str("manifest")?,
+            folder: given.get_str("folder")?,
+        })),
         _ => None,
     }
-}
-
-fn bundling_of<'a>(given: &ArgMatches<'a>) -> Option<Bundling<'a>> {
-    let envelope = given.get_str("envelope")?;
-    let folder = given.get_str("folder")?;
-    let target = given.get_str("target")?;
-    Some(Bundling {
-        envelope,
-        folder,
-        target,
-    })
 }
 
 // Does what is asked for. Returns the status.
@@ -288,11 +266,8 @@ fn print_check<O: Write, E: Write>(
     out: &mut O,
     err: &mut E,
 ) -> Result<u8, Stop> {
-    if check_files(rt, words, out, err)? {
-        Ok(DONE)
-    } else {
-        Ok(REFUSED)
-    }
+    let are_held = check_files(rt, words, out, err)?;
+    Ok(if are_held { DONE } else { REFUSED })
 }
 
 // `manifest BUNDLE..`: the release manifest is printed.

@@ -44,17 +44,14 @@ fn proposal_of(rt: &HostRuntime, folder: &str, names: &[String]) -> Result<Propo
 fn read_known(rt: &HostRuntime, folder: &str, names: &[String]) -> Result<Vec<Vec<u8>>, Stop> {
     let mut bodies = Vec::new(rt.alloc());
     for name in names {
-        bodies.push(bytes_if_known(rt, folder, name.as_str())?)?;
+        let bytes = if table_named(name.as_str()).is_some() {
+            read_named(rt, folder, name.as_str())?
+        } else {
+            Vec::new(rt.alloc())
+        };
+        bodies.push(bytes)?;
     }
     Ok(bodies)
-}
-
-fn bytes_if_known(rt: &HostRuntime, folder: &str, name: &str) -> Result<Vec<u8>, Stop> {
-    if table_named(name).is_some() {
-        read_named(rt, folder, name)
-    } else {
-        Ok(Vec::new(rt.alloc()))
-    }
 }
 
 fn named_files<'a>(
@@ -76,24 +73,14 @@ fn named_files<'a>(
 fn untold(rt: &HostRuntime, files: &[Unknown], unnamed: usize) -> Result<String, Stop> {
     let mut lines = String::from_str(rt.alloc(), UNTOLD)?;
     for file in files {
-        push_file(rt, &mut lines, file)?;
+        // A name is printed as Rust writes a string, so that it is one line whatever it has.
+        let (name, why) = (file.name.as_str(), file.why);
+        let line = format!(in rt.alloc(); "unknown file {name:?}: {why}\n")?;
+        lines.push_str(line.as_str())?;
     }
     if unnamed > 0 {
-        push_unnamed(rt, &mut lines, unnamed)?;
+        let line = format!(in rt.alloc(); "unknown files: {unnamed} whose names are no UTF-8\n")?;
+        lines.push_str(line.as_str())?;
     }
     Ok(lines)
-}
-
-// A name is printed as Rust writes a string, so that it is one line whatever it has.
-fn push_file(rt: &HostRuntime, lines: &mut String, file: &Unknown) -> Result<(), Stop> {
-    let (name, why) = (file.name.as_str(), file.why);
-    let line = format!(in rt.alloc(); "unknown file {name:?}: {why}\n")?;
-    lines.push_str(line.as_str())?;
-    Ok(())
-}
-
-fn push_unnamed(rt: &HostRuntime, lines: &mut String, unnamed: usize) -> Result<(), Stop> {
-    let line = format!(in rt.alloc(); "unknown files: {unnamed} whose names are no UTF-8\n")?;
-    lines.push_str(line.as_str())?;
-    Ok(())
 }

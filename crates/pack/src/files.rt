@@ -3,7 +3,7 @@
 use crate::stop::{Refusal, Stop, or_stop};
 use esc_bundle::MOST_BYTES;
 use esc_cli::{Links, path_in, read_front, read_whole};
-use esc_manifest::{MFault, Manifest, read_manifest};
+use esc_manifest::{MFault, MOST_MANIFEST_BYTES, Manifest, read_manifest};
 use std::fs::{self, File};
 use std::io::{Error, ErrorKind, Write};
 
@@ -49,12 +49,7 @@ pub fn read_body(rt: &HostRuntime, path: &str) -> Result<Option<Vec<u8>>, Stop> 
 /// The manifest in a file. Of one that is too long only the first bytes are read, one more than a
 /// manifest has at most.
 pub fn read_manifest_at(rt: &HostRuntime, path: &str) -> Result<Manifest, Stop> {
-    let front = read_front(
-        rt,
-        path,
-        Links::Followed,
-        esc_manifest::MOST_MANIFEST_BYTES as u64,
-    );
+    let front = read_front(rt, path, Links::Followed, MOST_MANIFEST_BYTES as u64);
     let text = or_stop(rt, path, front)?;
     match read_manifest(rt.alloc(), &text) {
         Ok(manifest) => Ok(manifest),

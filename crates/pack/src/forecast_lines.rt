@@ -14,14 +14,33 @@ pub fn file_line(
     number: &str,
     body: &[u8],
 ) -> Result<String, Stop> {
+    let alloc = rt.alloc();
     let found = match forecast {
-        Forecast::Holding(row) => held_text(rt, manifest, *row, is_held(before, *row))?,
-        Forecast::Differing(row, said) => differing_text(rt, manifest, *row, said)?,
-        Forecast::Unreadable(row, code) => unreadable_text(rt, manifest, *row, *code, body)?,
-        Forecast::Unlisted(Ok(said)) => unlisted_text(rt, said)?,
-        Forecast::Unlisted(Err(code)) => unrelated_text(rt, *code, body)?,
+        Forecast::Holding(row) => {
+            let again = if is_held(before, *row) { " again" } else { "" };
+            let listed = listed_text(rt, manifest, *row)?;
+            format!(in alloc; "A1{again}, listed as {listed}")?
+        }
+        Forecast::Differing(row, said) => {
+            let listed = listed_text(rt, manifest, *row)?;
+            let differences = differences(rt, manifest, *row, said)?;
+            format!(in alloc; "A4, listed as {listed}: {differences}")?
+        }
+        Forecast::Unreadable(row, code) => {
+            let listed = listed_text(rt, manifest, *row)?;
+            let spot = fault_spot(alloc, body)?;
+            format!(in alloc; "A3 U{code}, listed as {listed}: {spot}")?
+        }
+        Forecast::Unlisted(Ok(said)) => {
+            let said = header_text(rt, said)?;
+            format!(in alloc; "A5, not listed, says {said}")?
+        }
+        Forecast::Unlisted(Err(code)) => {
+            let spot = fault_spot(alloc, body)?;
+            format!(in alloc; "A5, not listed, U{code}: {spot}")?
+        }
     };
-    Ok(format!(in rt.alloc(); "{number}: {found}\n")?)
+    Ok(format!(in alloc; "{number}: {found}\n")?)
 }
 
 /// The line of a listed deposit that no file has.
@@ -30,110 +49,45 @@ pub fn missing_line(rt: &HostRuntime, listed: &Header) -> Result<String, Stop> {
     Ok(format!(in rt.alloc(); "no file: {listed}\n")?)
 }
 
-fn held_text(
-    rt: &HostRuntime,
-    manifest: &Manifest,
-    row: usize,
-    is_again: bool,
-) -> Result<String, Stop> {
-    let verdict = if is_again { "A1 again" } else { "A1" };
-    let listed = listed_text(rt, manifest, row)?;
-    Ok(format!(in rt.alloc(); "{verdict}, listed as {listed}")?)
-}
-
-fn unreadable_text(
-    rt: &HostRuntime,
-    manifest: &Manifest,
-    row: usize,
-    code: u8,
-    body: &[u8],
-) -> Result<String, Stop> {
-    let listed = listed_text(rt, manifest, row)?;
-    let spot = fault_spot(rt.alloc(), body)?;
-    Ok(format!(in rt.alloc(); "A3 U{code}, listed as {listed}: {spot}")?)
-}
-
-fn unlisted_text(rt: &HostRuntime, said: &Header) -> Result<String, Stop> {
-    let said = header_text(rt, said)?;
-    Ok(format!(in rt.alloc(); "A5, not listed, says {said}")?)
-}
-
-fn unrelated_text(rt: &HostRuntime, code: u8, body: &[u8]) -> Result<String, Stop> {
-    let spot = fault_spot(rt.alloc(), body)?;
-    Ok(format!(in rt.alloc(); "A5, not listed, U{code}: {spot}")?)
-}
-
-fn differing_text(
-    rt: &HostRuntime,
-    manifest: &Manifest,
-    row: usize,
-    said: &Header,
-) -> Result<String, Stop> {
-    let listed = listed_text(rt, manifest, row)?;
-    let differences = differences_at(rt, manifest, row, said)?;
-    Ok(format!(in rt.alloc(); "A4, listed as {listed}: {differences}")?)
-}
-
-fn differences_at(
-    rt: &HostRuntime,
-    manifest: &Manifest,
-    row: usize,
-    said: &Header,
-) -> Result<String, Stop> {
-    match manifest.rows().get(row) {
-        Some(row) => differences(rt, &row.header, said),
-        None => Ok(String::new(rt.alloc())),
-    }
-}
-
 // Each value that differs, as the deposit and as its row has it.
-fn differences(rt: &HostRuntime, listed: &Header, said: &Header) -> Result<String, Stop> {
+fn differences(
+    rt: &HostRuntime,
+    manifest: &Manifest,
+    row: usize,
+    said: &Header,
+) -> Result<String, Stop> {
     let mut text = String::new(rt.alloc());
+    let Some(row) = manifest.rows().get(row) else {
+        return Ok(text);
+    };
     for member in Member::ALL {
-        if differs(listed, said, member) {
+        if differs(&row.header, said, member) {
             let between = if text.is_empty() { "" } else { "; " };
-            text.push_str(between)?;
-            text.push_str(difference(rt, listed, said, member)?.as_str())?;
+            let said = value_text(rt, said, member)?;
+            let listed = value_text(rt, &row.header, member)?;
+            let difference = format!(in rt.alloc();
+                "{between}{member} is {said}, listed {listed}"
+            )?;
+            text.push_str(difference.as_str())?;
         }
     }
     Ok(text)
 }
 
-fn difference(
-    rt: &HostRuntime,
-    listed: &Header,
-    said: &Header,
-    member: Member,
-) -> Result<String, Stop> {
-    let said = value_text(rt, said, member)?;
-    let listed = value_text(rt, listed, member)?;
-    Ok(format!(in rt.alloc(); "{member} is {said}, listed {listed}")?)
-}
-
 fn value_text(rt: &HostRuntime, header: &Header, member: Member) -> Result<String, Stop> {
-    match member {
-        Member::Id => copied(rt, header.id.as_str()),
-        Member::Kind => copied(rt, header.place.kind.name()),
-        Member::Watermark => moment(rt, header.place.watermark),
-        Member::Resend => resend_text(rt, header.resend),
-        Member::PrevId => copied(rt, header.prev.as_deref().unwrap_or("(none)")),
-    }
-}
-
-fn copied(rt: &HostRuntime, text: &str) -> Result<String, Stop> {
+    let text = match member {
+        Member::Id => header.id.as_str(),
+        Member::Kind => header.place.kind.name(),
+        Member::Watermark => return moment(rt, header.place.watermark),
+        Member::Resend => return Ok(format!(in rt.alloc(); "{}", header.resend)?),
+        Member::PrevId => header.prev.as_deref().unwrap_or("(none)"),
+    };
     Ok(String::from_str(rt.alloc(), text)?)
-}
-
-fn resend_text(rt: &HostRuntime, resend: u32) -> Result<String, Stop> {
-    Ok(format!(in rt.alloc(); "{resend}")?)
 }
 
 // The text of a watermark; empty outside the years 1970 to 2261, where none that was read is.
 fn moment(rt: &HostRuntime, watermark: i64) -> Result<String, Stop> {
-    match watermark_text(rt.alloc(), watermark)? {
-        Some(text) => Ok(text),
-        None => Ok(String::new(rt.alloc())),
-    }
+    Ok(watermark_text(rt.alloc(), watermark)?.unwrap_or(String::new(rt.alloc())))
 }
 
 fn listed_text(rt: &HostRuntime, manifest: &Manifest, row: usize) -> Result<String, Stop> {

@@ -103,15 +103,10 @@ fn is_against(code: u8, row: &Header, other: &Header) -> bool {
     match code {
         10 => row.place == other.place && row.resend == other.resend,
         11 => row.id.as_str() == other.id.as_str() && row.place != other.place,
-        12 => is_named(row, other) && row.place.watermark <= other.place.watermark,
+        12 => {
+            row.prev.as_deref() == Some(other.id.as_str())
+                && row.place.watermark <= other.place.watermark
+        }
         _ => false,
-    }
-}
-
-// Whether the prevId of a row is the id of another.
-fn is_named(row: &Header, other: &Header) -> bool {
-    match &row.prev {
-        Some(prev) => prev.as_str() == other.id.as_str(),
-        None => false,
     }
 }

@@ -1,10 +1,11 @@
-use Rattle.std.proofs.Common.{◌≡◌, ◌∷◌, ℕ, List, Ok, Err, subst}
+use Rattle.std.proofs.Common.{◌≡◌, ◌∷◌, ℕ, Err, map, refl, inl, inr}
 use Rattle.std.proofs.lemmas.Result.{err_from_is_err_and}
-use Rattle.esc_bundle.specs.Bundle.{Named, IsBundle}
-use Rattle.esc_tables.specs.DepositValue.{DepositValue}
+use Rattle.esc_bundle.specs.Bundle.{IsBundle}
+use Rattle.esc_bundle.specs.Writing.{named, IsUnwritten}
 use Rattle.esc_tables.specs.Reading.{tables_of, reading}
-use Rattle.esc_pack.specs.Bundling.{description_section, sections_of, AreSectionsOf}
-use Rattle.esc_pack.proofs.Refusals.{unread}
+use Rattle.esc_pack.specs.Bundling.{description_section, sections_of}
+use Rattle.esc_pack.specs.BundleRefusals.{IsSectionsRefusal, IsBundleRefusal}
+use Rattle.esc_pack.proofs.Refusals.{or_weaker, fault_refused}
 use Rattle.esc_pack.proofs.SectionFacts.{rows_read, read_as}
 use Rattle.esc_pack.proofs.bundle.bundle_of_files.Goals as goal
 
@@ -12,16 +13,13 @@ pub returns-clause-bundled : goal.returns-clause-bundled
 returns-clause-bundled c =
     let given = c.args.given.now in
     let body = c.in_ok-body.body.items in
-    let made : AreSectionsOf c.args.description.now given c.in_ok-body.ensures.bundle.0 = c.in_ok-body.ensures.bundle.1 in
+    let made = c.in_ok-sections.ensures.are in
     let e = made.envelope in
-    let d : DepositValue = c.in_ok-check_deposit.ensures.read.0 in
     let description = description_section c.args.description.now in
     let sections = sections_of (tables_of e) given in
-    let bundle : IsBundle body (description ∷ sections) =
-    subst (λ (ss : List Named). IsBundle body ss) made.are c.in_ok-body.ensures.bundle.2 in
+    let bundle : IsBundle body (description ∷ sections) = rw (c.deref.ensures.value, made.are) at c.in_ok-body.ensures.written in
     let framed = (c.frame_is_exact.ensures.bundle body (description ∷ sections)).1 bundle in
-    let read : reading body ≡ Ok d =
-    subst (λ (b : List ℕ). reading b ≡ Ok d) c.deref.ensures.value c.in_ok-check_deposit.ensures.read.1 in
+    let read = rw c.deref-2.ensures.value at c.in_ok-read_deposit.ensures.read in
     record {
       envelope = e;
       told = made.told;
@@ -32,11 +30,30 @@ returns-clause-bundled c =
       read = read_as body framed made.told read;
     }
 
-pub returns-in_err-check_deposit-clause-refused : goal.returns-in_err-check_deposit-clause-refused
-returns-in_err-check_deposit-clause-refused c =
+pub returns-in_err-sections-clause-refused : goal.returns-in_err-sections-clause-refused
+returns-in_err-sections-clause-refused c =
+    let description = c.args.description.now in
+    let given = c.args.given.now in
+    let p = err_from_is_err_and c.from_residual.result c.from_residual.ensures.1 in
+    rw (p.1, p.2)
+    (or_weaker (IsSectionsRefusal description given) (IsBundleRefusal description given) (λ e it. inl it) _ c.in_err-sections.ensures.refused)
+
+pub returns-in_err-body-clause-refused : goal.returns-in_err-body-clause-refused
+returns-in_err-body-clause-refused c =
+    let sections = map named c.in_ok-sections.sections.items in
+    let p = err_from_is_err_and c.from_residual-in_err-body.result c.from_residual-in_err-body.ensures.1 in
+    let told : (n : ℕ) → _ → IsUnwritten sections n = λ n is. rw c.deref.ensures.value at (c.in_err-body.ensures.unwritten n is) in
+    rw (p.1, p.2)
+    (fault_refused (IsBundleRefusal c.args.description.now c.args.given.now) _
+    (λ n is. inr (n, sections, refl, c.in_ok-sections.ensures.are, inl (told n is))))
+
+pub returns-in_err-read_deposit-clause-refused : goal.returns-in_err-read_deposit-clause-refused
+returns-in_err-read_deposit-clause-refused c =
+    let sections = map named c.in_ok-sections.sections.items in
     let body = c.in_ok-body.body.items in
-    let made = c.in_ok-body.ensures.bundle in
-    let p = err_from_is_err_and c.from_residual-in_err-check_deposit.result c.from_residual-in_err-check_deposit.ensures.1 in
-    let told : (n : ℕ) → _ → reading body ≡ Err n =
-    λ n is. subst (λ (b : List ℕ). reading b ≡ Err n) c.deref.ensures.value (c.in_err-check_deposit.ensures.refused n is) in
-    rw (p.1, p.2) (unread _ made.1 made.2 told)
+    let bundle : IsBundle body sections = rw c.deref.ensures.value at c.in_ok-body.ensures.written in
+    let p = err_from_is_err_and c.from_residual-in_err-read_deposit.result c.from_residual-in_err-read_deposit.ensures.1 in
+    let told : (n : ℕ) → _ → reading body ≡ Err n = λ n is. rw c.deref-2.ensures.value at (c.in_err-read_deposit.ensures.refused n is) in
+    rw (p.1, p.2)
+    (fault_refused (IsBundleRefusal c.args.description.now c.args.given.now) _
+    (λ n is. inr (n, sections, refl, c.in_ok-sections.ensures.are, inr (body, bundle, told n is))))

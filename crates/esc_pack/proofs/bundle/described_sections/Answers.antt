@@ -1,7 +1,7 @@
-use Rattle.std.proofs.Common.{◌∙◌, refl, inr}
+use Rattle.std.proofs.Common.{◌∙◌, refl, inl, inr}
 use Rattle.std.proofs.lemmas.Result.{err_from_is_err_and}
 use Rattle.esc_pack.specs.BundleRefusals.{IsGivenRefusal, IsSectionsRefusal}
-use Rattle.esc_pack.proofs.Refusals.{or_weaker, envelope_refused}
+use Rattle.esc_pack.proofs.Refusals.{or_weaker, fault_refused}
 use Rattle.esc_pack.proofs.bundle.described_sections.Goals as goal
 
 pub returns-clause-are : goal.returns-clause-are
@@ -19,7 +19,8 @@ returns-clause-are c =
 pub returns-in_err-envelope-clause-refused : goal.returns-in_err-envelope-clause-refused
 returns-in_err-envelope-clause-refused c =
     let p = err_from_is_err_and c.from_residual.result c.from_residual.ensures.1 in
-    rw (p.1, p.2) (envelope_refused c.args.description.now c.args.given.now _ c.in_err-envelope.ensures.refused)
+    rw (p.1, p.2)
+    (fault_refused (IsSectionsRefusal c.args.description.now c.args.given.now) _ (λ n is. inl (n, refl, c.in_err-envelope.ensures.refused n is)))
 
 pub returns-in_err-push_described-clause-refused : goal.returns-in_err-push_described-clause-refused
 returns-in_err-push_described-clause-refused c =

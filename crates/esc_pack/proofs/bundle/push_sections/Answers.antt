@@ -3,14 +3,15 @@ use Rattle.std.specs.Prelude.{All}
 use Rattle.std.specs.List.{zip}
 use Rattle.std.proofs.lemmas.List.{append_assoc, map_push, take_all}
 use Rattle.std.proofs.lemmas.Result.{err_from_is_err_and}
+use Rattle.std.proofs.lemmas.Slice.Zip.{length-zip}
 use Rattle.esc_bundle.specs.Bundle.{Named}
 use Rattle.esc_bundle.specs.Writing.{named}
 use Rattle.esc_envelope.specs.EnvelopeValue.{TableValue}
 use Rattle.esc_pack.specs.GivenRows.{GivenTable, IsReadBack}
-use Rattle.esc_pack.specs.Bundling.{section_of, sections_of, AreHeaded}
+use Rattle.esc_pack.specs.Bundling.{section_of, AreHeaded}
 use Rattle.esc_pack.specs.BundleRefusals.{IsTableRefusal, IsTablesRefusal}
 use Rattle.esc_pack.proofs.Refusals.{or_weaker, table_refused}
-use Rattle.esc_pack.proofs.SectionFacts.{taken, All_next, one_pair, sections_split}
+use Rattle.esc_pack.proofs.SectionFacts.{taken, All_next, pair_at, sections_split}
 use Rattle.esc_pack.proofs.bundle.push_sections.Goals as goal
 
 pub loop-at-preserved : goal.loop-at-preserved
@@ -22,8 +23,9 @@ loop-at-preserved c =
     let g = c.index-given-at.result in
     let start = map named c.args.sections.now.items in
     let before = map named c.loop-at.sections.items in
-    let pairs : zip (take (i + 1) tables) (take (i + 1) given) ≡ zip (take i tables) (take i given) ++ (t, g) ∷ [] =
-    one_pair tables given c.loop-at-test.true c.requires.same c.index-tables-at.is c.index-given-at.is in
+    let pair = pair_at tables given c.loop-at-test.true c.requires.same c.index-tables-at.is c.index-given-at.is in
+    let pairs : take (i + 1) (zip tables given) ≡ take i (zip tables given) ++ (t, g) ∷ [] =
+    taken (zip tables given) (t, g) pair.0 pair.1 in
     let files : take (i + 1) given ≡ take i given ++ g ∷ [] =
     taken given g (omega (arith, c.requires.same, c.loop-at-test.true)) c.index-given-at.is in
     let name : string_bytes c.in_ok-clone.field-0 ≡ string_bytes c.table.inside.file = search rules in
@@ -37,21 +39,27 @@ loop-at-preserved c =
     record {
       pushed =
           pushed ∙ ap (λ (ss : List Named). ss ++ section_of (t, g) ∷ []) c.loop-at.invariant.pushed
-          ∙ append_assoc start (sections_of (take i tables) (take i given)) (section_of (t, g) ∷ [])
+          ∙ append_assoc start (map section_of (take i (zip tables given))) (section_of (t, g) ∷ [])
           ∙ ap (λ (ss : List Named). start ++ ss) (sym (sections_split _ _ pairs));
       read = All_next IsReadBack _ files c.loop-at.invariant.read c.in_ok-text.ensures.read;
       headed = All_next AreHeaded _ pairs c.loop-at.invariant.headed c.in_ok-text.ensures.headed;
     }
 
+-- all pairs were taken
+all_pairs : (tables : List TableValue) (given : List GivenTable) {i : ℕ} → length tables ≤ i
+    → take i (zip tables given) ≡ zip tables given
+all_pairs tables given {i} le = take_all i (zip tables given) (omega (arith, length-zip tables given))
+
+pub returns-clause-pushed : goal.returns-clause-pushed
+returns-clause-pushed c =
+    let start = map named c.args.sections.now.items in
+    c.loop-at.invariant.pushed
+    ∙ ap (λ (ps : List (TableValue × GivenTable)). start ++ map section_of ps) (all_pairs c.args.tables.now c.args.given.now c.loop-at-test.false)
+
 pub returns-clause-headed : goal.returns-clause-headed
 returns-clause-headed c =
-    let tables = c.args.tables.now in
-    let given = c.args.given.now in
-    let i : ℕ = c.loop-at.at in
-    let none_left : length given ≤ i = omega (arith, c.requires.same, c.loop-at-test.false) in
-    let all : zip (take i tables) (take i given) ≡ zip tables given =
-    λ k. zip (take_all i tables c.loop-at-test.false k) (take_all i given none_left k) in
-    subst (λ (ps : List (TableValue × GivenTable)). All AreHeaded ps) all c.loop-at.invariant.headed
+    subst (λ (ps : List (TableValue × GivenTable)). All AreHeaded ps) (all_pairs c.args.tables.now c.args.given.now c.loop-at-test.false)
+    c.loop-at.invariant.headed
 
 pub returns-in_err-text-clause-refused : goal.returns-in_err-text-clause-refused
 returns-in_err-text-clause-refused c =

@@ -1,18 +1,11 @@
-use Rattle.std.proofs.Common.{◌≡◌, ◌∙◌, ℕ, List, [], ◌∷◌, Bool, Bor, String, Global, length, map, string_bytes, refl, sym, ap}
+use Rattle.std.proofs.Common.{◌≡◌, ◌∙◌, ℕ, List, Bor, length, map, string_bytes, sym, ap}
 use Rattle.std.specs.Prelude.{◌&&◌, ◌==◌}
 use Rattle.std.specs.List.{list_all, zip}
 use Rattle.std.proofs.lemmas.List.{length-map}
 use Rattle.esc_envelope.specs.EnvelopeValue.{TableValue}
 use Rattle.esc_pack.specs.KnownFields.{names_field}
+use Rattle.esc_pack.proofs.Names.{pairs_seen}
 use Rattle.esc_pack.proofs.table_text.is_heading.Goals as goal
-
--- a test of pairs sees what contracts see of both
-seen : (test : List ℕ × List ℕ → Bool) (names : List (Bor (List ℕ))) (fields : List (String Global))
-    → list_all (λ p. test (p.0.now, string_bytes p.1)) (zip names fields)
-    ≡ list_all test (zip (map (λ n. n.now) names) (map string_bytes fields))
-seen test [] fields = refl
-seen test (n ∷ names) [] = refl
-seen test (n ∷ names) (f ∷ fields) = ap (λ (b : Bool). test (n.now, string_bytes f) && b) (seen test names fields)
 
 pub returns : goal.returns
 returns c =
@@ -27,5 +20,5 @@ returns c =
     let few : length names ≡ length (map (λ (n : Bor (List ℕ)). n.now) names) = sym (length-map names (λ (n : Bor (List ℕ)). n.now)) in
     let many : length texts ≡ length (map string_bytes texts) = sym (length-map texts string_bytes) in
     c.are_all_named.ensures
-    ∙ (λ k. (few k == many k) && seen test names texts k)
+    ∙ (λ k. (few k == many k) && pairs_seen (λ (n : Bor (List ℕ)). n.now) string_bytes test names texts k)
     ∙ (λ k. (length (row k) == length (fields k)) && list_all (names_field (name k)) (zip (row k) (fields k)))
