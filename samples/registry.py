@@ -56,17 +56,14 @@ class Registry:
         n = self.last
         key = {'registrar': f'RAR-{n}', 'contact': f'C{n}-EX', 'host': f'ns{n}.{self.words(2, "-")}.example',
                'domain': f'{self.words(2, "-")}-{n}.example', 'idn': f'IDN-{n}', 'nndn': f'{self.words(1)}{n}.example'}[kind]
-        self.objects[kind][key] = self.rows(kind, key, self.moment(day))
+        self.objects[kind][key] = list(getattr(self, kind)(key, self.moment(day), ''))
         self.keys[kind].append(key)
         return key
 
     def change(self, kind, key, day=FIRST):
         """Changes an object: other rows, and the day of its creation as it was."""
         parent = dict(zip(TABLES[kind][2], self.objects[kind][key][0][1]))
-        self.objects[kind][key] = self.rows(kind, key, parent['crDate'], self.moment(day))
-
-    def rows(self, kind, key, created, updated=''):
-        return list(getattr(self, kind)(key, created, updated))
+        self.objects[kind][key] = list(getattr(self, kind)(key, parent['crDate'], self.moment(day)))
 
     def rows_of(self, chosen):
         """The rows of some objects, keys by kind, in their tables."""
@@ -136,9 +133,7 @@ class Registry:
         return f'+31.{self.digits(9)}'
 
 
-# ---- bundles
-
-def lines(rows):
+def csv_text(rows):
     text = io.StringIO(newline='')
     csv.writer(text, lineterminator='\n').writerows(rows)
     return text.getvalue().encode()
@@ -155,7 +150,7 @@ def deposit(header, rows, deletes, counts, shapes=TABLES):
     gone = [declaration(kind, kind, 'parent', ['key'], f'deleted-{kind}.csv') for kind, keys in deletes.items() if keys]
     front = {it: header[it] for it in ('id', 'type', 'watermark')}
     envelope = {**front, 'tld': 'example', 'counts': counts, 'contents': contents, 'deletes': gone, **header}
-    sections = [(f'{name.lower()}.csv', lines(its)) for name, its in rows.items()]
-    sections += [(f'deleted-{kind}.csv', lines([it] for it in keys)) for kind, keys in deletes.items() if keys]
+    sections = [(f'{name.lower()}.csv', csv_text(its)) for name, its in rows.items()]
+    sections += [(f'deleted-{kind}.csv', csv_text([it] for it in keys)) for kind, keys in deletes.items() if keys]
     parts = [('envelope.json', json.dumps(envelope, separators=(',', ':')).encode()), *sections]
     return b'escrow-bundle 1\n' + b''.join(b'%s %d\n%s\n' % (name.encode(), len(body), body) for name, body in parts) + b'end\n'

@@ -34,14 +34,6 @@ class Case:
         return name in self.file or name in self.title
 
 
-# ---- the cases
-
-
-def names_in(files):
-    """The names of the files of tests/ that have this form."""
-    return [it.stem for it in sorted(pathlib.Path(TESTS).glob(files))]
-
-
 def cases_of_transcript(name):
     try:
         return [Case(name, it.title, it.play) for it in read_transcripts(f'{TESTS}/transcripts/{name}.txt')]
@@ -73,27 +65,10 @@ def case_of_test(test):
 
 
 def all_cases():
-    found = [it for name in names_in('transcripts/*.txt') for it in cases_of_transcript(name)]
-    found += [it for name in names_in('cases/[!_]*.py') for it in cases_of_module(name)]
+    found = []
+    for files, cases_of in (('transcripts/*.txt', cases_of_transcript), ('cases/[!_]*.py', cases_of_module)):
+        found += [case for it in sorted(pathlib.Path(TESTS).glob(files)) for case in cases_of(it.stem)]
     return found + [case_of_test(it) for it in tests_in(unittest.defaultTestLoader.discover(f'{TESTS}/unit'))]
-
-
-def cases_named(names):
-    """The cases that have one of these names, or all where none is given."""
-    cases = all_cases()
-    for name in names:
-        if not any(it.has(name) for it in cases):
-            sys.exit(f'tests: no case has the name {name}')
-    return [it for it in cases if not names or any(map(it.has, names))]
-
-
-# ---- playing them
-
-
-def begin(cases, programs):
-    """What a process that plays cases is given as it begins."""
-    global given
-    given = cases, programs
 
 
 def failure_at(at):
@@ -111,8 +86,10 @@ def failure_at(at):
 
 def count_passed(cases, programs):
     """Plays cases, as many side by side as there are lanes, and tells in their order how each ended. Gives how many passed."""
-    lanes, passed = int(os.environ.get('RT_JOBS') or os.cpu_count() or 1), 0
-    with multiprocessing.get_context('fork').Pool(lanes, begin, (cases, programs)) as pool:
+    # (The processes that play are forked here, and have the cases from then on.)
+    global given
+    given, lanes, passed = (cases, programs), int(os.environ.get('RT_JOBS') or os.cpu_count() or 1), 0
+    with multiprocessing.get_context('fork').Pool(lanes) as pool:
         for case, failure in zip(cases, pool.imap(failure_at, range(len(cases)))):
             passed += failure is None
             print(f'{case.file}: {case.title}:', 'passed' if failure is None else 'FAILED', flush=True)
@@ -128,7 +105,11 @@ def main():
     arguments.add_argument('--list', action='store_true')
     arguments.add_argument('names', nargs='*', metavar='NAME')
     given = arguments.parse_args()
-    programs, cases = {it: os.path.abspath(getattr(given, it)) for it in PROGRAMS}, cases_named(given.names)
+    programs, cases = {it: os.path.abspath(getattr(given, it)) for it in PROGRAMS}, all_cases()
+    for name in given.names:
+        if not any(it.has(name) for it in cases):
+            sys.exit(f'tests: no case has the name {name}')
+    cases = [it for it in cases if not given.names or any(map(it.has, given.names))]
     if given.list:
         print(*sorted(f'{it.file}: {it.title}' for it in cases), sep='\n')
         return 0

@@ -16,10 +16,9 @@ again. The last line is `N inputs, wrong K`."""
 import random, sys, time
 
 sys.path.append(f'{sys.path[0]}/../tests')
-from fuzzing.arrivals import mutated_release
+from fuzzing.arrivals import mutated_release, over_bundles
 from fuzzing.clients import over_clients
 from fuzzing.desk import over_requests
-from fuzzing.folders import over_bundles
 from fuzzing.largest import over_largest
 from fuzzing.manifests import over_manifest
 from support import arguments_over_restore
@@ -31,41 +30,31 @@ def batches(count, most):
     return [(at, min(most, count - at * most)) for at in range(-(-count // most))]
 
 
-def over_all(trial, given):
-    rng, begun, counts = random.Random(given.seed), time.perf_counter(), trial.counts
-
-    def said(what):
-        print(f'{time.perf_counter() - begun:5.0f} s: {what}', flush=True)
-    for batch, many in batches(given.bundles, 100):
-        over_bundles(trial, batch, rng, many)
-    said(f'{given.bundles} bundles: ' + ', '.join(f'{verdict} {counts[verdict]}' for verdict in ('A1', 'A3', 'A4')))
-    for number in range(given.manifests):
-        over_manifest(trial, rng, number)
-    said(f'{given.manifests} manifests, {counts["accepted manifests"]} accepted')
-    for batch, many in batches(given.requests, 250):
-        over_requests(trial, batch, rng, mutated_release(rng, 25), many)
-    said(f'{given.requests} requests and the arrivals before them, the slowest {counts["slowest"]:.2f} s')
-    for over, leaves_out, what in ((over_clients, given.without_clients, 'clients that hold their connection'),
-                                   (over_largest, given.without_largest, 'the largest bundles')):
-        if not leaves_out:
-            over(trial)
-            said(what)
-
-
 def main():
     arguments = arguments_over_restore(__doc__)
     for name, count in (('bundles', 2000), ('manifests', 500), ('requests', 2000), ('seed', 1)):
         arguments.add_argument(f'--{name}', type=int, default=count, metavar='N')
-    arguments.add_argument('--memory', type=int, default=6, help='GB that a run may have')
-    arguments.add_argument('--without-largest', action='store_true')
-    arguments.add_argument('--without-clients', action='store_true', help='leave out those that hold their connection')
     arguments.add_argument('--keep', help='where wrong inputs are kept')
     given = arguments.parse_args()
-    with Trial(given.restore, given.memory, given.keep) as trial:
-        over_all(trial, given)
+    with Trial(given.restore, given.keep) as trial:
+        rng, begun, counts = random.Random(given.seed), time.perf_counter(), trial.counts
+
+        def said(what):
+            print(f'{time.perf_counter() - begun:5.0f} s: {what}', flush=True)
+        for batch, many in batches(given.bundles, 100):
+            over_bundles(trial, batch, rng, many)
+        said(f'{given.bundles} bundles: ' + ', '.join(f'{verdict} {counts[verdict]}' for verdict in ('A1', 'A3', 'A4')))
+        for number in range(given.manifests):
+            over_manifest(trial, rng, number)
+        said(f'{given.manifests} manifests, {counts["accepted manifests"]} accepted')
+        for batch, many in batches(given.requests, 250):
+            over_requests(trial, batch, rng, mutated_release(rng, 25), many)
+        said(f'{given.requests} requests and the arrivals before them, the slowest {counts["slowest"]:.2f} s')
+        for over, what in ((over_clients, 'clients that hold their connection'), (over_largest, 'the largest bundles')):
+            over(trial)
+            said(what)
     print(f'{trial.counts["inputs"]} inputs, wrong {trial.counts["wrong"]}')
     return trial.counts['wrong'] > 0
 
 
-if __name__ == '__main__':
-    sys.exit(main())
+sys.exit(main())

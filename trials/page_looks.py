@@ -172,5 +172,4 @@ def main():
     return 1 if counts['failed'] else 0
 
 
-if __name__ == '__main__':
-    sys.exit(main())
+sys.exit(main())

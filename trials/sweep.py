@@ -6,11 +6,11 @@ Looked for is an answer that changes in place of the error.
 Every growth is refused in turn in `init`, `take`, each `report` and `export`, and `serve` with a request to each route, on the
 first sample; in `init` and `take` with four arrivals of which the last takes two steps back; in `amend`, `as-of` and `report
 parked` over a release in two parts; in `migrate` of a store of version 1, and in `take` of the arrivals that it kept as A2. On
-the second sample every growth up to the 400th is refused, and every N-th beyond (by itself so that it is 200 at most, or what
---beyond says). Then each call of the database fails in turn in `init` and `take` with the four arrivals, `export`, `amend`, `as-of`,
-`migrate` and the `take` after it. `--harness FILE` is over the program of the tests alone, as on the second sample
-(`crates/desk_harness/out/desk_harness`, which `./check` leaves there). `--some N` makes at most N refusals in each part, evenly;
-`--only PART` takes the parts with that in their names.
+the second sample every growth up to the 400th is refused, and every N-th beyond, so that it is 200 at most. Then each call of the
+database fails in turn in `init` and `take` with the four arrivals, `export`, `amend`, `as-of`, `migrate` and the `take` after it.
+`--harness FILE` is over the program of the tests alone, as on the second sample (`crates/desk_harness/out/desk_harness`, which
+`./check` leaves there). `--some N` makes at most N refusals in each part, evenly; `--only PART` takes the parts with that in their
+names.
 
 A command has to do what it does undisturbed, or to end with status 3 and `S2` (for the database `S1`) after a beginning of what it
 prints; a client of `serve` has to see the whole response, or 503 `S2`. The same again, undisturbed, has to give what it gives at
@@ -21,15 +21,14 @@ import os, shutil, sys
 
 sys.path.append(f'{sys.path[0]}/../tests')
 from support import TOP, arguments_over_restore, program
+from support.messages import get, put
 from sweeping.commands import over_change, over_commands, over_init, over_migrate, over_reading, over_take
 from sweeping.harness import over_harness
 from sweeping.refusals import Sweep
 from sweeping.releases import Parts, Release, Unkept, write_four
-from sweeping.responses import over_parked, over_routes
+from sweeping.responses import over_routes, over_serve
 
 arguments = arguments_over_restore(__doc__)
-arguments.add_argument('--every', type=int, default=0, help='beyond the 400th growth, every N-th')
-arguments.add_argument('--beyond', type=int, default=200, help='beyond the 400th growth, at most so many, evenly')
 arguments.add_argument('--some', type=int, default=0, help='at most N refusals in each part, for a look at it')
 arguments.add_argument('--jobs', type=int, default=os.cpu_count() or 1, help='refusals side by side')
 arguments.add_argument('--only', default='', help='the parts whose names have this in them')
@@ -51,7 +50,9 @@ def over_program(sweep):
     over_reading(sweep, four, 'S1', 'export', 'domain')
     parts = Parts(sweep)
     over_parts(sweep, parts)
-    over_parked(sweep, parts)
+    # A desk in which bodies wait for their rows is asked for them, and one more comes.
+    over_serve(sweep, parts, 'GET /parked', get('/parked'), parts.taken)
+    over_serve(sweep, parts, 'PUT of a body without a row', put('n', b'abc'), parts.taken)
 
 
 def over_parts(sweep, parts):

@@ -2,23 +2,21 @@
 import collections, os, resource, tempfile
 
 from support.files import write
+from support.outputs import prepared
 from support.sockets import serve
 from support.stage import Failed, Stage
 from support.stores import READINGS, is_whole
 
 
 class Trial(Stage):
-    """`restore` with its most memory (in GB), a folder in which wrong inputs are kept, and the counts. It is there in a `with` statement."""
+    """`restore` with its most memory, a folder in which wrong inputs are kept, and the counts. It is there in a `with` statement."""
+    bounded = staticmethod(prepared([(resource.RLIMIT_AS, 6 * 2**30)]))
 
-    def __init__(self, program, memory=6, keep=None):
+    def __init__(self, program, keep=None):
         super().__init__({'restore': program})
-        self.program, self.most = program, memory * 2**30
+        self.program = program
         self.kept = keep or os.path.join(tempfile.gettempdir(), f'wrong-{os.getpid()}')
         self.counts = collections.Counter()
-
-    def bounded(self):
-        """What a child does before it becomes the program."""
-        resource.setrlimit(resource.RLIMIT_AS, (self.most, self.most))
 
     def end_of(self, child):
         """Status, output and refusals of a run. The status of one that does not end in time is None."""
@@ -32,8 +30,14 @@ class Trial(Stage):
     def run(self, *words):
         return self.end_of(self.begin(words, prepare=self.bounded))
 
+    def set_up(self, name, manifest, files=()):
+        """Writes a manifest, and a folder of files, names with bodies: the store's path, the folder's, and what making the store says."""
+        store, folder = self.at(name), self.at(f'{name}-folder')
+        for path, content in ((f'{store}.csv', manifest), *((os.path.join(folder, it), body) for it, body in files)):
+            write(path, content)
+        return store, folder, self.run('init', '--store', store, '--manifest', f'{store}.csv')
+
     def serve(self, store, count):
-        """A desk that serves so many connections, and its port."""
         return serve(self, store, count, prepare=self.bounded)
 
     def wrong(self, what, expected, got, **files):
@@ -49,7 +53,6 @@ class Trial(Stage):
             self.wrong(what, expected, got, **files)
 
     def check_store(self, what, store):
-        """The C library's checks of a store's file."""
         self.expect(f'{what}: the checks of the C library', True, is_whole(store))
 
     def texts(self, store):

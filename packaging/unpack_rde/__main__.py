@@ -25,8 +25,9 @@ def words_of(given):
     return parser.parse_args(given)
 
 
-def tell(line):
-    print(line, file=sys.stderr)
+def tell(*lines):
+    for line in lines:
+        print(line, file=sys.stderr)
 
 
 def unpacked(words, notes):
@@ -37,7 +38,7 @@ def unpacked(words, notes):
         for folder in words.known:
             deposit.know(folder)
         deposit.read()
-        if words.strict and notes.has_unknown():
+        if words.strict and any(word == 'unknown' for word, _ in notes.counts):
             raise Refusal(words.deposit, 'it has what is unknown, and --strict was given')
         return deposit.finish()
     except BaseException:
@@ -45,30 +46,22 @@ def unpacked(words, notes):
         raise
 
 
-def tell_size(files, folder):
-    rows = sum(it.rows for it in files)
-    size = sum(os.path.getsize(os.path.join(folder, it.name)) for it in files)
-    if rows > MOST_ROWS or size > MOST_BYTES:
-        tell(f'unpack_rde: {rows} rows and {size} bytes: a bundle has at most {MOST_ROWS} rows and {MOST_BYTES} bytes')
-
-
 def main(given=None):
     words, notes = words_of(given), Notes()
     try:
         files = unpacked(words, notes)
     except Refusal as refusal:
-        for line in notes.lines():
-            tell(line)
-        tell(f'unpack_rde: {refusal}')
+        tell(*notes.lines(), f'unpack_rde: {refusal}')
         return REFUSED
     except (OSError, sqlite3.Error) as error:
         tell(f'unpack_rde: {error}')
         return STOPPED
-    for line in notes.lines():
-        tell(line)
+    tell(*notes.lines())
     for it in files:
         print(f'{it.name} {it.rows}')
-    tell_size(files, words.folder)
+    rows, size = sum(it.rows for it in files), sum(os.path.getsize(os.path.join(words.folder, it.name)) for it in files)
+    if rows > MOST_ROWS or size > MOST_BYTES:
+        tell(f'unpack_rde: {rows} rows and {size} bytes: a bundle has at most {MOST_ROWS} rows and {MOST_BYTES} bytes')
     return DONE
 
 

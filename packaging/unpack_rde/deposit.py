@@ -1,5 +1,5 @@
 """From what a deposit's document and files have to the rows of the desk's tables."""
-import csv, os, re
+import csv, functools, os, re
 
 from csv_files import rows_of
 from faults import Refusal
@@ -21,14 +21,9 @@ class Deposit:
     def __init__(self, path, files, target, names, notes):
         self.path, self.files, self.names, self.notes = path, files, names, notes
         self.envelope, self.counts, self.definitions, self.models = {}, {}, [], {}
-        self.fields = {}
+        self.columns, self.fields_of = functools.cache(names.columns), functools.cache(self.named_fields)
         self.folder = Folder(target)
         self.keys = Keys(self.folder.path)
-
-    def columns(self, table):
-        if table not in self.fields:
-            self.fields[table] = self.names.columns(table)
-        return self.fields[table]
 
     def refused(self, what):
         return Refusal(self.path, what)
@@ -39,17 +34,15 @@ class Deposit:
             raise Refusal(folder, f'it has no {DESCRIPTION}')
         for table in self.names.tables.values():
             path = os.path.join(folder, f'{table.name}.csv')
-            if table.alias is not None and os.path.exists(path):
-                self.know_table(table, path)
-
-    def know_table(self, table, path):
-        try:
-            with open(path, encoding='utf-8', newline='') as file:
-                for row in csv.DictReader(file, strict=True):
-                    if row.get(table.alias) and row.get(table.key):
-                        self.keys.name(f'{table.name}.{table.alias}', row[table.alias], row[table.key])
-        except (UnicodeDecodeError, csv.Error) as error:
-            raise Refusal(path, f'it cannot be read: {error}') from None
+            if table.alias is None or not os.path.exists(path):
+                continue
+            try:
+                with open(path, encoding='utf-8', newline='') as file:
+                    for row in csv.DictReader(file, strict=True):
+                        if row.get(table.alias) and row.get(table.key):
+                            self.keys.name(f'{table.name}.{table.alias}', row[table.alias], row[table.key])
+            except (UnicodeDecodeError, csv.Error) as error:
+                raise Refusal(path, f'it cannot be read: {error}') from None
 
     def read(self):
         DepositReader(self.path, self.names, self.notes, self).read()
@@ -97,9 +90,6 @@ class Deposit:
     def count(self, refused, kind, number):
         if self.counts.setdefault(kind, number) != number:
             raise refused(f'objects of kind {kind} are counted twice: {self.counts[kind]} and {number}')
-
-    def definition(self, definition):
-        self.definitions.append(definition)
 
     # A table comes in one model.
     def only_in(self, refused, model, table, is_of_deletes):
@@ -157,7 +147,11 @@ class Deposit:
         if len(definition.separator) != 1 or definition.separator in '"\r\n':
             raise Refusal(where, f'the separator is not one character: {definition.separator!r}')
         fields = self.fields_of(table, definition)
-        columns = self.columns_of(table, definition.is_of_deletes)
+        # The columns are the fields of all definitions of the table, in their order.
+        alike = [it for it in self.definitions if (it.table, it.is_of_deletes) == (table.name, definition.is_of_deletes)]
+        columns = list(dict.fromkeys(field.name for it in alike for field in self.fields_of(table, it)))
+        if len(columns) > MOST_FIELDS:
+            raise self.refused(f'{table.name} has {len(columns)} fields, and a table of the desk has at most {MOST_FIELDS}')
         file = self.folder.table(table, definition.is_of_deletes, columns)
         for place, row in rows_of(self.path, self.files, definition):
             file.write(self.taken(table, definition, place, fields, columns, row))
@@ -179,22 +173,7 @@ class Deposit:
                 self.notes.add('orphan', f'row of {table.name} of a {table.kind} that is not in the deposit')
         return [cells.get(it, '') for it in columns]
 
-    # The columns of a table: the fields of all its definitions, in their order.
-    def columns_of(self, table, is_of_deletes):
-        found = {}
-        for it in self.definitions:
-            if it.table == table.name and it.is_of_deletes == is_of_deletes:
-                found.update((field.name, None) for field in self.fields_of(table, it))
-        if len(found) > MOST_FIELDS:
-            raise self.refused(f'{table.name} has {len(found)} fields, and a table of the desk has at most {MOST_FIELDS}')
-        return list(found)
-
     # The fields of a definition by the desk's names, each once, with the key among them.
-    def fields_of(self, table, definition):
-        if definition.named is None:
-            definition.named = self.named_fields(table, definition)
-        return definition.named
-
     def named_fields(self, table, definition):
         fields = [self.named_field(table, *it) for it in definition.fields]
         # A field that another one says outright is not looked up.
@@ -205,18 +184,15 @@ class Deposit:
             definition.is_by_alias = True
             looked_up = (table.name, table.alias) if definition.is_of_deletes else None
             fields = [it._replace(name=table.key, alias=looked_up) if it.name == table.alias else it for it in fields]
-        self.check_fields(table, definition, [it.name for it in fields])
-        return fields
-
-    def check_fields(self, table, definition, fields):
-        where = f'{self.path}:{definition.line}'
-        if table.key not in fields:
+        where, found = f'{self.path}:{definition.line}', [it.name for it in fields]
+        if table.key not in found:
             raise Refusal(where, f'no field of {table.name} is its {table.key}')
-        for at, name in enumerate(fields):
-            if name in fields[:at]:
+        for at, name in enumerate(found):
+            if name in found[:at]:
                 raise Refusal(where, f'two fields of {table.name} are its {name}')
             if not ID.fullmatch(name):
                 raise Refusal(where, f'no name of a field: {name!r}')
+        return fields
 
     def named_field(self, table, line, element, said):
         field = self.names.field(table.name, element)

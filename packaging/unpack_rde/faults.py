@@ -19,8 +19,5 @@ class Notes:
         `orphan`: a row is in the folder, and lacks a field that the document requires, or the object that it is of."""
         self.counts[word, what] = self.counts.get((word, what), 0) + 1
 
-    def has_unknown(self):
-        return any(word == 'unknown' for word, _ in self.counts)
-
     def lines(self):
         return [f'{word}: {what} {count}' for (word, what), count in sorted(self.counts.items())]

@@ -29,7 +29,7 @@ WHATS = ('namespace', 'table', 'count', 'row', 'cell', 'mark', 'group', 'split',
 # How many elements a `#` counts.
 MOST_REPEATED = 3
 
-Table = namedtuple('Table', 'name kind is_parent key alias')
+Table = namedtuple('Table', 'name kind is_parent key alias', defaults=[None])
 Cell = namedtuple('Cell', 'table field')
 # A field of CSV files: what it is called; the table and field by whose value the object is found that it names, if it names one so; and
 # whether the document says that it is never empty.
@@ -37,7 +37,6 @@ Field = namedtuple('Field', 'name alias is_required')
 
 
 def lines_of(path):
-    """The lines of a table, each with its number."""
     try:
         with open(path, encoding='utf-8', newline='') as file:
             rows = csv.reader(file, strict=True)
@@ -61,7 +60,8 @@ class Names:
         if own is not None:
             self.read(own)
         self.prefixes = {uri: prefix for prefix, uri in self.lines['namespace'].items()}
-        self.tables = {name: self.table_of(name, words.split()) for name, words in self.lines['table'].items()}
+        described = {name: words.split() for name, words in self.lines['table'].items()}
+        self.tables = {name: Table(name, kind, role == 'parent', *others) for name, (kind, role, *others) in described.items()}
         self.cells = {path: Cell(*becomes.split('.', 1)) for path, becomes in self.lines['cell'].items()}
         self.marks = {path: Cell(*becomes.split('.', 1)) for path, becomes in self.lines['mark'].items()}
 
@@ -70,11 +70,6 @@ class Names:
             if '.' not in becomes and (what in ('cell', 'mark') or what == 'delete' and becomes):
                 raise Refusal(f'{path}:{number}', f'no table and field: {becomes}')
             self.lines[what][name] = becomes
-
-    @staticmethod
-    def table_of(name, words):
-        kind, role, key = words[:3]
-        return Table(name, kind, role == 'parent', key, words[3] if len(words) > 3 else None)
 
     def spelled(self, name):
         """A name as the parser gives it, `URI}name`, with a prefix of the table, or as it is where none has its URI."""
@@ -86,13 +81,9 @@ class Names:
 
     def columns(self, table):
         """The fields that rows of a table have in the XML model, the key first."""
-        own = self.tables[table]
-        found = {own.key: None}
-        for cell in [*self.cells.values(), *self.marks.values()]:
-            if cell.table == table:
-                for field in [cell.field.replace('#', str(at)) for at in range(MOST_REPEATED)] if '#' in cell.field else [cell.field]:
-                    found[field] = None
-        return list(found)
+        fields = [it.field for it in [*self.cells.values(), *self.marks.values()] if it.table == table]
+        numbered = (it.replace('#', str(at)) for it in fields for at in range(MOST_REPEATED if '#' in it else 1))
+        return list(dict.fromkeys([self.tables[table].key, *numbered]))
 
     def field(self, table, element):
         """What the field of a CSV file of a table becomes, if it is known."""

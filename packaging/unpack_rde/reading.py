@@ -60,7 +60,6 @@ class Row:
         self.table, self.cells, self.rows, self.repeated = table, {}, [], {}
 
     def children(self):
-        """The rows in it, each a table and its cells."""
         for row in self.rows:
             yield from row.flat({})
 
@@ -78,15 +77,14 @@ class Definition:
 
     def __init__(self, line, table, is_of_deletes, separator):
         self.line, self.table, self.is_of_deletes, self.separator = line, table, is_of_deletes, separator
-        # Each with its line, its name and its attributes; what the fields are called in their table; and whether the field that is the key is
-        # the other one by which objects are named.
-        self.fields, self.files, self.named, self.is_by_alias = [], [], None, False
+        # Each with its line, its name and its attributes; and whether the field that is the key is the other one by which objects are named.
+        self.fields, self.files, self.is_by_alias = [], [], False
 
 
 class DepositReader:
     """Reads one document. `taker` takes what it has: `begin(attributes)`, `watermark(text)`, `header(refused, name, text)`,
-    `count(refused, kind, number)`, `object(refused, table, cells, children)`, `deleted(refused, table, field, value)` and
-    `definition(definition)`, where `refused(what)` is a refusal at this place; and knows the `columns(table)`."""
+    `count(refused, kind, number)`, `object(refused, table, cells, children)`, `deleted(refused, table, field, value)`, where
+    `refused(what)` is a refusal at this place, and `definitions`; and knows the `columns(table)`."""
 
     def __init__(self, path, names, notes, taker):
         self.path, self.names, self.notes, self.taker = path, names, notes, taker
@@ -135,10 +133,10 @@ class DepositReader:
         if element is None:
             self.skipped = 1
             return
-        if element.row is not None:
-            self.take_attributes(element)
-        for attribute in element.attributes:
-            if not attribute.startswith('xsi:'):
+        for attribute, value in element.attributes.items():
+            if element.row is not None and (cell := self.names.cells.get(f'{element.path}/@{attribute}')):
+                self.set_cell(self.row_of(cell.table, element.row), cell, value.strip(WHITE), f'{element.name}/@{attribute}')
+            elif not attribute.startswith('xsi:'):
                 self.notes.add('unknown', f'attribute {self.told(name)}/@{attribute}')
         self.open.append(element)
 
@@ -146,15 +144,28 @@ class DepositReader:
     def opened(self, name, attributes):
         depth = len(self.open)
         if depth == 0:
-            return self.open_root(name, attributes)
+            if name != 'rde:deposit':
+                raise self.refused(f'no rde:deposit, but {name}')
+            self.once.add('deposit')
+            self.taker.begin({it: attributes.pop(it) for it in ('id', 'type', 'prevId', 'resend') if it in attributes})
+            return Element(name, '', 'deposit', attributes, None)
         if depth == 1:
-            return self.open_section(name, attributes)
+            prefix, _, section = name.partition(':')
+            if prefix != 'rde' or section not in ('watermark', 'rdeMenu', 'deletes', 'contents'):
+                return self.unknown(name)
+            if section in self.once and section in ('watermark', 'rdeMenu'):
+                raise self.refused(f'{name} is there twice')
+            self.once.add(section)
+            self.section = section
+            return Element(name, '', section, attributes, None)
         if self.definition is not None or self.open[-1].does == 'files':
             return self.open_in_files(name, attributes)
         if self.section == 'rdeMenu':
             return self.open_listed(name, attributes, {'rde:version': 'version', 'rde:objURI': 'objURI'})
+        if self.open[-1].does == 'header' and name == 'rdeHeader:count':
+            return self.open_count(name, attributes)
         if self.open[-1].does == 'header':
-            return self.open_in_header(name, attributes)
+            return self.open_listed(name, attributes, dict.fromkeys(HEADER_TEXTS, 'header text'))
         if self.section in ('contents', 'deletes'):
             return self.open_in_object(name, attributes)
         return self.unknown(name)
@@ -165,28 +176,6 @@ class DepositReader:
 
     def open_listed(self, name, attributes, known):
         return Element(name, '', known[name], attributes, None) if name in known else self.unknown(name)
-
-    def open_root(self, name, attributes):
-        if name != 'rde:deposit':
-            raise self.refused(f'no rde:deposit, but {name}')
-        self.once.add('deposit')
-        self.taker.begin({it: attributes.pop(it) for it in ('id', 'type', 'prevId', 'resend') if it in attributes})
-        return Element(name, '', 'deposit', attributes, None)
-
-    def open_section(self, name, attributes):
-        prefix, _, section = name.partition(':')
-        if prefix != 'rde' or section not in ('watermark', 'rdeMenu', 'deletes', 'contents'):
-            return self.unknown(name)
-        if section in self.once and section in ('watermark', 'rdeMenu'):
-            raise self.refused(f'{name} is there twice')
-        self.once.add(section)
-        self.section = section
-        return Element(name, '', section, attributes, None)
-
-    def open_in_header(self, name, attributes):
-        if name == 'rdeHeader:count':
-            return self.open_count(name, attributes)
-        return self.open_listed(name, attributes, {it: 'header text' for it in HEADER_TEXTS})
 
     def open_count(self, name, attributes):
         uri = attributes.pop('uri', '').strip(WHITE)
@@ -219,21 +208,24 @@ class DepositReader:
         if self.section == 'contents' and path in lines['group'] or above.row is not None and path in self.names.cells or (
                 self.section == 'deletes' and path in lines['delete']):
             return Element(name, path, 'part', attributes, above.row)
-        if self.is_of_files(path):
+        # An element holds CSV files, of this section.
+        if path.endswith(f':{self.section}') and any(it.startswith(f'{path}/') for it in lines['csv']):
             return Element(name, path, 'files', attributes, None)
         if path in lines['leave']:
             self.notes.add('left out', self.told(name))
             return None
         return self.unknown(name)
 
-    # Whether an element holds CSV files, of this section.
-    def is_of_files(self, path):
-        return path.endswith(f':{self.section}') and any(it.startswith(f'{path}/') for it in self.names.lines['csv'])
-
     def open_in_files(self, name, attributes):
         does = self.open[-1].does
         if does == 'files' and name == 'rdeCsv:csv':
-            return self.open_csv(name, attributes)
+            purpose = attributes.pop('name', '').strip(WHITE)
+            table = self.names.lines['csv'].get(f'{self.open[-1].path}/{purpose}')
+            if table is None:
+                self.notes.add('unknown', f'{self.told(name)} of {purpose or "no name"}')
+                return None
+            self.definition = Definition(self.parser.CurrentLineNumber, table, self.section == 'deletes', attributes.pop('sep', ','))
+            return Element(name, '', 'csv', attributes, None)
         if does == 'csv' and name in ('rdeCsv:fields', 'rdeCsv:files'):
             return Element(name, '', name, attributes, None)
         if does == 'rdeCsv:fields':
@@ -245,23 +237,6 @@ class DepositReader:
             self.definition.files.append([self.parser.CurrentLineNumber, '', said])
             return Element(name, '', 'file', attributes, None)
         return self.unknown(name)
-
-    def open_csv(self, name, attributes):
-        purpose = attributes.pop('name', '').strip(WHITE)
-        table = self.names.lines['csv'].get(f'{self.open[-1].path}/{purpose}')
-        if table is None:
-            self.notes.add('unknown', f'{self.told(name)} of {purpose or "no name"}')
-            return None
-        self.definition = Definition(self.parser.CurrentLineNumber, table, self.section == 'deletes', attributes.pop('sep', ','))
-        return Element(name, '', 'csv', attributes, None)
-
-    # Takes the attributes of an element that the table names.
-    def take_attributes(self, element):
-        for attribute in list(element.attributes):
-            cell = self.names.cells.get(f'{element.path}/@{attribute}')
-            if cell is not None:
-                value = element.attributes.pop(attribute)
-                self.set_cell(self.row_of(cell.table, element.row), cell, value.strip(WHITE), f'{element.name}/@{attribute}')
 
     # The innermost open row of a table.
     def row_of(self, table, row):
@@ -306,7 +281,10 @@ class DepositReader:
     def closed(self, element, word):
         does = element.does
         if does == 'watermark':
-            self.taker.watermark(self.read_watermark(word))
+            try:
+                self.taker.watermark(in_utc(word))
+            except (ValueError, OverflowError) as error:
+                raise self.refused(f'rde:watermark {word}: {error}') from None
         elif does == 'version':
             if word != '1.0':
                 self.notes.add('unknown', f'{self.told(element.name)} {word}')
@@ -316,19 +294,16 @@ class DepositReader:
         elif does == 'header text':
             self.taker.header(self.refused, element.name.partition(':')[2], word)
         elif does == 'count':
-            self.close_count(element.path, word)
+            if not re.fullmatch(r'\d{1,20}', word, re.ASCII) or int(word) >= 1 << 64:
+                raise self.refused(f'no number of objects: {word}')
+            self.taker.count(self.refused, element.path, int(word))
         elif does == 'file':
             self.definition.files[-1][1] = word
         elif does == 'csv':
-            self.taker.definition(self.definition)
+            self.taker.definitions.append(self.definition)
             self.definition = None
         elif does != 'left count':
             self.close_part(element, word)
-
-    def close_count(self, kind, word):
-        if not re.fullmatch(r'\d{1,20}', word, re.ASCII) or int(word) >= 1 << 64:
-            raise self.refused(f'no number of objects: {word}')
-        self.taker.count(self.refused, kind, int(word))
 
     # The end of a row, or of a part of one: what its text is, and what is in it where it is an object.
     def close_part(self, element, word):
@@ -343,9 +318,3 @@ class DepositReader:
             self.notes.add('unknown', f'text in {self.told(element.name)}')
         if element.does == 'row' and self.open[-1].does == 'contents':
             self.taker.object(self.refused, element.row.table, element.row.cells, element.row.children())
-
-    def read_watermark(self, word):
-        try:
-            return in_utc(word)
-        except (ValueError, OverflowError) as error:
-            raise self.refused(f'rde:watermark {word}: {error}') from None

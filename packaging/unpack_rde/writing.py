@@ -6,15 +6,10 @@ QUOTED = ('"', ',', '\r', '\n')
 DESCRIPTION = 'envelope.json'
 
 
-def field_text(field):
-    if any(it in field for it in QUOTED):
-        return '"' + field.replace('"', '""') + '"'
-    return field
-
-
 def row_text(row):
+    fields = ['"' + it.replace('"', '""') + '"' if any(sign in it for sign in QUOTED) else it for it in row]
     # A row of one empty field would be an empty line, which is no row.
-    return '""\n' if list(row) == [''] else ','.join(map(field_text, row)) + '\n'
+    return '""\n' if fields == [''] else ','.join(fields) + '\n'
 
 
 class TableFile:

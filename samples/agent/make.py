@@ -32,5 +32,4 @@ def main():
             path.unlink()
 
 
-if __name__ == '__main__':
-    main()
+main()

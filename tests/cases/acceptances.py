@@ -16,9 +16,6 @@ SEEDS = (*range(26), 305, 129, 68, 28)
 TESTS = ('end', 'resends', 'gaps', 'parked', 'findings', 'orphans', 'counts', 'fields', 'names', 'bodies', 'tables')
 
 
-# ---- what goes bad in a store: in the file, and in what the model keeps
-
-
 def changed_body(change):
     """Changes a held body, mostly one of the chain."""
     def spoil(stage, store, desk, chance):
@@ -60,19 +57,6 @@ SPOILINGS = {
 }
 
 
-# ---- the lines
-
-
-def compare_lines(tests, out):
-    """Compares the line of each test: just as it is where it passes, else it goes on with what to do."""
-    lines = out.decode().splitlines()
-    compare('number of lines', f'{len(tests)}', f'{len(lines)}')
-    wrong = [f'wanted {wanted} ..\ngot    {line}' for (_, passes, _), wanted, line in zip(tests, (beginning(*it) for it in tests), lines)
-             if not (line == wanted if passes else line.startswith(wanted))]
-    if wrong:
-        raise Failed('\n'.join(wrong))
-
-
 def check_store(stage, store, desk, seen):
     """Compares what is said of a store, which stays as it is, and notes the word of each test. Nothing but S1 is said where the body of the
     chain's last deposit is no bundle."""
@@ -80,7 +64,13 @@ def check_store(stage, store, desk, seen):
     tests = list(tests_of(Seen(desk))) if is_read else []
     got = stage.end(stage.begin(['check', '--store', store], 'handover'))
     compare('standard error', '' if is_read else 'S1\n', got.err.decode())
-    compare_lines(tests, got.out)
+    # The line of a test that passes is just as it is, another one goes on with what to do.
+    lines = got.out.decode().splitlines()
+    compare('number of lines', f'{len(tests)}', f'{len(lines)}')
+    wrong = [f'wanted {wanted} ..\ngot    {line}' for (_, passes, _), wanted, line in zip(tests, (beginning(*it) for it in tests), lines)
+             if not (line == wanted if passes else line.startswith(wanted))]
+    if wrong:
+        raise Failed('\n'.join(wrong))
     compare('status', '3' if not is_read else '0' if is_accepted(tests) else '1', f'{got.status}')
     if read(stage.at(store)) != before or len(read(stage.at(f'{store}-wal'))) > EMPTY_LOG:
         raise Failed('the store is changed')

@@ -21,16 +21,6 @@ def check_same(wanted, found):
             raise Failed(f'{key}: wanted {wanted.get(key)}, got {found.get(key)}')
 
 
-def exported(stage):
-    """The objects of a store, by kind and key, as `export` prints them."""
-    rows = {}
-    for kind in KINDS:
-        text = io.StringIO(run(stage, f'export --store desk.db {kind}').decode(), newline='')
-        for _, key, table, row, field, value in list(csv.reader(text, strict=True))[1:]:
-            rows.setdefault((kind, key), {}).setdefault((table, row), {})[field] = value
-    return {key: told((table, cells) for (table, _), cells in its.items()) for key, its in rows.items()}
-
-
 def rebuild(stage, *bundles):
     """Rebuilds a store from bundles in the folder of these."""
     stage.write('manifest.csv', run(stage, ' '.join(['manifest', *(f'bundles/{it}' for it in bundles)]), 'pack'))
@@ -39,12 +29,17 @@ def rebuild(stage, *bundles):
 
 
 def restored(stage, *deposits):
-    """The objects that are in a store after these deposits, each the folder of its description."""
+    """The objects that are in a store after these deposits, each the folder of its description: by kind and key, as `export` prints them."""
     os.mkdir(stage.at('bundles'))
     for name in deposits:
         run(stage, f'bundle --envelope {name}/envelope.json {name} bundles/{name}', 'pack')
     rebuild(stage, *deposits)
-    return exported(stage)
+    rows = {}
+    for kind in KINDS:
+        text = io.StringIO(run(stage, f'export --store desk.db {kind}').decode(), newline='')
+        for _, key, table, row, field, value in list(csv.reader(text, strict=True))[1:]:
+            rows.setdefault((kind, key), {}).setdefault((table, row), {})[field] = value
+    return {key: told((table, cells) for (table, _), cells in its.items()) for key, its in rows.items()}
 
 
 def lowered(objects):
@@ -141,7 +136,6 @@ V5,domain,a.example,crDate,2024-03-04T00:00:00Z,2024-03-03T00:00:00Z
 
 def test_headings(stage):
     """In a heading a field may have the name of the CSV model for the desk's, and no other."""
-    os.mkdir(stage.at('files'))
     for at, (table, fields, heading, is_named) in enumerate(HEADINGS):
         names = fields.split()
         declared = {'name': table, 'kind': 'domain', 'role': 'parent' if table == 'domain' else 'child', 'key': names[0], 'fields': names,
@@ -159,7 +153,6 @@ def test_headings(stage):
 
 def test_findings(stage):
     """Files with the names of RFC 9022 are proposed under the desk's, and what is wrong in them is found."""
-    os.mkdir(stage.at('files'))
     for name, text in NAMED.items():
         stage.write(f'files/{name}', text.encode())
     stage.check('describe files', Wanted(0, PROPOSED, UNKNOWN), program='pack')

@@ -1,8 +1,7 @@
 """Bundles as they arrive: what their sections have, and what is refused for its frame."""
 from support.bundles import CHILD, FILES, FIRST_LINE, FRONT, SAMPLE, bundle_of, envelope_of, section
 from support.stage import compare
-from support.verdicts import check_faults, check_held
-from support.worked_rows import C1
+from support.verdicts import C1, check_faults, check_held
 
 # What stands in place of the second section and the end, by the fault. A deposit is read once its frame was: U9 is none of the frame.
 BACKS = {

@@ -3,8 +3,7 @@ from dataclasses import dataclass
 
 from support.bundles import FIRST_LINE, bundle_of, row_of, section
 from support.stage import case, compare, text_of
-from support.verdicts import F1, check_faults, check_held, desk_over, reply_to
-from support.worked_rows import C1, DOMAIN_A, DOMAIN_B
+from support.verdicts import C1, DOMAIN_A, DOMAIN_B, F1, check_faults, check_held, desk_over, reply_to
 
 DECLARED = {
     'contact': '{"name":"contact","kind":"contact","role":"parent","key":"id","fields":["id","clID"],"file":"c.csv"}',
@@ -27,7 +26,6 @@ class Tables:
     files: bytes
 
     def body(self, header=FULL):
-        """The bundle of a deposit with this header."""
         declared = [','.join(DECLARED[it] for it in names.split()) for names in (self.contents, self.deletes)]
         return bundle_of('{{{},"contents":[{}],"deletes":[{}]}}'.format(header, *declared).encode(), self.files)
 
@@ -126,14 +124,6 @@ def test_deletes_of_differentials(stage):
             compare('objects', text_of(objects), desk.ask('tables'))
 
 
-def end_with(stage, desk, body):
-    """How the chain ends with another body in the place of the one that is held."""
-    stage.write('end.sql', f"UPDATE held SET body = X'{body.hex()}';\n".encode())
-    for line, wanted in (('close', ''), ('script end.sql', ''), ('open', 'opened\n')):
-        desk.check(line, wanted)
-    return desk.ask('end')
-
-
 def test_envelopes_alone(stage):
     """Of the deposit at the end of the chain the envelope alone is read.
 
@@ -144,22 +134,20 @@ def test_envelopes_alone(stage):
         compare('reply to the Full', 'A1,,F1,0,new,0', reply_to(stage, desk, 1, full))
         compare('end of the Full', '2024-03-10T00:00:00Z\n', desk.ask('end'))
         for body, end in ends:
-            compare(f'end with {body}', end, end_with(stage, desk, body))
-
-
-def check_size(stage, letters, count, *faults):
-    """Compares what is said of a Full of contacts, whose keys are so many letters and a number, alone and with a deleted domain."""
-    keys = ['x' * letters + str(at) for at in range(count)]
-    files = section('c.csv', ''.join(f'{it},R1\n' for it in keys).encode())
-    name = f'{count} contacts of {letters} letters and a number'
-    for tables, fault in zip((Tables('contact', '', files), Tables('contact', 'deleted', files + b'gone.csv 10\na.example\n\n')), faults):
-        if fault:
-            check_faults(stage, [(name, tables.body(), fault)])
-        else:
-            check_held(stage, name, tables.body(), [f'contact {it}: contact id={it} clID=R1' for it in sorted(keys)])
+            stage.write('end.sql', f"UPDATE held SET body = X'{body.hex()}';\n".encode())
+            for line, wanted in (('close', ''), ('script end.sql', ''), ('open', 'opened\n')):
+                desk.check(line, wanted)
+            compare(f'end with {body}', end, desk.ask('end'))
 
 
 def test_keys_and_rows_have_limits(stage):
     """As long a key and as many rows as a deposit may have, and more."""
-    for size in SIZES:
-        check_size(stage, *size)
+    for letters, count, *faults in SIZES:
+        keys = ['x' * letters + str(at) for at in range(count)]
+        files = section('c.csv', ''.join(f'{it},R1\n' for it in keys).encode())
+        name = f'{count} contacts of {letters} letters and a number'
+        for tables, fault in zip((Tables('contact', '', files), Tables('contact', 'deleted', files + b'gone.csv 10\na.example\n\n')), faults):
+            if fault:
+                check_faults(stage, [(name, tables.body(), fault)])
+            else:
+                check_held(stage, name, tables.body(), [f'contact {it}: contact id={it} clID=R1' for it in sorted(keys)])

@@ -5,8 +5,7 @@ from dataclasses import dataclass
 from support.bodies import bytes_of, line_of
 from support.bundles import ENVELOPE, SAMPLE, bundle_of, row_of, section
 from support.stage import case, compare
-from support.verdicts import F1, check_faults, check_held, desk_over, reply_to
-from support.worked_rows import C1
+from support.verdicts import C1, F1, check_faults, check_held, desk_over, reply_to
 
 # A Differential without tables, on the worked body F5.
 COUNTED = (b'{"id":"D6","type":"DIFF","prevId":"F5","resend":2,"watermark":"2024-03-11T00:00:00Z",'
@@ -50,17 +49,9 @@ class Read:
 
 
 READ = (
-    Read(''),
-    Read(',"tld":1'),
-    Read(',"prevId":null'),
-    Read(',"prevId":""'),
-    Read(',"prevId":"F1"'),
-    Read(',"resend":null'),
-    Read(',"resend":999999', resend=999_999),
-    Read(',"counts":{}'),
+    Read(''), Read(',"tld":1'), Read(',"prevId":null'), Read(',"prevId":""'), Read(',"prevId":"F1"'), Read(',"resend":null'),
+    Read(',"resend":999999', resend=999_999), Read(',"counts":{}'), Read(',"counts":{"domains":-1}'), Read(contents()),
     Read(',"counts":{"domain":18446744073709551615}', counts=('domain 18446744073709551615',)),
-    Read(',"counts":{"domains":-1}'),
-    Read(contents()),
     Read(contents(table(), table(name='"i"', kind='"domain"', file='"g"')), ('host f: h a=f', 'domain g: i a=g')),
     Read(contents(table()) + deletes(table(file='"g"')), ('host f: h a=f',)),
     Read(deletes(table(), table(name='"i"', file='"g"'))),

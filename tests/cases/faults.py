@@ -10,15 +10,13 @@ import functools, re
 from typing import NamedTuple
 
 from support.bodies import bytes_of, manifest_text
-from support.events import FILES, NOON, TABLES, check, put_files, put_first_store, query, run, run_line
+from support.events import FILES, NOON, TABLES, check, is_open, over_calls, put_files, put_first_store, query, run, run_line
 from support.first_store import rows_of
 from support.harness import Harness
 from support.model import Desk
 from support.stage import Failed, case, compare, text_of
 from support.telling import answer, rows_told
 
-# More calls than there are.
-MOST_CALLS = 5_000
 # How many pages the log may have where a call of a file fails, so that it is never copied into the database file, or before each commit;
 # and how many that were read are kept.
 ROOMS = {'log': '1000 2000', 'database': '1 2000'}
@@ -36,7 +34,6 @@ class List(NamedTuple):
     events: tuple
 
     def model(self):
-        """The plain model of the store that is made."""
         early = (('1', 'F1'), *LOST) if self.before else ()
         return Desk(manifest_text(self.first).encode(), early=[(number, bytes_of(name)) for number, name in early])
 
@@ -57,24 +54,6 @@ MIGRATED = List(('script first.sql',), 'migrate', 'migrated\n', ('F1',), AGAIN)
 CLOSED = List(('script first.sql', 'reopen'), 'migrate', 'migrated\n', ('F1',), AGAIN)
 
 
-class Taken(NamedTuple):
-    """What comes of a list: a line for each event, the same once it is sent again, and then all rows of the store."""
-    came: str
-    again: str
-    rows: str
-
-
-# ---- desks
-
-
-def is_open(desk, told):
-    """Opens a store, which is made or migrated where there is none of this version. Whether it is open: `S1` alone refuses it."""
-    answer = check(desk, 'open', 'opened\n', 'S1\n', 'S3\n')
-    if answer == 'S3\n':
-        answer = check(desk, told.make, told.made, 'S1\n')
-    return answer != 'S1\n'
-
-
 def send(desk, events):
     """What comes of events in one run: an answer to each, or `S1`."""
     came = run(desk, events)
@@ -84,14 +63,13 @@ def send(desk, events):
 
 
 def has_lost(came):
-    """Whether something was refused."""
     return 'S1' in came.splitlines()
 
 
 def send_soundly(desk, told):
     """Opens the files, of which no call fails any more, and gives what comes of the list."""
     check(desk, 'crash written', '')
-    if not is_open(desk, told):
+    if not is_open(desk, told.make, told.made):
         raise Failed('> open\n  S1 of sound files')
     came = send(desk, told.events)
     if has_lost(came):
@@ -99,26 +77,13 @@ def send_soundly(desk, told):
     return came
 
 
-def rows_in(desk):
-    """All rows of the store, with the query before those of each table. No call fails any more."""
-    check(desk, 'crash written', '')
-    return ''.join(f'> {it}\n{desk.ask(it)}' for it in map(query, TABLES))
-
-
-def prepare(desk, told, is_again):
-    """What a list finds: nothing, a store that is to be migrated, or one that took the list."""
-    for line in told.before:
-        check(desk, line, '')
-    if is_again:
-        send_soundly(desk, told)
-
-
 def send_twice(desk, told):
     """Sends a list over files of which one call fails, and sends it again: to the same desk, where that refused an event; or else, and
     where it refuses again, to the one of the files that are opened again. Where the store is refused it is tried once more, and then the
-    files are opened again. Gives what comes of it, whether the files had to be opened again, and whether the call came."""
+    files are opened again. Gives what comes of it (a line for each event, the same once it is sent again, and then all rows of the store),
+    whether the files had to be opened again, and whether the call came."""
     again = None
-    if is_open(desk, told) or is_open(desk, told):
+    if is_open(desk, told.make, told.made) or is_open(desk, told.make, told.made):
         came = send(desk, told.events)
         if has_lost(came):
             again = send(desk, told.events)
@@ -128,7 +93,9 @@ def send_twice(desk, told):
     is_reopened = again is not None and has_lost(again)
     if again is None or is_reopened:
         again = send_soundly(desk, told)
-    return Taken(came, again, rows_in(desk)), is_reopened, has_failed
+    check(desk, 'crash written', '')
+    rows = ''.join(f'> {it}\n{desk.ask(it)}' for it in map(query, TABLES))
+    return (came, again, rows), is_reopened, has_failed
 
 
 def undisturbed(stage, told, is_again, answered, is_kept):
@@ -140,22 +107,23 @@ def undisturbed(stage, told, is_again, answered, is_kept):
     came = [answer(stage, model, line).text if it or at == kept else '' for at, (line, it) in enumerate(zip(told.events, answered))]
     again = text_of(answer(stage, model, line).text for line in told.events)
     rows = rows_of(model)
-    return Taken(text_of(line if it else 'S1' for line, it in zip(came, answered)), again,
-                 ''.join(f'> {query(it)}\n{rows_told(rows[it])}' for it in TABLES))
-
-
-# ---- each call
+    return (text_of(line if it else 'S1' for line, it in zip(came, answered)), again,
+            ''.join(f'> {query(it)}\n{rows_told(rows[it])}' for it in TABLES))
 
 
 def check_call(stage, told, file, is_again, wanted_of, calls):
     """Compares what comes of a list where the call after so many others fails. Where the files had to be opened again that may be what
     comes of the answered events and the first of the others. Gives whether they had to be, and whether the call came."""
     with Harness(stage) as desk:
-        prepare(desk, told, is_again)
+        # The list finds nothing, a store that is to be migrated, or one that took it.
+        for line in told.before:
+            check(desk, line, '')
+        if is_again:
+            send_soundly(desk, told)
         check(desk, f'room {ROOMS[file]}', '')
         check(desk, f'fail {file} {calls}', '')
         taken, is_reopened, has_failed = send_twice(desk, told)
-    answered = tuple(it != 'S1' for it in taken.came.splitlines())
+    answered = tuple(it != 'S1' for it in taken[0].splitlines())
     if answered.count(False) > 1 and not is_reopened:
         raise Failed(f'{answered.count(False)} events were refused')
     wanted = wanted_of(answered, False)
@@ -171,15 +139,16 @@ def check_calls(stage, told, file, is_again, reopened):
     """Each call, up to a run of which none fails. After so many of them the files have to be opened again."""
     put_files(stage, first=WORKED.first, second=('F1', 'D2'), third=('F1', 'D2', 'D3'), moved=MOVED.first)
     put_first_store(stage, LOST)
-    count, wanted_of = 0, functools.cache(functools.partial(undisturbed, stage, told, is_again))
-    for calls in range(MOST_CALLS):
-        with case(f'the call of the {file} after {calls} others fails'):
-            is_reopened, has_failed = check_call(stage, told, file, is_again, wanted_of, calls)
-        if not has_failed:
-            break
-        count += is_reopened
-    if has_failed or count != reopened:
-        raise Failed(f'the files had to be opened again after {count} of {calls} calls of the {file}: wanted {reopened}')
+    ends, wanted_of = [], functools.cache(functools.partial(undisturbed, stage, told, is_again))
+
+    def play(calls):
+        is_reopened, has_failed = check_call(stage, told, file, is_again, wanted_of, calls)
+        ends.append(is_reopened)
+        return has_failed
+
+    over_calls(file, play)
+    if sum(ends) != reopened:
+        raise Failed(f'the files had to be opened again after {sum(ends)} calls of the {file}: wanted {reopened}')
 
 
 # When a call fails: the list, whether it is sent again, and after how many calls of each file the files have to be opened again.

@@ -6,12 +6,13 @@ objects themselves are put into the store, by their records: no deposit has a ro
 table apart from each other."""
 from dataclasses import dataclass, field
 
-from support.bundles import Header, Table, csv_text, deposit, manifest
+from support.bundles import Header, Table, deposit, manifest
 from support.clients import Wire, new_desk, table
 from support.events import check
 from support.first_store import insertion
 from support.formats import KINDS, record
 from support.messages import get
+from support.registries import csv_text
 from support.stage import case
 
 # The fields that are the keys of parent rows, and of child rows.
@@ -105,9 +106,6 @@ FIRST_NS = ('domain,e.example,domainNs,1,domainName,e.example', 'domain,e.exampl
             'domain,e.example,domainNs,2,domainName,e.example', 'domain,e.example,domainNs,2,hostName,ns2.e.example')
 LAST_NS = ('domain,e.example,domainNs,3,domainName,e.example', 'domain,e.example,domainNs,3,hostName,ns3.e.example')
 STATUSES = ('domain,e.example,domainStatuses,1,domainName,e.example', 'domain,e.example,domainStatuses,1,status,ok')
-
-
-# ---- the objects of a registry, and the deposit of them
 
 
 def objects_in(text):

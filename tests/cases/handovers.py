@@ -1,20 +1,22 @@
 """`handover bundle`: registries that are rebuilt from their tables as one deposit; and the refusals of all commands of `handover`, after
 which nothing is left behind."""
-import contextlib, os, resource, shutil, signal, sqlite3
+import contextlib, functools, os, shutil, sqlite3
 
 from support import formats
 from support.bundles import Header, Table, deposit, manifest
 from support.files import read
 from support.flawed import some_release
 from support.formats import KINDS, envelope_in, record
-from support.outputs import run_held_up
+from support.outputs import no_longer_files, run_held_up
 from support.releases import SAMPLES, Release, numbered, sample
 from support.reports import report
 from support.stage import Failed, Wanted, case, compare, compare_all
 from support.steps import Copy, FirstStore, Folder, Link, Statements, Text
-from support.stores import EMPTY_LOG, change_row, objects_of, run
+from support.stores import EMPTY_LOG, change_row, opened, run
 
 CHECK, BUNDLE, TABLES, PAGE = 'check --store a.db', 'bundle --store a.db --id G1 out', 'tables --store a.db out', 'page --store a.db out'
+# More bytes than a log has, and fewer than what is made of a registry.
+SHORT = 100
 
 
 def names_in(folder):
@@ -23,7 +25,6 @@ def names_in(folder):
 
 
 def clear(stage):
-    """Removes all that is in the folder."""
     for name in os.listdir(stage.room.name):
         path = stage.at(name)
         shutil.rmtree(path) if os.path.isdir(path) and not os.path.islink(path) else os.remove(path)
@@ -44,28 +45,23 @@ REBUILT = {name: it.rebuild for name, it in SAMPLES.items()} | {'the release in 
     f'the release of seed {seed}': lambda stage, seed=seed: some_release(seed).rebuild(stage) for seed in range(4)}
 
 
-def end_of(stage, store):
-    """The watermark of the chain's end."""
-    lines = dict(it.split(' ', 1) for it in run(stage, f'report --store {store} status').decode().splitlines())
-    return lines['end'].split()[0]
-
-
-def check_deposit(body, watermark, objects):
-    """Compares what the plain reader finds in a bundle: a Full that has these objects and says how many there are, and no other rows."""
-    found = formats.deposit(body)
-    compare('header', f'G1 {watermark} FULL None 0', f'{found.name} {formats.place_text(found.place)} {found.prev} {found.resend}')
-    compare('counts', f'{ {kind: sum(it[0] == kind for it in objects) for kind in KINDS} }', f'{found.counts}')
-    if found.orphans or found.deletes or found.says != objects:
-        raise Failed('the bundle has other objects')
-
-
-def check_there_and_back(stage):
-    """A registry is bundled, and rebuilt from that bundle alone: each export is the same, and so is the bundle of that."""
+def check_there_and_back(stage, rebuild, *given):
+    """A registry that is rebuilt so is bundled, and rebuilt from that bundle alone: each export is the same, and so is the bundle of
+    that."""
+    rebuild(stage, *given)
     Folder('next').do(stage)
     run(stage, 'bundle --store a.db --id G1 next/n1', 'handover')
     compare('files', 'n1', ' '.join(os.listdir(stage.at('next'))))
     body = read(stage.at('next/n1'))
-    check_deposit(body, end_of(stage, 'a.db'), objects_of(stage, 'a.db'))
+    # The plain reader finds in it a Full of the chain's end that has the store's objects and says how many there are, and no other rows.
+    end = dict(it.split(' ', 1) for it in run(stage, 'report --store a.db status').decode().splitlines())['end'].split()[0]
+    with opened(stage.at('a.db')) as database:
+        objects = {(KINDS[kind], key): it for kind, key, it in database.execute('SELECT kind, key, record FROM object')}
+    found = formats.deposit(body)
+    compare('header', f'G1 {end} FULL None 0', f'{found.name} {formats.place_text(found.place)} {found.prev} {found.resend}')
+    compare('counts', f'{ {kind: sum(it[0] == kind for it in objects) for kind in KINDS} }', f'{found.counts}')
+    if found.orphans or found.deletes or found.says != objects:
+        raise Failed('the bundle has other objects')
     stage.write('next.csv', run(stage, 'manifest next/n1', 'pack'))
     stage.check('init --store b.db --manifest next.csv', Wanted(0, 'listed 1\n'))
     stage.check('take --store b.db next', Wanted(0, report('receipts', ['1,n1,A1,,G1,0,new,0'])))
@@ -76,14 +72,7 @@ def check_there_and_back(stage):
         raise Failed('the bundle of the registry that was rebuilt is another one')
 
 
-def there_and_back(rebuild):
-    def play(stage):
-        rebuild(stage)
-        check_there_and_back(stage)
-    return play
-
-
-CASES = {f'There and back: {name}': there_and_back(rebuild) for name, rebuild in REBUILT.items()}
+CASES = {f'There and back: {name}': functools.partial(check_there_and_back, rebuild=it) for name, it in REBUILT.items()}
 
 
 # ---- tables that are or aren't one deposit
@@ -113,7 +102,6 @@ def release_of(*contents):
 
 
 def store_of(stage, *contents):
-    """A store that holds these."""
     release_of(*contents).rebuild(stage)
     compare('held', f'held {len(contents)}', run(stage, 'report --store a.db status').decode().splitlines()[1])
 
@@ -168,24 +156,20 @@ def played_apart(play, given):
     """A case that plays each of these in a folder of its own."""
     def play_all(stage):
         for at, it in enumerate(given):
-            with case(f'row {at}'):
+            with case(f'row {at}, {it!r:.200}'):
                 play(stage, *it)
             clear(stage)
     return play_all
 
 
-def check_no_deposit(stage, refusal, *contents):
+def check_contents_refused(stage, refusal, *contents, lines=(BUNDLE,)):
     store_of(stage, *contents)
-    check_refused(stage, refusal)
+    for line in lines:
+        check_refused(stage, refusal, line)
 
 
-def check_deposit_of(stage, *contents):
-    store_of(stage, *contents)
-    check_there_and_back(stage)
-
-
-CASES['Tables that are no one deposit'] = played_apart(check_no_deposit, REFUSED)
-CASES['Tables that are one deposit'] = played_apart(check_deposit_of, TAKEN)
+CASES['Tables that are no one deposit'] = played_apart(check_contents_refused, REFUSED)
+CASES['Tables that are one deposit'] = played_apart(check_there_and_back, [(store_of, *it) for it in TAKEN])
 
 
 def check_limit(stage, refusal, first, second, later):
@@ -195,7 +179,6 @@ def check_limit(stage, refusal, first, second, later):
     os.rename(stage.at('out'), stage.at('done'))
     body = deposit(D2_LATER, later)
     stage.write('later.csv', manifest([(D2_LATER, body)]))
-    Folder('later').do(stage)
     stage.write('later/n3', body)
     run(stage, 'amend --store a.db --manifest later.csv')
     stage.check('take --store a.db later', Wanted(0, report('receipts', ['3,n3,A1,,D2,1,new,0'])))
@@ -249,13 +232,12 @@ def test_other_objects(stage):
 
 # What stands in a store's place, the refusal, and whether it is opened as a database.
 OTHERS = (
-    ('a file that is no database', Copy('a.db', 'no-database.txt'), 'S1', True),
-    ('an empty file', Text('a.db', ''), 'S3', True),
-    ('another database', Statements('a.db', 'CREATE TABLE note (id INTEGER PRIMARY KEY)'), 'S3', True),
-    ('a store of version 1', FirstStore('a.db', 'first.csv', (('n1', 'f1.bundle'),)), 'S3', True),
-    ('a folder', Folder('a.db'), 'E1 a.db', False),
-    ('a link to nothing', Link('a.db', 'absent.db'), 'S3', False),
-    ('nothing', Folder('more'), 'S3', False),
+    (Copy('a.db', 'no-database.txt'), 'S1', True), (Text('a.db', ''), 'S3', True),
+    (Statements('a.db', 'CREATE TABLE note (id INTEGER PRIMARY KEY)'), 'S3', True),
+    # A store of version 1.
+    (FirstStore('a.db', 'first.csv', (('n1', 'f1.bundle'),)), 'S3', True),
+    # A folder, a link to nothing, and nothing.
+    (Folder('a.db'), 'E1 a.db', False), (Link('a.db', 'absent.db'), 'S3', False), (Folder('more'), 'S3', False),
 )
 
 
@@ -270,15 +252,10 @@ def check_no_store(stage, line, made, refusal, is_opened):
     if is_opened and not before:
         with contextlib.closing(sqlite3.connect(stage.at('a.db'))) as database:
             compare('tables', '[]', f'{database.execute("SELECT name FROM sqlite_master").fetchall()}')
-    clear(stage)
 
 
-def test_no_stores(stage):
-    """What is no store is refused, and nothing is made but a log."""
-    for name, *given in OTHERS:
-        for line in (CHECK, BUNDLE, TABLES, PAGE):
-            with case(f'{name}: $ handover {line}'):
-                check_no_store(stage, line, *given)
+CASES['What is no store is refused, and nothing is made but a log'] = played_apart(
+    check_no_store, [(line, *it) for it in OTHERS for line in (CHECK, BUNDLE, TABLES, PAGE)])
 
 
 def test_a_store_that_is_in_use(stage):
@@ -301,12 +278,6 @@ def test_a_body_that_is_no_bundle(stage):
         check_refused(stage, 'S1', line, 3)
 
 
-def limit_files(most=100):
-    """Lets no file grow past so many bytes. (A log is shorter than 100, what is made of a registry isn't.)"""
-    signal.signal(signal.SIGXFSZ, signal.SIG_IGN)
-    resource.setrlimit(resource.RLIMIT_FSIZE, (most, most))
-
-
 def test_where_nothing_is_written(stage):
     """A bundle or a page that can't be written, or whose place is taken."""
     store_of(stage, (FIRST,))
@@ -318,7 +289,7 @@ def test_where_nothing_is_written(stage):
                 check_refused(stage, f'E1 {target or "(an empty path)"}', line, 3, ['a.db', 'file', 'beside.part'],
                               words=[*line.split()[:-1], target])
         with case('a file that is too long'):
-            check_refused(stage, 'E1 out', line, 3, prepare=limit_files)
+            check_refused(stage, 'E1 out', line, 3, prepare=no_longer_files(SHORT))
     with open('/dev/full', 'wb') as full:
         stage.check(CHECK, Wanted(3, '', 'E1 -\n'), program='handover', out=full)
 
@@ -339,42 +310,20 @@ def test_progress(stage):
 
 
 # Words that are no command. The last one has a byte that is no UTF-8.
-NO_WORDS = '''check
-check --store
-check --store a.db more
-check --store a.db --store a.db
-check --store a.db --id G1
-Check --store a.db
---store a.db check
-rows --store a.db out
-bundle --store a.db
-bundle --store a.db --id G1
-bundle --store a.db out
-bundle --id G1 out
-bundle --store a.db --id G1 out more
-bundle --store a.db --id G1 --all out
-page
-page --store a.db
-page out
-page --store a.db out more
-page --store a.db --id G1 out
-tables
-tables --store a.db
-tables out
-tables --store a.db out more
-tables --store a.db --sqlite=yes out
-tables --store a.db --sqlite --sqlite out
-tables --store a.db --Sqlite out
-tables --store a.db --id G1 out
-tables --progress out
-bundle --store a.db --id G1 \udcff'''
+NO_WORDS = (
+    '', 'check', 'check --store', 'check --store a.db more', 'check --store a.db --store a.db', 'check --store a.db --id G1',
+    'Check --store a.db', '--store a.db check', 'rows --store a.db out', 'bundle --store a.db', 'bundle --store a.db --id G1',
+    'bundle --store a.db out', 'bundle --id G1 out', 'bundle --store a.db --id G1 out more', 'bundle --store a.db --id G1 --all out', 'page',
+    'page --store a.db', 'page out', 'page --store a.db out more', 'page --store a.db --id G1 out', 'tables', 'tables --store a.db',
+    'tables out', 'tables --store a.db out more', 'tables --store a.db --sqlite=yes out', 'tables --store a.db --sqlite --sqlite out',
+    'tables --store a.db --Sqlite out', 'tables --store a.db --id G1 out', 'tables --progress out', 'bundle --store a.db --id G1 \udcff')
 
 
 def test_words(stage):
     """Words that are no command, and ids."""
     store_of(stage, (FIRST,))
     names, before = names_in(stage.room.name), read(stage.at('a.db'))
-    for line in ('', *NO_WORDS.split('\n')):
+    for line in NO_WORDS:
         stage.check(ascii(line), Wanted(2, '', None), line.split(), 'handover')
     compare_all('files', names, names_in(stage.room.name))
     for name in ('', 'a' * 65, 'G/1', 'G1\n', 'é'):

@@ -2,7 +2,7 @@
 
 Some desks are given the events one by one, others all of them in one call. Some stores are of version 1: each is migrated, and then
 the events come, many of them arrivals that version 1 answered."""
-import contextlib
+import contextlib, functools
 
 from support.first_store import first_rows, first_script
 from support.formats import Refused, manifest
@@ -11,7 +11,7 @@ from support.model import Desk
 from support.reports import report
 from support.stage import case, text_of
 from support.telling import answer, state
-from support.universe import Chance, History, draw_arrival, draw_bodies, draw_event, draw_first, draw_history, draw_rows, manifest_text
+from support.universe import History, draw_arrival, draw_event, draw_first, draw_history, drawn, manifest_text
 
 # How many lists a case plays, each of a seed.
 LISTS = 25
@@ -19,35 +19,23 @@ LISTS = 25
 EVENTS, RUN_EVENTS, LATER_EVENTS = 18, 24, 16
 
 
-# ---- lists over stores of version 1
-
-
-def draw_manifest(chance, rows):
-    """Rows that make a manifest: one that is listed first, and some more."""
+def draw_migrated(seed, closes):
+    """The list of a seed after a migration. In one of three cases an event is an early one again."""
+    chance, bodies, rows = drawn(seed)
+    # Rows that make a manifest: one that is listed first, and some more.
     listed = [draw_first(chance, rows)]
     for _ in range(chance.below(6)):
         row = chance.low_one_of(rows)
         with contextlib.suppress(Refused):
             manifest(manifest_text([*listed, row]))
             listed.append(row)
-    return listed
-
-
-def draw_migrated(seed, closes):
-    """The list of a seed after a migration. In one of three cases an event is an early one again."""
-    chance = Chance(seed)
-    bodies = draw_bodies(chance)
-    rows = draw_rows(chance, bodies)
-    history = History(bodies, draw_manifest(chance, rows))
+    history = History(bodies, listed)
     for _ in range(chance.below(8) + 3):
         history.early.append(draw_arrival(chance, bodies, history.early))
     for _ in range(LATER_EVENTS):
         again = chance.is_one_in(3)
         history.events.append(chance.one_of(history.early) if again else draw_event(chance, bodies, rows, history, closes))
     return history
-
-
-# ---- desks that play them
 
 
 class Play:
@@ -89,29 +77,22 @@ class Play:
         self.check_state()
 
 
-def play_all(stage, first, draw, play):
+def play_all(stage, play, draw, first):
     """Plays the lists of some seeds, each over a desk of its own."""
     for seed in range(first, first + LISTS):
-        history = draw(seed)
+        history = draw(seed, closes=play == Play.one_by_one)
         with case(f'the list of seed {seed}:\n{history.shown()}'), Harness(stage) as desk:
             play(Play(stage, desk, history), history.events)
 
 
-def one_by_one(first, draw, *of):
-    return lambda stage: play_all(stage, first, lambda seed: draw(seed, *of, closes=True), Play.one_by_one)
-
-
-def in_one_call(first, draw, *of):
-    return lambda stage: play_all(stage, first, lambda seed: draw(seed, *of, closes=False), Play.in_one_call)
-
-
-CASES = {
-    'Lists of the first seeds': one_by_one(0, draw_history, EVENTS),
-    'Lists of the second seeds': one_by_one(100, draw_history, EVENTS),
-    'Lists of the third seeds': one_by_one(200, draw_history, EVENTS),
-    'Runs of the first seeds': in_one_call(1000, draw_history, RUN_EVENTS),
-    'Runs of the second seeds': in_one_call(1100, draw_history, RUN_EVENTS),
-    'Lists of the first seeds over stores that were migrated': one_by_one(2000, draw_migrated),
-    'Lists of the second seeds over stores that were migrated': one_by_one(2100, draw_migrated),
-    'Runs over stores that were migrated': in_one_call(2200, draw_migrated),
-}
+DRAW, DRAW_RUN = (functools.partial(draw_history, count=count) for count in (EVENTS, RUN_EVENTS))
+CASES = {title: functools.partial(play_all, play=play, draw=draw, first=first) for title, play, draw, first in (
+    ('Lists of the first seeds', Play.one_by_one, DRAW, 0),
+    ('Lists of the second seeds', Play.one_by_one, DRAW, 100),
+    ('Lists of the third seeds', Play.one_by_one, DRAW, 200),
+    ('Runs of the first seeds', Play.in_one_call, DRAW_RUN, 1000),
+    ('Runs of the second seeds', Play.in_one_call, DRAW_RUN, 1100),
+    ('Lists of the first seeds over stores that were migrated', Play.one_by_one, draw_migrated, 2000),
+    ('Lists of the second seeds over stores that were migrated', Play.one_by_one, draw_migrated, 2100),
+    ('Runs over stores that were migrated', Play.in_one_call, draw_migrated, 2200),
+)}

@@ -1,18 +1,24 @@
-"""Long chains: deposits that come in their order, and then another revision of the one on the Full. What the desk tells is compared with
-what its deposits say, one after the other."""
-import datetime
+"""Long chains: deposits that come in their order, and then another revision of the one on the Full; and the longest manifest. What the desk
+tells is compared with what its deposits say, one after the other."""
+import contextlib, datetime, functools, hashlib, sqlite3
 from dataclasses import dataclass
 
-from support.bundles import Header, Table, csv_text, deposit, manifest
+from support.bundles import Header, Table, deposit, manifest
+from support.registries import csv_text
 from support.reports import report, status
-from support.stage import Wanted
-from support.steps import Folder
+from support.stage import Wanted, compare, text_of
 
 # How many deposits are taken by one run: each is synced to the disk, and a run may not take long.
 AT_ONCE = 1_000
 FIELDS = ('name', 'clID')
 # Hosts that many deposits speak of, and two that one revision of the deposit on the Full has each.
 HOSTS, EARLY, LATE = tuple(f'ns{at}.example' for at in range(11)), 'early.example', 'late.example'
+
+
+def header_of(day, resend=0):
+    """A Full, or a Differential on the deposit of the day before."""
+    watermark = f'{datetime.date(1970, 1, 1) + datetime.timedelta(day)}T00:00:00Z'
+    return Header(f'N{day}', *(('DIFF', watermark, f'N{day - 1}') if day else ('FULL', watermark, '')), resend)
 
 
 @dataclass(frozen=True)
@@ -24,19 +30,11 @@ class Deposit:
     resend: int = 0
 
     def header(self):
-        """A Full, or a Differential on the deposit of the day before."""
-        watermark = f'{datetime.date(1970, 1, 1) + datetime.timedelta(self.day)}T00:00:00Z'
-        before = ('DIFF', watermark, f'N{self.day - 1}') if self.day else ('FULL', watermark, '')
-        return Header(f'N{self.day}', *before, self.resend)
+        return header_of(self.day, self.resend)
 
     def body(self):
         contents = Table('host', 'host', 'parent', FIELDS, csv_text(self.contents.items()))
         return deposit(self.header(), [contents], [Table('host', 'host', 'parent', FIELDS[:1], csv_text([it] for it in self.deletes))])
-
-
-def deposit_of(day):
-    """Has the hosts by turns, and every third day deletes one."""
-    return Deposit(day, (HOSTS[day * 7 % 11],) if day % 3 == 0 else (), {HOSTS[day % 11]: f'R{day}'})
 
 
 # The Full; the deposit on it, and its other revision, of which ns2.example is soon another one's.
@@ -45,17 +43,11 @@ FIRST = Deposit(1, (), {EARLY: 'R1'})
 REVISED = Deposit(1, (HOSTS[3],), {LATE: 'R1', HOSTS[2]: 'R1'}, resend=1)
 
 
-def tables(chain):
-    """The hosts after the deposits of a chain, each with its clID."""
-    found = {}
-    for it in chain:
-        found = {name: sponsor for name, sponsor in found.items() if name not in it.deletes} | it.contents
-    return found
-
-
 def check_desk(stage, chain, held, awaited):
     """Compares what is told of a desk with this chain, where so many deposits came, and this revision of the one on the Full is awaited."""
-    found, headers = tables(chain), [it.header() for it in chain]
+    found, headers = {}, [it.header() for it in chain]
+    for it in chain:
+        found = {name: sponsor for name, sponsor in found.items() if name not in it.deletes} | it.contents
     end = headers[-1]
     told = status(len(chain) + 1, held, held, len(chain), f'{end.watermark} {end.type} {end.resend}', host=len(found))
     gaps = [f'{it.watermark},{it.type},{it.resend},chain,,{awaited if at == 1 else ""}' for at, it in enumerate(headers)]
@@ -67,7 +59,6 @@ def check_desk(stage, chain, held, awaited):
 
 def take(stage, folder, deposits, receipt):
     """Takes a folder of deposits, all of which are held, in their order. The first has this receipt."""
-    Folder(folder).do(stage)
     told = []
     for at, it in enumerate(deposits, receipt):
         stage.write(f'{folder}/n{at:04}', it.body())
@@ -76,16 +67,58 @@ def take(stage, folder, deposits, receipt):
 
 
 def check_chain(stage, steps):
-    """Takes the deposits of a chain of so many steps, some at a time, and then the other revision near its front."""
-    deposits = [FULL, FIRST, *map(deposit_of, range(2, steps))]
+    """Takes the deposits of a chain of so many steps, some at a time, and then the other revision near its front. The others have the hosts
+    by turns, and every third day deletes one."""
+    others = [Deposit(day, (HOSTS[day * 7 % 11],) if day % 3 == 0 else (), {HOSTS[day % 11]: f'R{day}'}) for day in range(2, steps)]
+    deposits = [FULL, FIRST, *others]
     stage.write('listed.csv', manifest([(it.header(), it.body()) for it in [*deposits, REVISED]]))
     stage.check('init --store a.db --manifest listed.csv', Wanted(0, f'listed {steps + 1}\n'))
     for at in range(0, steps, AT_ONCE):
         take(stage, f'from{at}', deposits[at:at + AT_ONCE], at + 1)
     check_desk(stage, deposits, steps, REVISED.resend)
     take(stage, 'late', [REVISED], steps + 1)
-    check_desk(stage, [FULL, REVISED, *deposits[2:]], steps + 1, '')
+    check_desk(stage, [FULL, REVISED, *others], steps + 1, '')
 
 
-CASES = {f'A chain of {steps:,} steps, and a late revision near its front': lambda stage, steps=steps: check_chain(stage, steps)
+CASES = {f'A chain of {steps:,} steps, and a late revision near its front': functools.partial(check_chain, steps=steps)
          for steps in (301, 4_001)}
+
+
+# ---- the longest manifest
+
+# The most rows of a manifest.
+MOST = 4_096
+# The first and the last line of the gaps, where the first row's deposit is missing, and where all are held.
+FIRST_MISSING = ('1970-01-01T00:00:00Z,FULL,,missing,,0', '1981-03-19T00:00:00Z,DIFF,0,blocked,1970-01-01T00:00:00Z FULL,')
+ALL_HELD = ('1970-01-01T00:00:00Z,FULL,0,chain,,', '1981-03-19T00:00:00Z,DIFF,0,chain,,')
+
+
+def hold(store, deposits):
+    """Holds all deposits but the first in a store, each with its receipt, as arrivals would that come the last first."""
+    taken = [(at, row, deposits[row][1]) for at, row in enumerate(range(MOST - 1, 0, -1), 1)]
+    with contextlib.closing(sqlite3.connect(store)) as database, database:
+        database.executemany('INSERT INTO held (row, body) VALUES (?, ?)', [(row, body) for _, row, body in taken])
+        database.executemany('INSERT INTO receipt (receipt, number, digest, verdict, row, again, orphans) VALUES (?, ?, ?, 1, ?, 0, 0)',
+                             [(at, f'n{row}', hashlib.sha256(body).digest(), row) for at, row, body in taken])
+
+
+def check_longest(stage, held, chain, end, first, last):
+    """Compares the status and the gaps of the longest manifest: its first line and its last are given, the others are like the last."""
+    stage.check('report --store a.db status', Wanted(0, status(MOST, held, held, chain, end)))
+    between = [header_of(row).watermark + last.removeprefix(header_of(MOST - 1).watermark) for row in range(1, MOST - 1)]
+    stage.check('report --store a.db gaps', Wanted(0, report('gaps', [first, *between, last])))
+
+
+def test_the_longest_manifest(stage):
+    """The longest manifest: all its deposits are held but the first, and then all."""
+    deposits = [(it, deposit(it)) for it in map(header_of, range(MOST))]
+    stage.write('listed.csv', manifest(deposits))
+    stage.check('init --store a.db --manifest listed.csv', Wanted(0, f'listed {MOST}\n'))
+    hold(stage.at('a.db'), deposits)
+    check_longest(stage, MOST - 1, 0, 'none', *FIRST_MISSING)
+    stage.write('deposits/n0', deposits[0][1])
+    stage.check('take --store a.db deposits', Wanted(0, report('receipts', [f'{MOST},n0,A1,,N0,0,new,0'])))
+    check_longest(stage, MOST, MOST, '1981-03-19T00:00:00Z DIFF 0', *ALL_HELD)
+    with contextlib.closing(sqlite3.connect(stage.at('a.db'))) as database:
+        steps = text_of(f'{pos} {row}' for pos, row in database.execute('SELECT pos, row FROM step ORDER BY pos'))
+    compare('steps', text_of(f'{row + 1} {row}' for row in range(MOST)), steps)

@@ -4,9 +4,10 @@ import contextlib, functools, os, sqlite3
 from dataclasses import dataclass
 
 from support import TOP
-from support.bundles import Header, Table, csv_text, deposit, manifest
-from support.files import read, write
+from support.bundles import Header, Table, deposit, manifest
+from support.files import read
 from support.first_store import TABLES, first_rows, write_store
+from support.registries import csv_text
 from support.releases import DEPOSITS, MISSING, folder, sample
 from support.stage import Failed
 from support.stores import contents, copy, is_whole, opened, readings, rows
@@ -80,15 +81,6 @@ class Release:
     more: tuple = ()
     parts: tuple = ()
 
-    def put(self, stage):
-        stage.write('manifest.csv', self.manifest)
-        for at, part in enumerate(self.parts):
-            stage.write(f'part{at}.csv', part)
-        for folder, arrivals in (('taken', self.arrivals), ('later', self.more)):
-            os.makedirs(stage.at(folder))
-            for number, body in arrivals:
-                write(stage.at(f'{folder}/{number}'), body)
-
 
 def as_later(told):
     """What this version says: A5, where version 1 said A2."""
@@ -101,7 +93,6 @@ def rows_as_later(found):
 
 
 def texts_of(stage, store):
-    """The texts that made a store's tables, in order."""
     with opened(stage.at(store)) as database:
         return [it for it, in database.execute("SELECT sql FROM sqlite_master WHERE type = 'table' ORDER BY rowid")]
 
@@ -145,7 +136,12 @@ def check_release(stage, release):
     """Migrates a store that version 1 made of a release. Then it is as one that took the same arrivals, but for the bodies that no row
     listed; and once these come again, before or after their rows, it is the same."""
     kept = first_rows(release.manifest, release.arrivals)
-    release.put(stage)
+    for name, content in {'manifest.csv': release.manifest, **{f'part{at}.csv': it for at, it in enumerate(release.parts)}}.items():
+        stage.write(name, content)
+    for folder, arrivals in (('taken', release.arrivals), ('later', release.more)):
+        os.makedirs(stage.at(folder))
+        for number, body in arrivals:
+            stage.write(f'{folder}/{number}', body)
     check_migration(stage, kept)
     check('init', (0, f'listed {len(kept["listed"])}\n', ''), run(stage, 'init', 'fresh.db', '--manifest', 'manifest.csv'))
     run(stage, 'take', 'fresh.db', 'taken')
@@ -157,15 +153,11 @@ def check_release(stage, release):
         go_on(stage, amendments)
 
 
-# ---- releases
-
-
 def header(id, type, day, prev='', resend=0):
     return Header(id, type, f'2024-03-{day:02}T00:00:00Z', prev, resend)
 
 
 def of_domains(it, domains, statuses):
-    """A deposit of domains with a child table."""
     return deposit(it, [Table('domainStatuses', 'domain', 'child', ('domainName', 'status'), csv_text(statuses)),
                         Table('domain', 'domain', 'parent', ('name', 'clID'), csv_text(domains))])
 

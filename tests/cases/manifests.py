@@ -1,5 +1,6 @@
 """Manifests: the least fault of a text, the values of its rows, how many rows and bytes it may have, and the union of two."""
 from support.bundles import HEADING
+from support.clients import new_desk
 from support.harness import Harness
 from support.stage import case, compare, text_of
 from support.verdicts import said_of, text_of_rows
@@ -113,8 +114,7 @@ def test_the_least_fault_of_a_text(stage):
 def test_the_values_of_rows(stage):
     """The values of rows, and the rows that digests name."""
     stage.write('listed.csv', WORKED.encode())
-    with Harness(stage) as desk:
-        desk.check('create listed.csv', 'created\n')
+    with new_desk(stage) as desk:
         for at, (body, reply) in enumerate(ARRIVALS, 1):
             stage.write('body', body)
             compare(f'reply to {body}', reply, desk.ask(f'comes n{at} body').partition(';')[0])

@@ -5,7 +5,7 @@ import contextlib, os, resource, shutil, signal, socket, stat, threading
 from support import TOP
 from support.files import read, write
 from support.messages import put
-from support.outputs import run_held_up
+from support.outputs import prepared, run_held_up
 from support.reports import report
 from support.sockets import response_to, serve
 from support.stage import Failed, Wanted, faults
@@ -65,21 +65,9 @@ def remove(path):
         (os.rmdir if os.path.isdir(path) and not os.path.islink(path) else os.remove)(path)
 
 
-# ---- runs
-
-def bounded(closed=(), user=None, limits=(), ignored=()):
-    """What a child does before it becomes the program: its limits, its user, its closed streams."""
-    def prepare():
-        for what, most in ((resource.RLIMIT_AS, GIGABYTE), *limits):
-            resource.setrlimit(what, (most, most))
-        if user:
-            os.setgid(user)
-            os.setuid(user)
-        for it in closed:
-            os.close(it)
-        for it in ignored:
-            signal.signal(it, signal.SIG_IGN)
-    return prepare
+def bounded(limits=(), **others):
+    """What a child does before it becomes the program: its limits and others."""
+    return prepared([(resource.RLIMIT_AS, GIGABYTE), *limits], **others)
 
 
 def check(stage, words, *wanted, **before):
@@ -130,8 +118,6 @@ def beside(work):
         worker.join()
 
 
-# ---- the manifest
-
 # Files in its place, and what comes of each. (The length of /proc/version is told as 0.)
 MANIFESTS = (
     ('link.csv', linked(MANIFEST), LISTED), ('link2.csv', linked('link.csv'), LISTED), ('.', None, refused('.')), ('', None, refused('')),
@@ -169,8 +155,6 @@ def test_a_manifest_that_changes(stage):
         for _ in range(10):
             check_init(stage, 'm.csv', LISTED, manifest_fault('M1 row 0'), manifest_fault('M2 row 8'))
 
-
-# ---- the store
 
 # What is in its place, what `init` gives, and what a report does.
 STORES = (
@@ -220,8 +204,6 @@ def test_a_store_by_a_link(stage):
     for store in ('link.db', 'a.db'):
         check(stage, ('report', '--store', store, 'receipts'), Wanted(0, f'{WHOLE.out}7,killed,A5,,,,,\n'))
 
-
-# ---- the folder
 
 NAMES = (b'a\nS1', b'b\x1b[2J', b'c\\', b'd\\\t', b'e\xff')
 TOLD = 'N1 (a name that is no UTF-8)\nN1 a\\nS1\nN1 b\\u{1b}[2J\nN1 c\\\nN1 d\\\\\\t\n'
@@ -342,7 +324,7 @@ def test_closed_streams(stage):
         for words in (('init', '--store', 'b.db', '--manifest', MANIFEST), (*TAKE, DEPOSITS)):
             make_store(stage, taken=False)
             copy(None, stage.at('b.db'))
-            got = stage.end(stage.begin(words, prepare=bounded(closed)))
+            got = stage.end(stage.begin(words, prepare=bounded(closed=closed)))
             if (got.status, got.err) not in ((0, b''), (3, b'E1 -\n'), (3, b'')):
                 raise Failed(f'{words[0]}, closed {closed}: {got}')
             check_whole(stage, f'{words[0]}, closed {closed}', store='b.db' if words[0] == 'init' else 'a.db')

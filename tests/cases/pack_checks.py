@@ -1,6 +1,6 @@
 """What `pack check` says of a folder's files, by a plain model of its lines (tests/support/formats.py has where a body is no deposit), and
 by what `restore take` says of the same folder."""
-import contextlib, hashlib, json, os, random, re
+import contextlib, hashlib, json, os, random, re, shutil
 
 from cases import bundles, deposits, envelopes
 from support import formats
@@ -10,6 +10,7 @@ from support.formats import Refused, found_in, moment_text
 from support.outputs import run_held_up
 from support.reports import report
 from support.stage import Got, Wanted, case, compare_all, text_of
+from support.stores import copy
 
 LINE = 'check --manifest manifest.csv files'
 NAMES = ('F1', 'D2', 'D2Resent', 'D3', 'I4', 'F5', 'D6')
@@ -113,21 +114,15 @@ def lines_of(manifest, files):
     return [*lines, *(f'no file: {said(it)}' for digest, it in rows.items() if digest not in seen)]
 
 
-# ---- a folder
-
-
 def set_up(stage, rows, files):
-    """A manifest of these rows, and a folder of these files."""
     stage.write('manifest.csv', (HEADING + ''.join(rows)).encode())
-    os.makedirs(stage.at('files'), exist_ok=True)
-    for name in os.listdir(stage.at('files')):
-        os.remove(stage.at(f'files/{name}'))
+    shutil.rmtree(stage.at('files'), ignore_errors=True)
+    os.mkdir(stage.at('files'))
     for name, body in files.items():
         stage.write(f'files/{name}', body)
 
 
 def check_lines(stage, rows, files, wanted, status=1):
-    """Compares what is said of a folder with lines."""
     set_up(stage, rows, files)
     stage.check(LINE, Wanted(status, text_of(wanted)), program='pack')
 
@@ -146,19 +141,14 @@ def check_folder(stage, rows, files):
 def check_taken(stage, lines):
     """Compares the lines with what a new store says of the folder that is taken."""
     wanted = [f'{it[1]} {it[2]}' for line in lines if (it := re.match('(.*?): (A[1-5](?: again)?(?: U[0-9]+)?)', line))]
-    for name in os.listdir(stage.at('.')):
-        if name.startswith('a.db'):
-            os.remove(stage.at(name))
+    copy(None, stage.at('a.db'))
     stage.end(stage.begin('init --store a.db --manifest manifest.csv'.split()))
     got = stage.end(stage.begin('take --store a.db files'.split()))
     came = []
     for line in got.out.decode().splitlines()[1:]:
-        _, number, verdict, fault, _, _, copy, _ = line.split(',')
-        came.append(' '.join(filter(None, (number, verdict, 'again' if copy == 'again' else '', fault))))
+        _, number, verdict, fault, _, _, told, _ = line.split(',')
+        came.append(' '.join(filter(None, (number, verdict, 'again' if told == 'again' else '', fault))))
     compare_all('what is taken', wanted, came)
-
-
-# ---- the cases
 
 
 def test_worked_releases(stage):
@@ -180,7 +170,6 @@ def test_worked_releases(stage):
 
 def test_a_folder_one_level_too_high(stage):
     """The folder above that of the deposits: its files would be parked, and all deposits are missing."""
-    os.makedirs(stage.at('release/deposits'))
     rows = [line_of(it) for it in NAMES]
     stage.write('release/manifest.csv', (HEADING + ''.join(rows)).encode())
     stage.write('release/make.py', b'import os\n')
@@ -266,9 +255,6 @@ def test_a_file_that_can_not_be_read(stage):
     stage.compare(LINE, Wanted(3, ''.join(lines), 'E1 files/n3\n'), got, 'pack')
 
 
-# ---- at random
-
-
 def damaged(chance, body):
     """A body with some of its bytes lost, doubled, or others."""
     at = chance.randrange(len(body))
@@ -291,7 +277,6 @@ def changed(chance, body):
 
 
 def rewritten(chance, body):
-    """A body with another row in one of its files."""
     (_, text), *files = formats.sections(body)
     if not files:
         return body

@@ -1,8 +1,10 @@
 """Bundles that `pack` makes of an agent's files and of their description, and what it refuses."""
 import json, os
 
+from cases.findings import PARENT_KEYS
 from support.bundles import ENVELOPE, FILES, FIRST_LINE, Header, bundle_of, compact, deposit, envelope_of, section
 from support.files import read
+from support.formats import MOST_BYTES
 from support.stage import Wanted, case, compare
 
 LINE = 'bundle --envelope envelope.json files out'
@@ -99,12 +101,8 @@ TABLES = (
 )
 # Those of deletes, each a parent table.
 DELETES = tuple((f'{stem}-delete', kind, name) for stem, kind, name in TABLES if name == kind)
-# A heading that has the key of each kind, and which of its fields that is.
+# A heading that has the key of each kind.
 FIELDS = ['id', 'name', 'aName']
-KEYS = {'registrar': 'id', 'contact': 'id', 'host': 'name', 'domain': 'name', 'idn': 'id', 'nndn': 'aName'}
-UNTOLD = 'unknown id\nunknown type\nunknown watermark\n'
-# How long a bundle and each of its sections may be.
-MOST_BYTES = 16_777_216
 # A file of somewhat more than half as many bytes.
 HALF = (b'C1,' + b'x' * 99_996 + b'\n') * 84
 
@@ -132,7 +130,6 @@ def check_bundle(stage, name, description, files, wanted):
 
 def test_bundles_of_files(stage):
     """The bundles of files."""
-    os.mkdir(stage.at('files'))
     for has_heading, given, wanted in GIVEN:
         files = {f'{at}.csv': content for at, content in enumerate(given)}
         check_bundle(stage, f'{given}, with headings: {has_heading}', description_of(has_heading, files), files, wanted)
@@ -140,7 +137,6 @@ def test_bundles_of_files(stage):
 
 def test_bundles_of_descriptions(stage):
     """The bundles of descriptions."""
-    os.mkdir(stage.at('files'))
     for description, files, wanted in DESCRIBED:
         check_bundle(stage, f'{description}', description, files, wanted)
 
@@ -149,7 +145,6 @@ def test_names_of_files_in_the_folder(stage):
     """The names of a table's files: those of files in DIR, each there once.
 
     Where the description has a fault as an envelope, too, it is refused for that."""
-    os.makedirs(stage.at('files/a'))
     files = {name: b'C1,R1\n' for name in ('c.csv', 'd.csv', 'a/c.csv', *INSIDE)}
     for names in OUTSIDE:
         check_bundle(stage, f'the files {names}', description_of(False, names), files, 'U7 envelope.json')
@@ -176,7 +171,6 @@ def test_bundles_that_would_be_too_long(stage):
 
 def test_names_on_one_line(stage):
     """The names of files that are refused, each on one line."""
-    os.mkdir(stage.at('files'))
     for name, told in NAMES:
         check_bundle(stage, f'{name!r}, with no heading', description_of(True, [name]), {name: b'C1,R1\n'}, f'H1 files/{told}')
         check_bundle(stage, f'{name!r}, with marks', description_of(False, [name]), {name: MARKED}, f'H2 files/{told}')
@@ -208,13 +202,12 @@ def files_of(*stems):
 def proposed(tables, front=''):
     """What is proposed for these tables; `front` is what the names of their sections begin with."""
     return ',\n'.join(compact({
-        'name': name, 'kind': kind, 'role': 'parent' if name == kind else 'child', 'key': KEYS[kind], 'file': f'{front}{name.lower()}.csv',
+        'name': name, 'kind': kind, 'role': 'parent' if name == kind else 'child', 'key': PARENT_KEYS[kind], 'file': f'{front}{name.lower()}.csv',
         'heading': True, 'fields': FIELDS, 'from': files_of(stem)}).decode() for stem, kind, name in tables)
 
 
 def test_descriptions_of_all_tables(stage):
     """The description of files of all tables that are known, and of none whose names are close to those of deletes."""
-    os.mkdir(stage.at('files'))
     # Names that begin with that of a table of deletes, with no dash or dot after it.
     others = sorted(f'{stem}{end}' for stem, _, _ in DELETES for end in ('', 'd.csv', 's-1.csv'))
     for name in others + files_of(*(stem for stem, _, _ in TABLES + DELETES)):
@@ -222,7 +215,7 @@ def test_descriptions_of_all_tables(stage):
     front = '{"id":"ID","type":"FULL","watermark":"1970-01-01T00:00:00Z",\n'
     wanted = f'{front}"contents":[{proposed(TABLES)}],\n"deletes":[{proposed(DELETES, "deleted-")}]}}\n'
     unknown = ''.join(f'unknown file "{name}": no table is known by its name\n' for name in others)
-    stage.check('describe files', Wanted(0, wanted, UNTOLD + unknown), program='pack')
+    stage.check('describe files', Wanted(0, wanted, f'unknown id\nunknown type\nunknown watermark\n{unknown}'), program='pack')
 
 
 def test_paths_that_are_not_plain_files(stage):

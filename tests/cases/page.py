@@ -6,11 +6,12 @@ from itertools import groupby
 
 from cases.handovers import clear
 from support.acceptance import Seen, beginning, control_spelled, is_accepted, tests_of, word_of
-from support.bundles import Header, Table, csv_text, deposit, manifest
+from support.bundles import Header, Table, deposit, manifest
 from support.files import read
 from support.flawed import draw_release
 from support.formats import KINDS, moment_text
 from support.pages import counted_tables, read_page, rows_of, section
+from support.registries import csv_text
 from support.releases import SAMPLES, Release, numbered
 from support.stage import Failed, Wanted, case, compare, compare_all
 from support.stores import run
@@ -158,25 +159,16 @@ def check_counted(what, part, wanted):
         compare_all(f'{what} {name}', wanted[name][:SHOWN], (row[:len(wanted[name][0])] for row in rows))
 
 
-def check_findings(page, seen):
+def check_lists(page, seen, desk):
     shown = [(code, [kind, *map(control_spelled, texts)]) for code, kind, *texts in seen.findings]
     check_counted('findings', section(page, 'findings'), {f'V{code}': [it for at, it in shown if at == code] for code in range(1, 8)})
-
-
-def check_receipts(page, desk):
     replies = [line.split(',') for line in desk.receipt_rows()]
-    wanted = {f'A{at}': [[receipt, number, fault, name, resend] for receipt, number, verdict, fault, name, resend, *_ in replies
-                         if verdict == f'A{at}'] for at in range(1, 6)}
-    check_counted('receipts', section(page, 'receipts'), wanted)
-
-
-def check_parked(page, desk):
-    part = section(page, 'parked')
-    rows = rows_of(part.one('table')) if desk.parked else [it.text() for it in part.all('p')]
+    receipts = {f'A{at}': [[receipt, number, fault, name, resend] for receipt, number, verdict, fault, name, resend, *_ in replies
+                           if verdict == f'A{at}'] for at in range(1, 6)}
+    check_counted('receipts', section(page, 'receipts'), receipts)
+    parked = section(page, 'parked')
+    rows = rows_of(parked.one('table')) if desk.parked else [it.text() for it in parked.all('p')]
     compare_all('parked', [it.split(',') for it in desk.parked_rows()] or ['None: each body that is kept is listed.'], rows)
-
-
-# ---- stores
 
 
 def check_page(stage, release, store='a.db'):
@@ -191,10 +183,9 @@ def check_page(stage, release, store='a.db'):
     page, seen = read_page(body), Seen(desk)
     compare('title', f'Registry as of {moment_text(seen.end[0])}' if seen.end else 'Registry that is not rebuilt yet: there is no chain',
             page.one('h1').text())
-    for check in (check_tests, check_facts, check_release, check_objects, check_findings):
+    for check in (check_tests, check_facts, check_release, check_objects):
         check(page, seen)
-    check_receipts(page, desk)
-    check_parked(page, desk)
+    check_lists(page, seen, desk)
     return body
 
 
@@ -213,20 +204,10 @@ def test_samples(stage):
         clear(stage)
 
 
-# ---- texts that look like markup
-
 HOSTILE = ('<script>alert(1)</script>', '"><img src=x onerror=alert(1)>', "' onload='alert(1)", '&lt;b&gt; &amp; &#39;', '</style><style>*{}',
            '<!--', ']]>', '\x00\x01\x1b[31m', 'a\rb\nc\td', 'C:\\n\x7f', '\u202eevil\u2069', '\ufeff', '\u2028',
            '\U0001f600', 'é', '%s%n', 'http://example.com/x.js')
 F1 = Header('F1', 'FULL', '2024-03-03T00:00:00Z')
-
-
-def hostile_release():
-    """A Full in which each of these is a key, a link, a status and a date that is none."""
-    tables = [Table('contact', 'contact', 'parent', ('id', 'clID', 'crDate'), csv_text([it, it, it] for it in HOSTILE)),
-              Table('contactStatuses', 'contact', 'child', ('id', 'status'), csv_text([it, it] for it in HOSTILE))]
-    body = deposit(F1, tables, counts={'contact': 999})
-    return Release(manifest([(F1, body)]), numbered([body]))
 
 
 def has_controls(text, most_lines):
@@ -235,14 +216,15 @@ def has_controls(text, most_lines):
 
 def test_hostile_texts(stage):
     """The page of a registry whose texts look like markup, or have control characters."""
-    text = check_page(stage, hostile_release())
+    # A Full in which each of these is a key, a link, a status and a date that is none.
+    tables = [Table('contact', 'contact', 'parent', ('id', 'clID', 'crDate'), csv_text([it, it, it] for it in HOSTILE)),
+              Table('contactStatuses', 'contact', 'child', ('id', 'status'), csv_text([it, it] for it in HOSTILE))]
+    body = deposit(F1, tables, counts={'contact': 999})
+    text = check_page(stage, Release(manifest([(F1, body)]), numbered([body])))
     if b'<script' in text or b'<img' in text or has_controls(text, 2):
         raise Failed('a text of a deposit stands in the page as it is')
     if has_controls(run(stage, 'check --store a.db', 'handover', (1,)), 11):
         raise Failed('a text of a deposit stands in the lines of check as it is')
-
-
-# ---- many places
 
 
 def many_places():

@@ -1,6 +1,6 @@
 """The pages beside the programs: the commands in their blocks, as samples/run_book runs them, and what the programs' help names. The
 commands of the runbook take long, and are run by hand."""
-import pathlib, re, subprocess, sys
+import functools, pathlib, re, subprocess, sys
 
 from support import TOP
 from support.stage import Failed
@@ -19,14 +19,7 @@ def read_page(name):
     return pathlib.Path(TOP, 'docs', f'{name}.md').read_text('utf-8')
 
 
-def pages():
-    """The pages that have commands, by their paths."""
-    paths = [it.relative_to(TOP) for folder in ('', 'docs') for it in sorted(pathlib.Path(TOP, folder).glob('*.md'))]
-    return [f'{it}' for it in paths if HAS_COMMANDS.search(pathlib.Path(TOP, it).read_text('utf-8')) and f'{it}' != BY_HAND]
-
-
 def check_page(stage, page):
-    """Compares what the commands of a page print."""
     programs = [f'--{name}={stage.programs[name]}' for name in ('restore', 'pack', 'handover')]
     words = [sys.executable, f'{TOP}/samples/run_book', *programs, pathlib.Path(page).stem]
     ran = subprocess.run(words, capture_output=True, text=True)
@@ -58,4 +51,6 @@ def test_help(stage):
             raise Failed(f'{program}: no heading and no row has {missing}, of {sorted(wanted)}')
 
 
-CASES = {f'The commands of {it} print what stands there': lambda stage, page=it: check_page(stage, page) for it in pages()}
+PAGES = [it for folder in ('', 'docs') for it in sorted(pathlib.Path(TOP, folder).glob('*.md')) if HAS_COMMANDS.search(it.read_text('utf-8'))]
+CASES = {f'The commands of {it} print what stands there': functools.partial(check_page, page=it)
+         for it in (f'{path.relative_to(TOP)}' for path in PAGES) if it != BY_HAND}

@@ -3,11 +3,12 @@ again has the response of a desk that nothing happened to."""
 import functools
 from dataclasses import dataclass
 
-from support.clients import AMPLE, HELD, READ_FAULT, RECEIPTS, SAMPLE, WRITE_FAULT, RequestDesk, Wire, list_sample, new_desk, replied, table
-from support.events import check
+from support.clients import (
+    AMPLE, HELD, READ_FAULT, RECEIPTS, SAMPLE, SERVED, WRITE_FAULT, RequestDesk, Wire, list_sample, new_desk, replied, table)
+from support.events import check, is_open, over_calls
 from support.messages import get, response
 from support.reports import report, status
-from support.stage import Failed, case
+from support.stage import Failed
 
 
 @dataclass(frozen=True)
@@ -42,41 +43,27 @@ ROUTES = (
 )
 
 
-# ---- reads, writes and the flush
-
-
-def check_reads(desk, route, piece):
-    """Sends a request of which a read fails after so many bytes, for each number of them."""
-    for count in range(len(route.request)):
-        desk.check_served(Wire(route.request, piece, readable=count), b'', came=READ_FAULT)
-        desk.check_receipts(*RECEIPTS[:route.before])
-
-
-def check_writes(desk, route, piece):
-    """Sends a request of whose response a write fails after so many bytes, for each number of them."""
-    for count in range(len(route.response)):
-        desk.check_served(Wire(route.request, piece, writable=count), route.response[:count], came=WRITE_FAULT)
-        desk.check_receipts(*RECEIPTS[:route.after])
-
-
 def check_streams(stage, piece):
-    """Reads, writes and the flush of each request fail, one after the other; and then nothing."""
+    """A read of each request fails after so many bytes, for each number of them; then a write of its response, and the flush; and then
+    nothing."""
     list_sample(stage)
     with new_desk(stage) as desk:
-        for route in ROUTES:
-            check_reads(desk, route, piece)
-            check_writes(desk, route, piece)
-            desk.check_served(Wire(route.request, piece, is_stuck=True), route.response, came=WRITE_FAULT)
-            desk.check_receipts(*RECEIPTS[:route.after])
-            desk.check_served(Wire(route.request, piece), route.response)
-            desk.check_receipts(*RECEIPTS[:route.after])
+        def check_route(wire, response, came, receipts):
+            desk.check_served(wire, response, came=came)
+            desk.check_receipts(*RECEIPTS[:receipts])
+
+        for it in ROUTES:
+            for count in range(len(it.request)):
+                check_route(Wire(it.request, piece, readable=count), b'', READ_FAULT, it.before)
+            for count in range(len(it.response)):
+                check_route(Wire(it.request, piece, writable=count), it.response[:count], WRITE_FAULT, it.after)
+            check_route(Wire(it.request, piece, is_stuck=True), it.response, WRITE_FAULT, it.after)
+            check_route(Wire(it.request, piece), it.response, SERVED, it.after)
 
 
 CASES = {f'Each read and write of {what} fails, over the routes': functools.partial(check_streams, piece=piece)
          for what, piece in (('one byte', 1), ('many bytes', AMPLE))}
 
-
-# ---- the files
 
 UNAVAILABLE = response(503, 'S1\n')
 # What needs another page asks the disk for it, and the log is copied into the database file now and then: it may have 8 pages, and one
@@ -85,40 +72,21 @@ ONE_PAGE = 'room 8 1'
 # How often each request is refused at most: an arrival that is a commit twice, since it may be open whether it is kept, and any other
 # request once.
 REFUSED = (2, 1, 2, 1, 1, 1, 1, 1, 1, 1, 1, 1, 1, 1, 1, 1)
-# More calls than there are.
-MOST_CALLS = 5_000
-
-
-def is_answered(desk, route):
-    """Sends a request: whether it has its response, or else 503."""
-    return desk.check_served(Wire(route.request), route.response, UNAVAILABLE)
-
-
-def refusals_of(desk, route):
-    """How often a desk refuses a request: not at all, once, or twice. Once it has refused it the desk has the receipts of before; one that
-    refuses each call tells none."""
-    if is_answered(desk, route):
-        return 0
-    check(desk, 'receipts', report('receipts', RECEIPTS[:route.before]), 'S1\n')
-    return 1 if is_answered(desk, route) else 2
 
 
 def count_answered(desk, most):
-    """Sends the requests up to one that is refused twice: then the files have to be opened again. Notes how often each is refused."""
+    """Sends the requests up to one that is refused twice: then the files have to be opened again. Notes how often each is refused. Once it
+    has refused one the desk has the receipts of before; one that refuses each call tells none."""
     for at, route in enumerate(ROUTES):
-        refusals = refusals_of(desk, route)
+        refusals = 0
+        while refusals < 2 and not desk.check_served(Wire(route.request), route.response, UNAVAILABLE):
+            if not refusals:
+                check(desk, 'receipts', report('receipts', RECEIPTS[:route.before]), 'S1\n')
+            refusals += 1
         most[at] = max(most[at], refusals)
         if refusals > 1:
             return at
     return len(ROUTES)
-
-
-def is_opened(desk):
-    """Opens the store, which is made if there is none: whether that is not refused."""
-    answer = check(desk, 'open', 'opened\n', 'S3\n', 'S1\n')
-    if answer == 'S3\n':
-        answer = check(desk, 'create listed.csv', 'created\n', 'S1\n')
-    return answer != 'S1\n'
 
 
 def has_failed(stage, file, calls, most):
@@ -127,24 +95,14 @@ def has_failed(stage, file, calls, most):
         check(desk, ONE_PAGE, '')
         check(desk, f'fail {file} {calls}', '')
         # (Where a call may fail the store is opened once more.)
-        count = count_answered(desk, most) if is_opened(desk) or is_opened(desk) else 0
+        count = count_answered(desk, most) if is_open(desk) or is_open(desk) else 0
         if count < len(ROUTES):
             check(desk, 'crash written', '')
-            if not is_opened(desk):
+            if not is_open(desk):
                 raise Failed('sound files are refused')
         for route in ROUTES[count:]:
             desk.check_served(Wire(route.request), route.response)
         return check(desk, 'failed', 'true\n', 'false\n') == 'true\n'
-
-
-def check_calls(stage, file, most):
-    """Each call of a file fails, up to a run of which none does."""
-    for calls in range(MOST_CALLS):
-        with case(f'of the {file} the call after {calls} fails'):
-            if not has_failed(stage, file, calls, most):
-                break
-    if calls in (0, MOST_CALLS - 1):
-        raise Failed(f'of the {file} {calls} calls failed')
 
 
 def test_each_call_of_either_file(stage):
@@ -152,6 +110,6 @@ def test_each_call_of_either_file(stage):
     list_sample(stage)
     most = [0] * len(ROUTES)
     for file in ('database', 'log'):
-        check_calls(stage, file, most)
+        over_calls(file, lambda calls, file=file: has_failed(stage, file, calls, most))
     if tuple(most) != REFUSED:
         raise Failed(f'how often each request was refused at most:\nwanted {REFUSED}\ngot    {tuple(most)}')

@@ -1,20 +1,109 @@
-"""The worked rows, each in a new store, and in one that is opened again; and what stood before each step of a chain."""
-from support.bodies import bytes_of, line_of
+"""The worked rows: bodies that arrive at a desk in some order, and the chain that it has in the end; all else is by the plain model. Each is
+played in a new store, and in one that is opened again. And what stood before each step of a chain."""
+import contextlib
+from typing import NamedTuple
+
+from support.bodies import bytes_of, line_of, manifest_text
+from support.clients import Wire, new_desk, table
 from support.events import query
 from support.first_store import literal, undo_of
 from support.formats import record
-from support.stage import compare, text_of
-from support.telling import answer, rows_told
-from support.worked_rows import DOMAIN_A, DOMAIN_B, R1, ROWS, B, check_state, desk_after, desk_of, open_again
+from support.messages import get
+from support.model import Desk
+from support.stage import case, compare, text_of
+from support.telling import answer, rows_told, state
+from support.verdicts import DOMAIN_A, DOMAIN_B, R1
 
-# How files are closed: as a crash of the program leaves them, and as the program does.
-CLOSINGS = ('crash written', 'reopen')
+B = ('F1', 'D2', 'D3', 'I4', 'F5', 'D6', 'D2Resent')
+# Manifests with a revision whose base isn't listed, and with two types at one watermark, not in the order of places.
+WITH_X9, TIES = (*B, 'D3Unlisted'), ('F2', 'D2', 'F1', 'I2', 'I0')
+
+
+class Row(NamedTuple):
+    """Arrivals, each a number and a body, and the rows of the manifest that are the latest chain after them."""
+    name: str
+    arrivals: str
+    chain: tuple = ()
+    listed: tuple = B
+
+
+ROWS = (
+    Row('no arrivals', ''),
+    Row('a Full', '1:F1', (0,)),
+    Row('in order', '1:F1 2:D2 3:D3', (0, 1, 2)),
+    Row('the last first', '3:D3 2:D2 1:F1', (0, 1, 2)),
+    Row('no Full', '1:D3 2:D2'),
+    Row('an Incremental', '1:F1 2:D2 3:D3 4:I4', (0, 3)),
+    Row('a Full and a blocked Differential', '1:F1 3:D3', (0,)),
+    Row('a blocked Differential', '1:F1 2:D2 3:D6', (0, 1)),
+    Row('a higher resend', '1:F1 2:D2 3:D3 4:D2Resent', (0, 6, 2)),
+    Row('a lower resend', '1:F1 2:D2Resent 3:D2', (0, 6)),
+    Row('a higher resend that is blocked', '1:F1 2:D2 3:D3 4:D3Unlisted', (0, 1), WITH_X9),
+    Row('repeats', '1:F1 1:F1 2:D2 1:F1 1:F1', (0, 1)),
+    Row('another number', '1:F1 9:F1', (0,)),
+    Row('another body', '1:F1 1:D2', (0, 1)),
+    Row('a key that is deleted and has contents', '1:F1 2:Both', (0, 1), ('F1', 'Both')),
+    Row('a Full at the watermark of a Differential', '1:F1 2:D2 3:F2', (2,), ('F1', 'D2', 'F2')),
+    Row('a Differential at the watermark of a Full', '3:F2 1:F1 2:D2', (2,), ('F1', 'D2', 'F2')),
+    Row('a later Full', '1:F5', (4,)),
+    # A chain whose last deposit declares how many objects there are.
+    Row('a Full with its Differential', '1:F5 2:D6', (4, 5)),
+    Row('all', '1:F1 2:D2 3:D3 4:I4 5:F5 6:D6 7:D2Resent', (4, 5)),
+    Row('an Incremental twice', '1:I4 2:I4 3:D2Resent'),
+    # Of D2 the later revision alone is held, so the earlier one is not awaited.
+    Row('a later revision alone', '1:F5 2:D6 3:D2Resent', (4, 5)),
+    Row('ties, the first Full first', '1:F1 2:D2 3:F2', (0,), TIES),
+    Row('ties, the first Full last', '1:F2 2:D2 3:F1', (0,), TIES),
+    Row('ties with an Incremental of that moment', '1:D2 2:F1 3:I2', (2, 3), TIES),
+    Row('an Incremental of the moment of its Full', '1:F2 2:I2', (0,), TIES),
+    Row('an Incremental before its Full', '1:I0', (), TIES),
+    Row('an Incremental before all Fulls', '1:I0 2:D2 3:F2', (0,), TIES),
+    Row('an Incremental after a Full that is missing', '1:F1 2:D2 3:D3 4:I7', (0, 1, 2), (*B, 'I7')),
+    Row('an Incremental after a Full, whose previous id is another', '1:F1 2:D2 3:D3 4:F5 5:I7', (4, 7), (*B, 'I7')),
+    Row('an Incremental whose Full is missing', '1:F1 2:I4', (0,), (*B, 'F4')),
+    Row('each kind of blocker', '1:EarlyI0 2:EarlyD2 3:EarlyD3', (), ('EarlyI0', 'EarlyF1', 'EarlyD2', 'EarlyD3')),
+    # The later revisions of D2 and D3 are used, and none of F5; and each row by itself.
+    Row('later revisions', '1:D2 2:D2Resent 3:D3 4:D3Unlisted 5:F1', (0, 6), WITH_X9),
+    Row('F1 alone', '1:F1', (0,), WITH_X9),
+    *(Row(f'{it} alone', f'1:{it}', (), WITH_X9) for it in ('D2', 'D3', 'I4', 'D6', 'D3Unlisted')),
+    Row('bodies that are no bundle', 'n1:Empty n2:Cut n3:Long n2:Abc', (), ('Empty', 'Cut', 'Long')),
+    Row('a child row without a parent row', '1:Orphan', (0,), ('Orphan',)),
+    Row('another resend than listed', '1:Unequal', (), ('Unequal',)),
+    Row('bodies of which some are held', '1:Empty 2:D2 3:Unequal 4:Abc 5:F2 6:D2 6:D2', (2,), ('Empty', 'Unequal', 'F2', 'D2')),
+)
+
+
+@contextlib.contextmanager
+def desk_of(stage, listed):
+    """A desk over a new store that lists worked bodies, and the plain model, in a `with` statement."""
+    stage.write('listed.csv', manifest_text(listed).encode())
+    with new_desk(stage) as desk:
+        yield desk, Desk(manifest_text(listed).encode())
+
+
+def open_again(desk, closing):
+    """Closes the desk, or its files with it, and opens it again."""
+    desk.check(closing, '')
+    desk.check('open', 'opened\n')
+
+
+def check_state(desk, model):
+    """Compares what a desk tells of itself with the model, and its gaps over HTTP."""
+    for line, wanted in state(model).items():
+        desk.check(line, wanted)
+    desk.check_served(Wire(get('/gaps')), table('gaps', *model.gap_rows()))
 
 
 def check_rows(stage, closing, *closings):
     """Each row in a new store that is closed so and opened again before each arrival, if it is; and so in the end."""
     for row in ROWS:
-        with desk_after(stage, row, closing) as (desk, model):
+        with case(row.name), desk_of(stage, row.listed) as (desk, model):
+            for it in row.arrivals.split():
+                if closing:
+                    open_again(desk, closing)
+                number, name = it.split(':')
+                stage.write(name, bytes_of(name))
+                desk.check(f'comes {number} {name}', answer(stage, model, f'comes {number} {name}').whole())
             compare('the rows of the chain', f'{row.chain}', f'{tuple(model.steps)}')
             check_state(desk, model)
             for it in closings:
@@ -24,11 +113,12 @@ def check_rows(stage, closing, *closings):
             desk.check(query('undo'), rows_told(undo_of(model)))
 
 
+# (Files are closed as a crash of the program leaves them, and as the program does.)
 CASES = {
     'Each row in a new store': lambda stage: check_rows(stage, None),
     'Each row in a store that is closed and opened again before each arrival': lambda stage: check_rows(stage, 'close'),
     'Each row in files that are closed and opened again before each arrival, and at the end':
-        lambda stage: check_rows(stage, 'reopen', *CLOSINGS),
+        lambda stage: check_rows(stage, 'reopen', 'crash written', 'reopen'),
 }
 
 

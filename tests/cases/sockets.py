@@ -49,13 +49,11 @@ def compare_responses(exchanges, responses):
 
 
 def check_responses(stage, exchanges):
-    """Serves requests from a store, and compares the responses."""
     requests = [request for request, _ in exchanges]
     compare_responses(exchanges, served(stage, len(requests), lambda port: responses_of(port, requests)))
 
 
 def set_up(stage):
-    """A store whose manifest lists one contact."""
     Copy('listed.csv', 'with-contact.csv').do(stage)
     stage.check('init --store a.db --manifest listed.csv', Wanted(0, 'listed 1\n'))
 
@@ -112,7 +110,6 @@ LONG = table('export', 'contact,C1,contact,0,id,C1', f'contact,C1,contact,0,clID
 
 
 def response_since(begun, port):
-    """The response to a request, and how many seconds have passed then."""
     return responses_of(port, AROUND[:1]), time.monotonic() - begun
 
 
@@ -215,17 +212,7 @@ def test_taken_port(stage):
 
 
 def open_files(child):
-    """The numbers of the files that a child has open."""
     return {int(it) for it in os.listdir(f'/proc/{child.pid}/fd')}
-
-
-def accepted(child, before):
-    """The number of the connection that a child accepts. `before` are the files that it has open until then."""
-    for _ in range(100 * SECONDS):
-        if new := open_files(child) - before:
-            return min(new)
-        time.sleep(0.01)
-    raise Failed('no connection is accepted')
 
 
 def test_no_more_files(stage):
@@ -234,7 +221,14 @@ def test_no_more_files(stage):
     child, port = serve(stage, 'a.db', 3)
     before = open_files(child)
     with socket.create_connection((HOST, port), SECONDS) as client:
-        most = accepted(child, before)
+        # The number of the connection that the child accepts.
+        for _ in range(100 * SECONDS):
+            if new := open_files(child) - before:
+                break
+            time.sleep(0.01)
+        else:
+            raise Failed('no connection is accepted')
+        most = min(new)
         resource.prlimit(child.pid, resource.RLIMIT_NOFILE, (most, most))
         client.sendall(AROUND[0])
         client.shutdown(socket.SHUT_WR)

@@ -8,32 +8,25 @@ import functools
 from typing import NamedTuple
 
 from support.bodies import bytes_of, manifest_text
-from support.events import FILES, FIRST_TABLES, NOON, check, compare_any, is_answered, put_files, put_first_store, query, run, run_line
+from support.events import (
+    FILES, FIRST_TABLES, NOON, check, compare_any, is_answered, over_calls, put_files, put_first_store, query, run, run_line)
 from support.first_store import first_rows, undo_of
 from support.harness import Harness
 from support.model import Desk
 from support.stage import Failed, case, text_of
 from support.telling import answer, rows_told, state
 
-# More calls than a run makes.
-MOST_CALLS = 1_000
-
-
 def check_stops(stage, file, play):
     """Plays with a stop after no call of a file, after one, and so on up to a run that nothing stops. A crash leaves all that was written,
     or what was synced alone."""
-    for calls in range(MOST_CALLS):
+    def is_stopped(calls):
         is_whole = []
         for left in ('written', 'synced'):
-            with case(f'the {file} fails after {calls} calls, and what was {left} is left'), Harness(stage) as desk:
+            with case(f'what was {left} is left'), Harness(stage) as desk:
                 is_whole.append(play(desk, f'stop {file} {calls}', f'crash {left}'))
-        if all(is_whole):
-            break
-    if calls in (0, MOST_CALLS - 1):
-        raise Failed(f'{calls} calls of the {file} were stopped')
+        return not all(is_whole)
 
-
-# ---- events
+    over_calls(file, is_stopped)
 
 
 class Events(NamedTuple):
@@ -43,18 +36,13 @@ class Events(NamedTuple):
     lines: tuple
 
     def model_after(self, stage, count):
-        """The plain model after so many events, and their answers."""
         model = Desk(manifest_text(self.first).encode())
         return model, [answer(stage, model, it).text for it in self.lines[:count]]
 
 
-def told_by(model):
-    return ''.join(state(model).values())
-
-
 def state_in(desk, *wanted):
     """What the desk has, which must be what one of these models has. Gives which."""
-    states = [told_by(it) for it in wanted]
+    states = [''.join(state(it).values()) for it in wanted]
     return states.index(compare_any('all that it has', ''.join(map(desk.ask, state(wanted[0]))), *states))
 
 
@@ -114,50 +102,38 @@ LOST = (('2', 'D2'),)
 AFTER = ('comes 2 D2', 'amend amended.csv')
 
 
-@functools.cache
-def first_store():
-    """The manifest and the arrivals of the store of version 1."""
-    return manifest_text(['F1']).encode(), tuple((number, bytes_of(name)) for number, name in (('1', 'F1'), *LOST))
-
-
-def check_rows(desk):
-    """The rows of the tables that both versions have, which are those of version 1."""
-    rows = first_rows(*first_store())
-    for table in FIRST_TABLES:
-        check(desk, query(table), rows_told(rows[table]))
-
-
-def look(stage, desk, is_migrated):
-    """Migrates or opens the store that was left, which has the same rows as ever, and goes on with it. Whether it was of version 1."""
-    check_rows(desk)
-    is_first = check(desk, 'migrate', 'S3\n', *([] if is_migrated else ['migrated\n'])) == 'migrated\n'
-    if not is_first:
-        check(desk, 'open', 'opened\n')
-    check(desk, 'close', '')
-    check_rows(desk)
-    check(desk, 'open', 'opened\n')
-    listed, arrivals = first_store()
-    model = Desk(listed, early=arrivals)
-    state_in(desk, model)
-    for line in AFTER:
-        check(desk, line, f'{answer(stage, model, line).text}\n')
-        state_in(desk, model)
-    check_images(desk, model)
-    return is_first
-
-
 def over_migration(stage, file, before=()):
-    """Stops a file while a store is migrated, which both is still of version 1 and is migrated after some stop. These lines come before."""
+    """Stops a file while a store is migrated, which both is still of version 1 and is migrated after some stop. These lines come before. What
+    is left has the same rows as ever, is migrated or opened, and goes on."""
     put_files(stage, amended=('F1', 'D2'))
     put_first_store(stage, LOST)
-    found = set()
+    listed, arrivals = manifest_text(['F1']).encode(), [(number, bytes_of(name)) for number, name in (('1', 'F1'), *LOST)]
+    rows, found = first_rows(listed, arrivals), set()
+
+    def check_rows(desk):
+        # Those of the tables that both versions have.
+        for table in FIRST_TABLES:
+            check(desk, query(table), rows_told(rows[table]))
 
     def play(desk, stop, crash):
         for line in ('script first.sql', *before, stop):
             check(desk, line, '')
         is_migrated = is_answered(desk, 'migrate', 'migrated\n')
         check(desk, crash, '')
-        found.add(look(stage, desk, is_migrated))
+        check_rows(desk)
+        is_first = check(desk, 'migrate', 'S3\n', *([] if is_migrated else ['migrated\n'])) == 'migrated\n'
+        found.add(is_first)
+        if not is_first:
+            check(desk, 'open', 'opened\n')
+        check(desk, 'close', '')
+        check_rows(desk)
+        check(desk, 'open', 'opened\n')
+        model = Desk(listed, early=arrivals)
+        state_in(desk, model)
+        for line in AFTER:
+            check(desk, line, f'{answer(stage, model, line).text}\n')
+            state_in(desk, model)
+        check_images(desk, model)
         return is_migrated
 
     check_stops(stage, file, play)

@@ -14,7 +14,6 @@ AMPLE = 10_000
 
 
 def set_up(stage, **bodies):
-    """A manifest, and a folder of deposits."""
     for step in (Copy('listed.csv', 'fulls.csv'), Folder('deposits'), *(Copy(f'deposits/{it}', body) for it, body in bodies.items())):
         step.do(stage)
 

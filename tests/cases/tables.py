@@ -1,14 +1,16 @@
 """`handover tables`: the files and the database of registries, read by Python's csv, hashlib and sqlite3, against a plain model of what is held;
 and where they are not made. (handovers.py has what all commands refuse.)"""
 import contextlib, csv, functools, hashlib, io, os, resource, shutil, signal, sqlite3
-from dataclasses import dataclass
 
 from cases.handovers import (
-    CHILD, FIRST, HOST, TABLES, check_refused, children, contacts, hosts, limit_files, names_in, played_apart, release_of, store_of)
+    CHILD, FIRST, HOST, SHORT, TABLES, check_contents_refused, check_refused, children, contacts, hosts, names_in, played_apart, release_of,
+    store_of)
 from support.bundles import HEADING, Table
+from support.documents import csv_text
 from support.files import read
 from support.flawed import some_release
 from support.formats import KINDS, read_record, record
+from support.outputs import no_longer_files, prepared
 from support.releases import SAMPLES, Release
 from support.stage import Failed, case, compare, compare_all
 from support.steps import Folder, Link, Text
@@ -17,22 +19,11 @@ from support.stores import change_row, run
 BOTH = 'tables --store a.db --sqlite out'
 
 
-# ---- what the files are to be
-
-
-@dataclass(frozen=True)
-class Sheet:
-    """A table: whether it has parent rows, its columns after the key, and its rows: of each the key, and the texts, or None where it has no
-    such field."""
-    is_parent: bool
-    columns: list
-    rows: list
-
-
 def sheet_of(is_parent, rows):
-    """The table of rows, of each the key and its cells. A field that stands in it twice has its first text."""
+    """The table of rows, of each the key and its cells: whether it has parent rows, its columns after the key, and its rows: of each the key,
+    and the texts, or None where it has no such field. A field that stands in it twice has its first text."""
     columns = list(dict.fromkeys(field for _, cells in rows for field, _ in cells))
-    return Sheet(is_parent, columns, [(key, *map(dict(reversed(cells)).get, columns)) for key, cells in rows])
+    return is_parent, columns, [(key, *map(dict(reversed(cells)).get, columns)) for key, cells in rows]
 
 
 def sheets_of(objects):
@@ -49,29 +40,19 @@ def sheets_of(objects):
     return sheets
 
 
-# ---- what they are
-
-
-def quoted(name):
-    return '"' + name.replace('"', '""') + '"'
-
-
-def check_database_table(database, name, sheet):
-    columns = [(it[1], it[2], it[5]) for it in database.execute(f'PRAGMA table_info({quoted(name)})')]
-    compare_all(f'columns of {name}', [('key', 'TEXT', int(sheet.is_parent)), *((it, 'TEXT', 0) for it in sheet.columns)], columns)
-    compare_all(f'rows of {name}', sheet.rows, database.execute(f'SELECT * FROM {quoted(name)} ORDER BY rowid'))
-    plan = database.execute(f'EXPLAIN QUERY PLAN SELECT * FROM {quoted(name)} WHERE key = ?', ('',)).fetchall()[0][3]
-    if not plan.startswith((f'SEARCH {name} USING INDEX', f'SEARCH {name} USING COVERING INDEX')):
-        raise Failed(f'{name} is searched without an index: {plan}')
-
-
 def check_database(stage, sheets):
     with contextlib.closing(sqlite3.connect(stage.at('out/registry.sqlite'))) as database:
         compare('integrity', 'ok', database.execute('PRAGMA integrity_check').fetchone()[0])
         names = [it for it, in database.execute("SELECT name FROM sqlite_master WHERE type = 'table'")]
         compare_all('tables', sorted(sheets), sorted(names))
-        for name, sheet in sheets.items():
-            check_database_table(database, name, sheet)
+        for name, (is_parent, columns, rows) in sheets.items():
+            quoted = '"' + name.replace('"', '""') + '"'
+            compare_all(f'columns of {name}', [('key', 'TEXT', int(is_parent)), *((it, 'TEXT', 0) for it in columns)],
+                        [(it[1], it[2], it[5]) for it in database.execute(f'PRAGMA table_info({quoted})')])
+            compare_all(f'rows of {name}', rows, database.execute(f'SELECT * FROM {quoted} ORDER BY rowid'))
+            plan = database.execute(f'EXPLAIN QUERY PLAN SELECT * FROM {quoted} WHERE key = ?', ('',)).fetchall()[0][3]
+            if not plan.startswith((f'SEARCH {name} USING INDEX', f'SEARCH {name} USING COVERING INDEX')):
+                raise Failed(f'{name} is searched without an index: {plan}')
 
 
 def check_tables(stage, objects, line=TABLES):
@@ -82,8 +63,8 @@ def check_tables(stage, objects, line=TABLES):
     files = [*(f'{it}.csv' for it in sheets), *(['registry.sqlite'] if '--sqlite' in line else [])]
     made = {f'out/{it}' for it in (*files, 'sha256sums')}
     compare_all('files', sorted(names | made), names_in(stage.room.name))
-    for name, sheet in sheets.items():
-        wanted = [['key', *sheet.columns], *([text or '' for text in row] for row in sheet.rows)]
+    for name, (_, columns, rows) in sheets.items():
+        wanted = [['key', *columns], *([text or '' for text in row] for row in rows)]
         compare_all(f'{name}.csv', wanted, csv.reader(io.StringIO(read(stage.at(f'out/{name}.csv')).decode(), newline='')))
     compare_all('sha256sums', (f'{hashlib.sha256(read(stage.at(f"out/{it}"))).hexdigest()}  {it}' for it in files),
                 read(stage.at('out/sha256sums')).decode().splitlines())
@@ -93,51 +74,34 @@ def check_tables(stage, objects, line=TABLES):
         raise Failed('the store is changed')
 
 
-# ---- registries
-
-
 def check_release(stage, release, refusal=None):
-    """Compares the files of a release, with a database, and without one. There may be a refusal of the database."""
+    """Compares the files of a release, with a database, and without one. There may be a refusal of the database, and there are none where
+    there is no chain."""
     release.rebuild(stage)
-    objects = release.desk().objects
-    check_tables(stage, objects)
-    shutil.rmtree(stage.at('out'))
-    if refusal:
-        check_refused(stage, refusal, BOTH)
+    desk = release.desk()
+    if desk.steps:
+        check_tables(stage, desk.objects)
+        shutil.rmtree(stage.at('out'))
+    if refusal or not desk.steps:
+        check_refused(stage, refusal or 'H7', BOTH)
     else:
-        check_tables(stage, objects, BOTH)
+        check_tables(stage, desk.objects, BOTH)
 
 
-def check_some_release(stage, seed):
-    release = some_release(seed)
-    if release.desk().steps:
-        check_release(stage, release)
-    else:
-        release.rebuild(stage)
-        check_refused(stage, 'H7', BOTH)
-
-
-CASES = {f'Tables of {name}': functools.partial(check_release, release=it) for name, it in SAMPLES.items()} | {
-    f'Tables of the release of seed {seed}': functools.partial(check_some_release, seed=seed) for seed in range(6)}
+RELEASES = SAMPLES | {f'the release of seed {seed}': some_release(seed) for seed in range(6)}
+CASES = {f'Tables of {name}': functools.partial(check_release, release=it) for name, it in RELEASES.items()}
 
 
 # ---- texts, and fields that differ
-
-
-def rows_of(*texts):
-    """Rows as a spreadsheet writes them."""
-    text = io.StringIO(newline='')
-    csv.writer(text).writerows(texts)
-    return text.getvalue().encode()
 
 
 ODD = ('"', '""', ',', 'a,b', ' a ', '\n', '\r\n', 'a\rb', 'a\n\n', '\t', '\x00', '\ufeff', 'é', '例え.テスト', '🙂', "'; DROP TABLE contact;--", '')
 # The tables of a Full and of a Differential, and the refusal where they can't be those of a database.
 REGISTRIES = (
     # Texts of all sorts.
-    ((contacts(rows_of(*((f'C{at}', it) for at, it in enumerate(ODD)))),), (), None),
+    ((contacts(csv_text(((f'C{at}', it) for at, it in enumerate(ODD)), ',')),), (), None),
     # Keys that are quoted, and one that begins with a byte order mark.
-    ((contacts(rows_of(('a,"b', 'x'), ('a\nb', 'y'), ('\ufeffa', 'z'))),), (), None),
+    ((contacts(csv_text((('a,"b', 'x'), ('a\nb', 'y'), ('\ufeffa', 'z')), ',')),), (), None),
     # The letters of a host's key are lowered, and those in its field aren't.
     ((hosts(b'NS1.example\nns2.EXAMPLE\n'),), (), None),
     # Fields that only some rows have, in other orders; a text that is empty, and a field that isn't there.
@@ -168,23 +132,13 @@ def test_cells_that_no_bundle_has(stage):
     check_tables(stage, {('contact', b'C1'): record(rows)}, BOTH)
 
 
-# ---- where they are not made
-
 # The tables of a Full and of a Differential of which two would be in one file.
 ALIKE = (
-    ((FIRST, CHILD, HOST), (HOST, Table('more', 'host', 'child', ('name', 'text'), b'ns1.example,x\n')), 'H9 more'),
-    ((FIRST, CHILD), (contacts(b'C2,X2\n'), children(b'C2\n', 'More', ('id',))), 'H9 more'),
-    ((FIRST, children(b'C1\n', 'Domain', ('id',))), (), 'H9 Domain'),
+    ('H9 more', (FIRST, CHILD, HOST), (HOST, Table('more', 'host', 'child', ('name', 'text'), b'ns1.example,x\n'))),
+    ('H9 more', (FIRST, CHILD), (contacts(b'C2,X2\n'), children(b'C2\n', 'More', ('id',)))),
+    ('H9 Domain', (FIRST, children(b'C1\n', 'Domain', ('id',))), ()),
 )
-
-
-def check_alike(stage, first, second, refusal):
-    store_of(stage, first, second)
-    for line in (TABLES, BOTH):
-        check_refused(stage, refusal, line)
-
-
-CASES['Tables of which two would be in one file'] = played_apart(check_alike, ALIKE)
+CASES['Tables of which two would be in one file'] = played_apart(functools.partial(check_contents_refused, lines=(TABLES, BOTH)), ALIKE)
 
 
 def test_no_chain(stage):
@@ -217,22 +171,16 @@ def make_long(stage):
 def test_a_full_disk(stage):
     """A file that can't be written whole: nothing is left."""
     make_long(stage)
-    check_refused(stage, 'E1 out', TABLES, 3, prepare=limit_files)
+    check_refused(stage, 'E1 out', TABLES, 3, prepare=no_longer_files(SHORT))
     # (Each CSV file is shorter than 1,000 bytes, a database isn't.)
-    check_refused(stage, 'E1 out', BOTH, 3, prepare=lambda: limit_files(1_000))
-
-
-def stop_there():
-    """Ends the program where a file grows past 100 bytes."""
-    limit_files()
-    signal.signal(signal.SIGXFSZ, signal.SIG_DFL)
-    resource.setrlimit(resource.RLIMIT_CORE, (0, 0))
+    check_refused(stage, 'E1 out', BOTH, 3, prepare=no_longer_files(1_000))
 
 
 def test_a_stop(stage):
     """A stop in the middle leaves nothing in the folder's place, and the files so far beside it."""
     make_long(stage)
-    got = stage.end(stage.begin(TABLES.split(), 'handover', prepare=stop_there))
+    ends = prepared([(resource.RLIMIT_FSIZE, SHORT), (resource.RLIMIT_CORE, 0)])
+    got = stage.end(stage.begin(TABLES.split(), 'handover', prepare=ends))
     compare('status', f'{-signal.SIGXFSZ}', f'{got.status}')
     if 'out' in os.listdir(stage.room.name) or 'contact.csv' not in os.listdir(stage.at('out.part')):
         raise Failed(f'there is {names_in(stage.room.name)}')

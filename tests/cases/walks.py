@@ -6,7 +6,6 @@ from support.messages import get
 from support.reports import report
 from support.sockets import response_to, serve
 from support.stage import Failed, Wanted
-from support.steps import Folder
 from support.stores import run
 
 
@@ -15,13 +14,6 @@ def lines_of(table, row):
     kind, _, fields = SHAPES[table]
     cells = row.split(',')
     return [f'{kind},{cells[0]},{table},0,{name},{cell}' for name, cell in zip(fields, cells, strict=True)]
-
-
-def export_of(kind, bodies):
-    """The lines of bodies that have parent rows alone, and each key once."""
-    rows = [(row.partition(',')[0].encode(), lines_of(table, row)) for it in bodies for table, rows in BODIES[it].contents.items()
-            if SHAPES[table][0] == kind for row in rows.splitlines()]
-    return [line for _, lines in sorted(rows) for line in lines]
 
 
 def check_export(what, wanted, got):
@@ -33,8 +25,6 @@ def check_export(what, wanted, got):
 
 
 def check_exports(stage, *bodies):
-    """Takes bodies, and compares the export of each kind."""
-    Folder('deposits').do(stage)
     for at, it in enumerate(bodies, 1):
         stage.write(f'deposits/{at}', bytes_of(it))
     stage.write('listed.csv', manifest_text(bodies).encode())
@@ -45,7 +35,10 @@ def check_exports(stage, *bodies):
     served = {kind: response_to(port, get(f'/export/{kind}')) for kind in KINDS}
     stage.end(child)
     for kind in KINDS:
-        lines = export_of(kind, bodies)
+        # (The bodies have parent rows alone, and each key once.)
+        rows = [(row.partition(',')[0].encode(), lines_of(table, row)) for it in bodies for table, text in BODIES[it].contents.items()
+                if SHAPES[table][0] == kind for row in text.splitlines()]
+        lines = [line for _, its in sorted(rows) for line in its]
         check_export(f'$ restore export --store a.db {kind}', report('export', lines).encode(), run(stage, f'export --store a.db {kind}'))
         check_export(f'GET /export/{kind}', table('export', *lines), served[kind])
 

@@ -1,7 +1,7 @@
 """The words of manifests and envelopes: the moments of watermarks, places, types, kinds and ids."""
 from support.bundles import bundle_of, envelope_of, row_of, section
+from support.clients import new_desk
 from support.formats import KINDS
-from support.harness import Harness
 from support.reports import report
 from support.stage import Wanted, case, compare, text_of
 from support.verdicts import F1, desk_over, reply_to, said_of, text_of_rows
@@ -52,8 +52,7 @@ def row_at(name, kind, watermark):
 def test_moments_that_are_read(stage):
     """Texts that are moments."""
     stage.write('listed.csv', text_of_rows((row_at(f'F{at}', 'FULL', text), at) for at, (text, _) in enumerate(MOMENTS)))
-    with Harness(stage) as desk:
-        desk.check('create listed.csv', 'created\n')
+    with new_desk(stage) as desk:
         desk.check('close', '')
         desk.check('query SELECT watermark FROM listed ORDER BY row', text_of(f'{moment}' for _, moment in MOMENTS))
     stage.check('init --store a.db --manifest listed.csv', Wanted(0, f'listed {len(MOMENTS)}\n'))

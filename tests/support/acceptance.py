@@ -29,33 +29,23 @@ STATUSES = {'host': HOST_STATUSES, 'contact': CONTACT_STATUSES,
                                                        'pendingRenew'}}
 
 
-# ---- findings
-
-
 def cells_of(rows, table, field):
     """The texts of a field in the rows of a child table, or in the parent row, which is the first one; without empty ones."""
     chosen = rows[:1] if table is None else [it for it in rows[1:] if it[0] == table]
     return [text for _, cells in chosen if (text := dict(reversed(cells)).get(field))]
 
 
-def link_findings(objects, kind, key, rows):
+def findings_of(kind, key, rows, objects, watermark):
     for _, table, field in (it for it in GUIDES if it[0] == kind and it[2] in TARGETS):
         for text in cells_of(rows, table, field):
             target = text.lower() if field == 'hostName' else text
             if (TARGETS[field], target.encode()) not in objects:
                 yield 1, kind, key, field, target
-
-
-def status_findings(kind, key, rows):
     found = cells_of(rows, f'{kind}Statuses', 'status') if kind in STATUSES else []
     yield from ((3, kind, key, 'status', it) for it in found if it not in STATUSES[kind])
     if kind == 'domain' and 'ok' in found and set(found) != {'ok'}:
         yield 4, kind, key, 'status', 'ok'
-
-
-def date_findings(kind, key, rows, watermark):
-    fields = [it[2] for it in GUIDES if it[0] == kind and it[2].endswith('Date')]
-    texts = {field: text for field in fields for text in cells_of(rows, None, field)}
+    texts = {field: text for of, _, field in GUIDES if of == kind and field.endswith('Date') for text in cells_of(rows, None, field)}
     moments = {field: formats.moment(text) for field, text in texts.items()}
     yield from ((7, kind, key, field, texts[field]) for field in texts if moments[field] is None)
     created, expired = moments.get('crDate'), moments.get('exDate')
@@ -69,8 +59,7 @@ def findings(objects, watermark, counts):
     """The findings V1 to V7 in objects, which are records by kind and key: code, kind, key, field and value, in order."""
     found = {(2, kind, '', 'count', f'{count}') for kind, count in counts.items() if count != count_of(objects, kind)}
     for (kind, key), record in objects.items():
-        rows, name = read_record(record), key.decode()
-        found |= {*link_findings(objects, kind, name, rows), *status_findings(kind, name, rows), *date_findings(kind, name, rows, watermark)}
+        found |= {*findings_of(kind, key.decode(), read_record(record), objects, watermark)}
     return sorted(found, key=lambda it: (it[0], KINDS.index(it[1]), *(text.encode() for text in it[2:])))
 
 
@@ -94,25 +83,18 @@ def is_disguised(name, wanted):
     return name != wanted and looks_like(name, wanted)
 
 
-def is_disguised_table(name, wanted):
-    return is_disguised(name, wanted) or wanted == 'domainNs' and looks_like(name, 'domainNameServers')
-
-
 def is_table_of(guide, table):
     """Whether a declared table is the one that has the field of a guide."""
     kind, child, _ = guide
     return table['kind'] == kind and (table['role'] == 'parent' if child is None else (table['role'], table['name']) == ('child', child))
 
 
-def is_declared(guide, tables):
-    return any(is_table_of(guide, it) and guide[2] in it['fields'] for it in tables)
-
-
 def is_under_other_name(guide, tables):
     kind, child, field = guide
     children = [it for it in tables if (it['kind'], it['role']) == (kind, 'child')] if child else []
     fields = [name for it in tables if is_table_of(guide, it) for name in it['fields']]
-    return any(is_disguised(it, field) for it in fields) or any(is_disguised_table(it['name'], child) for it in children)
+    return any(is_disguised(it, field) for it in fields) or any(
+        is_disguised(it['name'], child) or child == 'domainNs' and looks_like(it['name'], 'domainNameServers') for it in children)
 
 
 def guide_text(guide):
@@ -120,11 +102,7 @@ def guide_text(guide):
     return f'{child or kind} {field}'
 
 
-# ---- what is seen of a store
-
-
 def is_bundle(body):
-    """Whether a body is a bundle, whatever its rows are."""
     try:
         return envelope_in(body) is not None
     except Refused:
@@ -164,20 +142,6 @@ def end_line(seen):
     return not later, place_text(seen.end) + by + later
 
 
-def resends_line(seen):
-    if outdated := [it for it in seen.gaps if it.state == 'chain' and it.awaited is not None]:
-        first = outdated[0]
-        return f'{len(outdated)} of the chain await a later resend, the first {place_text(first.place)} resend {first.awaited};'
-    return ''
-
-
-def gaps_line(seen):
-    passed = [it for it in seen.gaps if it.state in ('missing', 'blocked') and seen.end and in_order(it.place) < in_order(seen.end)]
-    if passed:
-        return f'{len(passed)} before the end are missing or blocked, the first {place_text(passed[0].place)} {passed[0].state};'
-    return ''
-
-
 def control_spelled(text):
     """A text as it is shown: if it has control characters, these and its backslashes are escaped."""
     controls = {it: f'\\u{{{ord(it):x}}}' for it in text if unicodedata.category(it) == 'Cc'}
@@ -185,38 +149,31 @@ def control_spelled(text):
     return text.translate(str.maketrans(controls | others)) if controls else text
 
 
-def findings_line(seen):
-    if seen.findings:
-        code, kind, key, field, _ = seen.findings[0]
-        return f'{len(seen.findings)}, the first V{code} {" ".join(filter(None, (kind, control_spelled(key), field)))};'
-    return ''
-
-
-def bodies_line(seen):
-    if seen.spoiled:
-        return f'{len(seen.spoiled)} held have another SHA-256 than listed, the first of row {seen.spoiled[0] + 1};'
-    return ''
-
-
-def those_that_are(names, what):
-    return f'{", ".join(names)} {what}' if names else ''
-
-
 def tests_of(seen):
     """Each test in order: its name, whether it passes, and what its line then begins to say if it doesn't. Of the end this is said in any
     case."""
+    def counted(found, words):
+        return f'{len(found)}{words(found[0])};' if found else ''
+
+    def named(found, words):
+        names = ', '.join(found)
+        return f'{names} {words}' if names else ''
+    outdated = [it for it in seen.gaps if it.state == 'chain' and it.awaited is not None]
+    passed = [it for it in seen.gaps if it.state in ('missing', 'blocked') and seen.end and in_order(it.place) < in_order(seen.end)]
     fields = [it for it in GUIDES if seen.objects[it[0]] and (it[2] != 'idnTableId' or seen.objects['idn'])]
+    undeclared = [it for it in fields if not any(is_table_of(it, table) and it[2] in table['fields'] for table in seen.tables)]
     yield 'end', *end_line(seen)
     for name, wrong in {
-            'resends': resends_line(seen),
-            'gaps': gaps_line(seen),
+            'resends': counted(outdated, lambda it: f' of the chain await a later resend, the first {place_text(it.place)} resend {it.awaited}'),
+            'gaps': counted(passed, lambda it: f' before the end are missing or blocked, the first {place_text(it.place)} {it.state}'),
             'parked': f'{seen.parked} are listed by no row' if seen.parked else '',
-            'findings': findings_line(seen),
+            'findings': counted(seen.findings, lambda it: ', the first ' + ' '.join(
+                filter(None, (f'V{it[0]}', it[1], control_spelled(it[2]), it[3])))),
             'orphans': f'{seen.orphans} child rows' if seen.orphans else '',
-            'counts': those_that_are([it for it in KINDS if it not in seen.counts], 'not declared'),
-            'fields': those_that_are([guide_text(it) for it in fields if not is_declared(it, seen.tables)], 'declared by no deposit'),
-            'names': those_that_are([guide_text(it) for it in GUIDES if is_under_other_name(it, seen.tables)], 'under another name'),
-            'bodies': bodies_line(seen),
+            'counts': named([it for it in KINDS if it not in seen.counts], 'not declared'),
+            'fields': named(map(guide_text, undeclared), 'declared by no deposit'),
+            'names': named((guide_text(it) for it in GUIDES if is_under_other_name(it, seen.tables)), 'under another name'),
+            'bodies': counted(seen.spoiled, lambda it: f' held have another SHA-256 than listed, the first of row {it + 1}'),
             'tables': '' if seen.is_rebuilt else 'not those'}.items():
         yield name, not wrong, wrong
 

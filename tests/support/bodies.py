@@ -22,13 +22,11 @@ F5 = Header('F5', 'FULL', '2024-03-10T00:00:00Z')
 
 @dataclass(frozen=True)
 class Body:
-    """What a manifest says of a body, and its bytes, or the rows of its tables; and, where they differ from what is usual, the objects of
-    each kind that it says the registry has, and the resend that it says."""
+    """What a manifest says of a body, and its bytes, or the rows of its tables and the objects of each kind that it says the registry has."""
     listed: Header
     contents: dict = field(default_factory=dict)
     deletes: dict = field(default_factory=dict)
     counts: dict = field(default_factory=dict)
-    says_resend: int | None = None
     raw: bytes | None = None
 
     def bytes(self):
@@ -37,8 +35,7 @@ class Body:
         contents = [Table(it, *SHAPES[it], rows.encode()) for it, rows in self.contents.items()]
         # (A delete table has keys alone.)
         deletes = [Table(it, *SHAPES[it][:2], SHAPES[it][2][:1], rows.encode()) for it, rows in self.deletes.items()]
-        header = self.listed if self.says_resend is None else self.listed._replace(resend=self.says_resend)
-        return deposit(header, contents, deletes, self.counts)
+        return deposit(self.listed, contents, deletes, self.counts)
 
 
 def numbered(count, more=''):
@@ -59,6 +56,16 @@ BODIES = {
                     'domainNs': 'e.example,ns1.e.example\n'}),
     'D6': Body(Header('D6', 'DIFF', '2024-03-11T00:00:00Z', 'F5'), {'domain': 'f.example,R1,C9\n'}, {'host': 'ns1.e.example\n'},
                counts={'registrar': 1, 'contact': 1, 'host': 0, 'domain': 3}),
+    # Incrementals on other Fulls, of which one is of the same moment, a Full before I4, and an Incremental after F5 that says D3.
+    'I0': Body(Header('I0', 'INCR', '2024-03-02T00:00:00Z', 'F1')),
+    'I2': Body(Header('I2', 'INCR', '2024-03-04T00:00:00Z', 'F2')),
+    'F4': Body(Header('F4', 'FULL', '2024-03-05T00:00:00Z')),
+    'I7': Body(Header('I7', 'INCR', '2024-03-12T00:00:00Z', 'D3')),
+    # A deposit for each kind of blocker: no earlier Full, one that isn't held, and a base that isn't listed.
+    'EarlyI0': Body(Header('I0', 'INCR', '2024-02-28T00:00:00Z')),
+    'EarlyF1': Body(Header('F1', 'FULL', '2024-03-01T00:00:00Z')),
+    'EarlyD2': Body(Header('D2', 'DIFF', '2024-03-02T00:00:00Z', 'F1')),
+    'EarlyD3': Body(Header('D3', 'DIFF', '2024-03-03T00:00:00Z', 'X9')),
     # D2 that deletes the domain a.example, in other letters, and has it with clID R2.
     'Both': Body(D2, {'domain': 'a.example,R2,C1\n'}, {'domain': 'A.EXAMPLE\n'}),
     # A Full at the watermark of D2.
@@ -66,7 +73,7 @@ BODIES = {
     # F1 with a name server of a domain that it doesn't have.
     'Orphan': Body(F1, {'contact': 'C1,R1\n', 'domainNs': 'a.example,ns1.a.example\n'}),
     # F1 that says resend 1, where the manifest says 0.
-    'Unequal': Body(F1, FIRST, says_resend=1),
+    'Unequal': Body(F1, raw=Body(F1._replace(resend=1), FIRST).bytes()),
     'Empty': Body(Header('E0', 'FULL', '2024-03-01T00:00:00Z'), raw=b''),
     # The bundle of one contact without its last byte.
     'Cut': Body(F1, raw=SAMPLE[:-1]),
@@ -86,15 +93,12 @@ BODIES = {
 
 @functools.cache
 def bytes_of(name):
-    """The bytes of a body."""
     return BODIES[name].bytes()
 
 
 def line_of(name):
-    """The row of a manifest that lists a body."""
     return row_of(BODIES[name].listed, bytes_of(name))
 
 
 def manifest_text(names, more=''):
-    """The text of a manifest that lists bodies, and then further rows."""
     return HEADING + ''.join(map(line_of, names)) + more

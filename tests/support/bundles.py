@@ -1,6 +1,6 @@
 """Deposits: the bundle of each, put together of its tables, or of an envelope and sections; the manifests that list them; and the
 worked bundle of one contact."""
-import csv, hashlib, io, json
+import hashlib, json
 from typing import NamedTuple
 
 # The first lines of a bundle and of a manifest.
@@ -28,15 +28,11 @@ FILES = {
 }
 
 
-# ---- of sections
-
-
 def section(name, content):
     return f'{name} {len(content)}\n'.encode() + content + b'\n'
 
 
 def bundle_of(envelope, files=b''):
-    """The bundle of an envelope, and of the sections of files."""
     return FIRST_LINE + section('envelope.json', envelope) + files + b'end\n'
 
 
@@ -48,9 +44,6 @@ def sealed(envelope, files):
     """The bundle of an envelope, a value or its text, and of files: the name and the content of each."""
     text = envelope if isinstance(envelope, bytes) else compact(envelope)
     return bundle_of(text, b''.join(section(*it) for it in files))
-
-
-# ---- of tables
 
 
 class Header(NamedTuple):
@@ -79,12 +72,6 @@ class Table(NamedTuple):
                 'file': file}
 
 
-def csv_text(rows):
-    text = io.StringIO(newline='')
-    csv.writer(text, lineterminator='\n').writerows(rows)
-    return text.getvalue().encode()
-
-
 def deposit(header, contents=(), deletes=(), counts=None):
     """The bundle of a deposit with these tables, which says how many objects of some kinds there are. The header may be its text."""
     name, kind, watermark, prev, resend = str(header).split(',')
@@ -103,14 +90,9 @@ def envelope_of(files):
     return compact({'id': 'F1', 'type': 'FULL', 'watermark': '2024-03-03T00:00:00Z', 'contents': tables})
 
 
-# ---- manifests
-
-
 def row_of(header, body):
-    """The line of a manifest that lists a body."""
     return f'{header},{hashlib.sha256(body).hexdigest()}\n'
 
 
 def manifest(deposits):
-    """The manifest that lists deposits, each a header and a body."""
     return (HEADING + ''.join(row_of(*it) for it in deposits)).encode()

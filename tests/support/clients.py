@@ -15,9 +15,6 @@ AMPLE = 10_000_000
 SERVED, READ_FAULT, WRITE_FAULT = 'served', 'read fault', 'write fault'
 
 
-# ---- responses
-
-
 def replied(row):
     """The response to an arrival, by its row in the report of receipts."""
     receipt, number, verdict, fault, name, resend, copy, orphans = row.split(',')
@@ -28,16 +25,12 @@ def replied(row):
 
 
 def table(name, *rows):
-    """The response with a report in rows."""
     return response(200, report(name, rows), 'text/csv')
 
 
 BAD_REQUEST, NOT_FOUND = response(400, 'bad request\n'), response(404, 'not found\n')
 LENGTH_REQUIRED, TOO_LARGE = response(411, 'length required\n'), response(413, 'too large\n')
 PUT_ONLY, GET_ONLY = (response(405, 'method not allowed\n', allow=it) for it in ('PUT', 'GET'))
-
-
-# ---- the sample
 
 # An arrival of a body that the manifest with-contact.csv lists; and one of a body that it doesn't, with one more byte after it.
 SAMPLE = b'PUT /arrivals/n1 HTTP/1.1\r\nHost: desk\r\ncontent-LENGTH: 000228\r\n\r\n' + CONTACT
@@ -49,9 +42,6 @@ HELD = replied(RECEIPTS[0])
 
 def list_sample(stage):
     Copy('listed.csv', 'with-contact.csv').do(stage)
-
-
-# ---- the desk
 
 
 @dataclass(frozen=True)
@@ -67,7 +57,6 @@ class Wire:
     is_stuck: bool = False
 
     def line(self):
-        """What a harness is told."""
         if self == Wire(self.request):
             return 'request request'
         end = 'stuck' if self.is_stuck else 'flowing'
@@ -81,15 +70,9 @@ def shown(text):
 class RequestDesk(Harness):
     """A desk to which requests are sent, each in the file `request`."""
 
-    def __init__(self, stage):
-        super().__init__(stage)
-        self.stage, self.sent = stage, None
-
     def serve(self, wire):
         """What comes of a request, and what is written of its response."""
-        if wire.request != self.sent:
-            self.stage.write('request', wire.request)
-            self.sent = wire.request
+        self.stage.write('request', wire.request)
         answer = self.ask(wire.line())
         came, _, digits = answer.partition('\nx')
         with contextlib.suppress(ValueError):

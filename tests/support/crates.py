@@ -6,7 +6,6 @@ from support import TOP
 
 @functools.cache
 def listed():
-    """The crates, the lowest first, each with the libraries that it uses."""
     lines = (it.partition(':') for it in pathlib.Path(TOP, 'crates.txt').read_text().splitlines() if it and not it.startswith('#'))
     return {name.strip(): uses.split() for name, _, uses in lines}
 

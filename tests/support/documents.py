@@ -10,19 +10,17 @@ OBJECTS = {'registrar': 'rdeRegistrar:registrar', 'idn': 'rdeIDN:idnTableRef', '
 KEYS = {'registrar': 'id', 'idn': 'idnTableId', 'contact': 'id', 'host': 'name', 'domain': 'name', 'nndn': 'aName'}
 PREFIXES = ('rde', 'rdeHeader', 'rdeRegistrar', 'rdeContact', 'rdeHost', 'rdeDomain', 'rdeIDN', 'rdeNNDN', 'rdeCsv', 'csvRegistrar',
             'csvContact', 'csvHost', 'csvDomain', 'csvIDN', 'csvNNDN', 'domain', 'contact')
+# What a reader would take for spaces in an attribute.
+LINE_SIGNS = {'\n': '&#10;', '\r': '&#13;', '\t': '&#9;'}
 URIS = {**{it: f'urn:ietf:params:xml:ns:{it}-1.0' for it in PREFIXES}, 'secDNS': 'urn:ietf:params:xml:ns:secDNS-1.1'}
 
 
 # ---- the XML model
 
 
-def attribute(value):
-    return quoteattr(value, {'\n': '&#10;', '\r': '&#13;', '\t': '&#9;'})
-
-
 def element(tag, text='', /, *, within='', **attributes):
     """An element with a text, or with others within it."""
-    said = ''.join(f' {it}={attribute(value)}' for it, value in attributes.items() if value)
+    said = ''.join(f' {it}={quoteattr(value, LINE_SIGNS)}' for it, value in attributes.items() if value)
     body = within or escape(text, {'\r': '&#13;'})
     return f'<{tag}{said}>{body}</{tag}>' if body else f'<{tag}{said}/>'
 
@@ -199,12 +197,6 @@ def csv_text(rows, separator):
     return text.getvalue().encode()
 
 
-def csv_xml(name, fields, file, data, separator):
-    within = element('rdeCsv:fields', within=''.join(f'<{it}/>' for it in fields)) + element(
-        'rdeCsv:files', within=element('rdeCsv:file', file, cksum=f'{zlib.crc32(data):08X}'))
-    return element('rdeCsv:csv', within=within, name=name, sep=separator)
-
-
 def rows_of(objects, table, roids):
     """The rows of a table, in the fields of its files. A host is named by its ROID."""
     fields = FILES[table][2]
@@ -230,7 +222,9 @@ def csv_model(folder, objects, deletes, roids, day, separator):
             file, data = f'{name}{"-delete" if is_of_deletes else ""}-{day}.csv', csv_text(rows, separator)
             with open(os.path.join(folder, file), 'wb') as written:
                 written.write(data)
-            found[is_of_deletes].setdefault(prefix, []).append(csv_xml(name, wanted, file, data, separator))
+            declared = element('rdeCsv:fields', within=''.join(f'<{it}/>' for it in wanted)) + element(
+                'rdeCsv:files', within=element('rdeCsv:file', file, cksum=f'{zlib.crc32(data):08X}'))
+            found[is_of_deletes].setdefault(prefix, []).append(element('rdeCsv:csv', within=declared, name=name, sep=separator))
     return [''.join(element(f'{prefix}:{word}', within=''.join(its)) for prefix, its in found[is_of_deletes].items())
             for is_of_deletes, word in ((True, 'deletes'), (False, 'contents'))]
 

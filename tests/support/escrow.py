@@ -8,6 +8,7 @@ LETTERS = string.ascii_letters + 'éßЖ漢\U0001f600'
 ODD = ' \t\n\r,;|"\'<>&-]\\#\u2028\ufeff'
 DOMAIN_STATUSES = ('ok', 'clientHold', 'serverHold', 'inactive', 'pendingDelete')
 OTHER_STATUSES = ('ok', 'linked', 'clientDeleteProhibited')
+DISCLOSED = [f'disclose{it}' for it in ('NameInt', 'NameLoc', 'OrgInt', 'OrgLoc', 'AddrInt', 'AddrLoc', 'Voice', 'Fax', 'Email')]
 RGP_STATUSES = ('redemptionPeriod', 'pendingDelete', 'pendingRestore')
 
 
@@ -75,16 +76,13 @@ class Maker:
     def idn(self):
         return [('idn', {'idnTableId': self.id('L'), 'url': self.text()})]
 
-    def disclosures(self):
-        names = [f'disclose{it}' for it in ('NameInt', 'NameLoc', 'OrgInt', 'OrgLoc', 'AddrInt', 'AddrLoc', 'Voice', 'Fax', 'Email')]
-        return [{'discloseFlag': '0', **self.some(**dict.fromkeys(names, lambda: '1'))}] if self.random.random() < 0.4 else []
-
     def contact(self):
         cells = {'id': self.id('C'), 'roid': self.id('CR'), 'email': self.token(), **self.phones(), **self.history()}
         postal = [{'postalType': form, 'name': self.text(), **self.some(org=self.text), **self.address()} for form in ('int', 'loc')]
         return [('contact', cells), *(('contactStatuses', it) for it in self.statuses(OTHER_STATUSES)),
                 *(('contactPostal', it) for it in postal[:self.random.randint(1, 2)]), *(('contactTransfer', it) for it in self.transfers()),
-                *(('contactDisclose', it) for it in self.disclosures())]
+                *([('contactDisclose', {'discloseFlag': '0', **self.some(**dict.fromkeys(DISCLOSED, lambda: '1'))})]
+                  if self.random.random() < 0.4 else [])]
 
     def host(self):
         cells = {'name': f'{self.id("Ns")}.example', 'roid': self.id('HR'), **self.history()}
@@ -123,7 +121,6 @@ class Maker:
 
 
 def some_objects(random, most=6):
-    """Objects of all kinds."""
     maker = Maker(random)
     hosts = maker.many(maker.host, most)
     names = [it[0][1]['name'] for it in hosts]
@@ -137,7 +134,6 @@ def told(rows):
 
 
 def as_written(objects):
-    """Objects by kind and key."""
     found = {}
     for rows in objects:
         kind, parent = rows[0]

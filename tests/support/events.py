@@ -1,23 +1,18 @@
 """What desks over files that fail are told, and what they must answer: for the modules whose files fail, and those that ask over HTTP."""
 import re
 
-from support.stage import Failed, difference
+from support.stage import Failed, case, difference
 from support.steps import Bodies, FirstScript, Manifest
 
-# The columns of each table that stores of both versions have, and those by which its rows are in order.
-FIRST_TABLES = {
-    'listed': ('row, id, type, watermark, prev, resend, digest', 'row'),
-    'receipt': ('receipt, number, digest, verdict, fault, row, again, orphans', 'receipt'),
-    'held': ('row, body', 'row'),
-    'step': ('pos, row', 'pos'),
-    'object': ('kind, key, record', 'kind, key'),
-    'undo': ('pos, kind, key, record', 'pos, kind, key'),
-}
+# By what the rows are in order of each table that stores of both versions have.
+FIRST_TABLES = {'listed': 'row', 'receipt': 'receipt', 'held': 'row', 'step': 'pos', 'object': 'kind, key', 'undo': 'pos, kind, key'}
 # Those and the others that a store of this version has.
-TABLES = {'info': ('id, version', 'id')} | FIRST_TABLES | {'parked': ('digest, body', 'digest'), 'moment': ('id, watermark', 'id')}
+TABLES = {'info': 'id'} | FIRST_TABLES | {'parked': 'digest', 'moment': 'id'}
 NOON = '2024-03-04T12:00:00Z'
 # The files of a desk, as a harness is told of them, and their names.
 FILES = {'log': 'log', 'database': 'database file'}
+# More calls of a file than there are.
+MOST_CALLS = 5_000
 
 
 def put_files(stage, **listed):
@@ -36,8 +31,7 @@ def put_first_store(stage, lost):
 
 def query(table):
     """The line that asks for all rows of a table, where no desk is open."""
-    columns, order = TABLES[table]
-    return f'query SELECT {columns} FROM {table} ORDER BY {order}'
+    return f'query SELECT * FROM {table} ORDER BY {TABLES[table]}'
 
 
 def compare_any(line, got, *wanted):
@@ -58,13 +52,30 @@ def is_answered(desk, line, wanted):
     return check(desk, line, wanted, 'S1\n') == wanted
 
 
+def is_open(desk, make='create listed.csv', made='created\n'):
+    """Opens a store, which is made or migrated where there is none of this version. Whether it is open: `S1` alone refuses it."""
+    answer = check(desk, 'open', 'opened\n', 'S1\n', 'S3\n')
+    if answer == 'S3\n':
+        answer = check(desk, make, made, 'S1\n')
+    return answer != 'S1\n'
+
+
+def over_calls(file, play):
+    """Plays with the next call of a file, one after the other, which fails, up to a time that there is none: then `play` is false."""
+    for calls in range(MOST_CALLS):
+        with case(f'the {FILES[file]} fails after {calls} calls'):
+            if not play(calls):
+                break
+    if calls in (0, MOST_CALLS - 1):
+        raise Failed(f'{calls} calls of the {FILES[file]} failed')
+
+
 def run_line(events):
     """Events that come in one run, as a failure shows them."""
     return f'run {len(events)}: {", ".join(events)}'
 
 
 def run(desk, events):
-    """What comes of events in one run."""
     *told, last = f'run {len(events)}', *events
     for line in told:
         desk.tell(line)

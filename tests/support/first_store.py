@@ -29,7 +29,6 @@ def undo_of(desk):
 
 
 def rows_of(desk):
-    """The rows of the tables of a desk's store."""
     return {
         'info': [(1, 2)],
         'listed': [(at, name, TYPES.index(place[1]), place[0], prev, resend, bytes.fromhex(digest))
@@ -52,7 +51,6 @@ def first_rows(manifest, arrivals):
 
 
 def literal(value):
-    """A value as SQL has it."""
     if value is None:
         return 'NULL'
     if isinstance(value, bytes):

@@ -21,12 +21,6 @@ OTHER_TEXTS = {'clID': 'GONE', 'registrant': 'GONE', 'contactId': 'GONE', 'hostN
 NO_DATE = 'never'
 
 
-def table_of(guide):
-    """The table that has the field of a guide."""
-    kind, child, _ = guide
-    return child or kind
-
-
 class Contents:
     """The tables of a deposit: of each its kind, its role, and its fields with the rows below them."""
 
@@ -39,7 +33,7 @@ class Contents:
 
     def lines_of(self, guide):
         """The fields and the rows of a table, and where the field of a guide is in each."""
-        lines = self.tables[table_of(guide)][2]
+        lines = self.tables[guide[1] or guide[0]][2]
         return lines, lines[0].index(guide[2])
 
     def leave_out(self, guide):
@@ -97,8 +91,6 @@ class Agent:
     def has(self, flaw, share=1.0):
         return flaw in self.flaws and self.random.random() < share
 
-    # ---- what changes from day to day
-
     def change(self):
         """Some domains go, and others come. Gives the objects that a Differential has, and those that it deletes."""
         keys = self.registry.keys
@@ -114,10 +106,13 @@ class Agent:
     def all_objects(self):
         return [(kind, key) for kind, keys in self.registry.keys.items() for key in keys]
 
-    # ---- a deposit
-
-    def misname(self, contents):
-        name = table_of(self.guide)
+    def spoil(self, contents):
+        if self.has('cells', 0.7):
+            for guide in self.random.sample(GUIDES, 4):
+                contents.spoil_cell(guide, NO_DATE if guide[2].endswith('Date') and self.random.random() < 0.5 else OTHER_TEXTS[guide[2]])
+        if self.has('orphans', 0.7):
+            contents.tables['domainNs'][2].append(['nobody.example', self.registry.some('host')])
+        name = self.guide[1] or self.guide[0]
         if self.has('left out', 0.8):
             contents.leave_out(self.guide)
         elif self.has('doubled', 0.8):
@@ -126,14 +121,6 @@ class Agent:
             contents.rename_table(name, self.other_name(name))
         elif self.has('renamed', 0.8):
             contents.rename(self.guide, self.other_name)
-
-    def spoil(self, contents):
-        if self.has('cells', 0.7):
-            for guide in self.random.sample(GUIDES, 4):
-                contents.spoil_cell(guide, NO_DATE if guide[2].endswith('Date') and self.random.random() < 0.5 else OTHER_TEXTS[guide[2]])
-        if self.has('orphans', 0.7):
-            contents.tables['domainNs'][2].append(['nobody.example', self.registry.some('host')])
-        self.misname(contents)
 
     def counts(self):
         counts = {kind: len(self.registry.keys[kind]) for kind in KINDS}
@@ -147,8 +134,6 @@ class Agent:
         contents = Contents(self.registry, objects)
         self.spoil(contents)
         return contents.body(header, deletes, self.counts())
-
-    # ---- the release
 
     def hand_in(self, header, body, is_awaited):
         """Lists a deposit and lets it arrive; or one of both, or no deposit at all."""
@@ -185,7 +170,6 @@ class Agent:
             self.add('FULL', day, self.all_objects(), [])
 
     def make(self):
-        """The release of a few days."""
         last, moment = self.random.randint(1, 6), None
         self.add('FULL', 1, self.all_objects(), [])
         for day in range(2, last + 1):
@@ -236,7 +220,6 @@ def full_release(change):
 
 
 def each(change, *more):
-    """What is changed of each guide's field."""
     return lambda contents: [change(contents, it, *more) for it in GUIDES]
 
 

@@ -165,7 +165,6 @@ def json_of(text):
 
 
 def envelope_in(body):
-    """The value of a bundle's envelope, whatever it has."""
     return json_of(dict(sections(body))['envelope.json'])
 
 
@@ -193,30 +192,24 @@ def header_of(value):
     return name, (moment(watermark), told['type']), prev or None, resend.whole() if resend else 0
 
 
-def check_declaration(table, roles, here):
-    """The members of a table's declaration, whose role is one of these. U7, for the first that is wrong."""
-    told = table if isinstance(table, dict) else {}
-    texts = {name: told[name] for name in ('name', 'kind', 'role', 'key', 'file') if isinstance(told.get(name), str)}
-    fields = told.get('fields')
-    are_fields = isinstance(fields, list) and all(isinstance(it, str) and is_id(it) for it in fields)
-    right = {
-        'name': re.fullmatch('[A-Za-z0-9_]{1,64}', texts.get('name', '')),
-        'kind': texts.get('kind') in KINDS,
-        'role': texts.get('role') in roles,
-        'fields': are_fields and 1 <= len(fields) <= 64 and len(set(fields)) == len(fields),
-        'key': are_fields and texts.get('key') in fields,
-        'file': 'file' in texts,
-    }
-    for member, is_right in right.items():
-        need(is_right, 7, f'{here}, {member}: {FORM}')
-
-
 def tables_of(value, member, roles):
-    """The tables of what is, or of what was deleted. U7."""
+    """The tables of what is, or of what was deleted, whose roles are these. U7, for the first table and the first member that is wrong."""
     before = []
     for number, table in enumerate(value.get(member, []), 1):
-        here = f'{ENVELOPE}, {member} table {number}'
-        check_declaration(table, roles, here)
+        here, told = f'{ENVELOPE}, {member} table {number}', table if isinstance(table, dict) else {}
+        texts = {name: told[name] for name in ('name', 'kind', 'role', 'key', 'file') if isinstance(told.get(name), str)}
+        fields = told.get('fields')
+        are_fields = isinstance(fields, list) and all(isinstance(it, str) and is_id(it) for it in fields)
+        right = {
+            'name': re.fullmatch('[A-Za-z0-9_]{1,64}', texts.get('name', '')),
+            'kind': texts.get('kind') in KINDS,
+            'role': texts.get('role') in roles,
+            'fields': are_fields and 1 <= len(fields) <= 64 and len(set(fields)) == len(fields),
+            'key': are_fields and texts.get('key') in fields,
+            'file': 'file' in texts,
+        }
+        for it, is_right in right.items():
+            need(is_right, 7, f'{here}, {it}: {FORM}')
         need(table['name'] not in [it['name'] for it in before], 7, f'{here}, name: that of an earlier table')
         parents = [it['kind'] for it in before if it['role'] == 'parent' and member == 'contents']
         need(table['role'] == 'child' or table['kind'] not in parents, 7, f'{here}, kind: that of an earlier parent table')
@@ -262,7 +255,6 @@ class Deposit:
 
 
 def key(table, row):
-    """Kind and key of a row."""
     text = row[table['fields'].index(table['key'])]
     return table['kind'], text.lower() if table['kind'] in ('domain', 'host') else text
 
@@ -273,21 +265,17 @@ def deposit(body):
     value = json_of(text)
     header = header_of(value)
     contents, deletes = tables_of(value, 'contents', ('parent', 'child')), tables_of(value, 'deletes', ('parent',))
-    check_files(contents, deletes, [name for name, _ in files])
-    files = {name: records(content) for name, content in files}
-    check_rows({table['file']: table for table in [*contents, *deletes]}, files)
-    return Deposit(header, counts_in(value), contents, deletes, files)
-
-
-def check_files(contents, deletes, names):
-    """The files of tables are sections, and each section is the file of one table. U8."""
+    # The files of tables are sections, and each section is the file of one table. U8.
+    names, named = [name for name, _ in files], [table['file'] for table in [*contents, *deletes]]
     for member, tables in (('contents', contents), ('deletes', deletes)):
         for number, table in enumerate(tables, 1):
             need(table['file'] in names, 8, f'{ENVELOPE}, {member} table {number}, file: no section "{table["file"]}"')
-    named = [table['file'] for table in [*contents, *deletes]]
     for number, name in enumerate(names, 2):
         need(name in named, 8, f'section {number} {name}: the file of no table')
         need(named.count(name) == 1, 8, f'section {number} {name}: the file of two tables')
+    files = {name: records(content) for name, content in files}
+    check_rows({table['file']: table for table in [*contents, *deletes]}, files)
+    return Deposit(header, counts_in(value), contents, deletes, files)
 
 
 def check_rows(tables, files):

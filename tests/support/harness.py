@@ -1,15 +1,14 @@
 """A desk that is told what to do, line by line: the program desk_harness (crates/desk_harness says which lines there are)."""
 import subprocess
 
-from support.stage import SECONDS, Failed, difference, pieces_of
+from support.stage import Failed, Got, difference, pieces_of
 
 
 class Harness:
     """The program in the folder of a stage. It is there in a `with` statement, and has to end with status 0."""
 
     def __init__(self, stage):
-        self.child = subprocess.Popen([stage.programs['desk_harness']], cwd=stage.room.name, stdin=subprocess.PIPE, stdout=subprocess.PIPE,
-                                      stderr=subprocess.PIPE, bufsize=0)
+        self.stage, self.child = stage, stage.begin([], 'desk_harness', stdin=subprocess.PIPE)
         self.pieces, self.rest, self.told = pieces_of(self.child.stdout), b'', ''
 
     def __enter__(self):
@@ -17,15 +16,9 @@ class Harness:
 
     def __exit__(self, kind, *_):
         if kind:
-            with self.child as child:
-                child.kill()
-            return
-        try:
-            out, err = self.child.communicate(timeout=SECONDS)
-        except subprocess.TimeoutExpired:
-            raise Failed(f'desk_harness has not ended after {SECONDS} seconds') from None
-        if self.child.returncode or self.rest or out or err:
-            raise Failed(f'desk_harness ended with status {self.child.returncode}, {self.rest + out!r} and {err!r}')
+            self.child.kill()
+        elif (got := self.stage.end(self.child)) != Got(0, b'', b'') or self.rest:
+            raise Failed(f'desk_harness ended after {self.rest!r}: {got}')
 
     def tell(self, line):
         """Sends a line, for which no answer is awaited."""
@@ -46,7 +39,6 @@ class Harness:
         return answer
 
     def ask(self, line):
-        """The answer to a line."""
         self.tell(line)
         return self.answer()
 

@@ -44,7 +44,6 @@ def asked(text):
 
 
 def arrival_in(number, lines, rest):
-    """What a PUT asks for."""
     if not is_id(number):
         return 400, 'N1\n', None
     named = [(name.lower(), value.strip(b' \t')) for name, _, value in lines]

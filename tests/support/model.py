@@ -44,8 +44,6 @@ class Desk:
             self.arrive(number, body)
         self.settle()
 
-    # ---- what happens
-
     def arrive(self, number, body, is_early=False):
         """The receipt of an arrival, which is that of the first one like it. What is held then is left to `settle`."""
         digest = hashlib.sha256(body).hexdigest()
@@ -71,13 +69,10 @@ class Desk:
         more = formats.manifest(manifest)
         new = [it for it in more if it not in self.listed]
         if fault := formats.fault_among([*self.listed, *new]):
-            raise Refused(fault[0], next(at for at, it in enumerate(more, 1) if it in new and self.is_at_odds(fault[0], it)))
+            raise Refused(fault[0], next(at for at, row in enumerate(more, 1) if row in new and any(
+                (formats.fault_among([it, row]) or [0])[0] == fault[0] for it in self.listed)))
         self.listed += new
         return len(new)
-
-    def is_at_odds(self, code, row):
-        """Whether a row has this fault against one that is listed."""
-        return any((formats.fault_among([it, row]) or [0])[0] == code for it in self.listed)
 
     def settle(self):
         """Makes anew what is held, the chain and the objects."""
@@ -149,15 +144,12 @@ class Desk:
         used = self.used(base)
         return place_text(base) if used is None else self.blocker(used)
 
-    # ---- texts
-
     def gap_rows(self):
         for (watermark, kind), state, resend, blocker, awaited in self.gaps():
             told = moment_text(watermark), kind, resend, state, blocker, awaited
             yield ','.join('' if it is None else f'{it}' for it in told)
 
     def row_text(self, it):
-        """A receipt as it is told."""
         listed = ['', ''] if it.row is None else [self.listed[it.row][0], self.listed[it.row][3]]
         copy = ['again' if it.again else 'new', it.orphans] if it.verdict == 'A1' else ['', '']
         return ','.join(map(str, [it.receipt, it.number, it.verdict, it.fault, *listed, *copy]))

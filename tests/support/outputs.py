@@ -1,4 +1,4 @@
-"""Standard outputs that are full at some point."""
+"""What a child may do before it becomes a program, and standard outputs that are full at some point."""
 import fcntl, os, resource, signal, struct, tempfile, termios, time
 
 from support.stage import SECONDS, Failed, Got, pieces_of
@@ -7,22 +7,36 @@ from support.stage import SECONDS, Failed, Got, pieces_of
 MOST_BYTES = 2**26
 
 
-def limit_files():
-    signal.signal(signal.SIGXFSZ, signal.SIG_IGN)
-    resource.setrlimit(resource.RLIMIT_FSIZE, (MOST_BYTES, MOST_BYTES))
+def prepared(limits=(), ignored=(), user=None, closed=()):
+    """What gives a child limits, has it ignore signals, gives it a user, and closes streams."""
+    def prepare():
+        for what, most in limits:
+            resource.setrlimit(what, (most, most))
+        for it in ignored:
+            signal.signal(it, signal.SIG_IGN)
+        if user:
+            os.setgid(user)
+            os.setuid(user)
+        for it in closed:
+            os.close(it)
+    return prepare
+
+
+def no_longer_files(most):
+    """What lets no file grow past so many bytes."""
+    return prepared([(resource.RLIMIT_FSIZE, most)], [signal.SIGXFSZ])
 
 
 def run_narrow(stage, line, room):
     """Runs the program where standard output is a file that ends after so many bytes more."""
     with tempfile.TemporaryFile(buffering=0) as out:
         out.seek(MOST_BYTES - room)
-        got = stage.end(stage.begin(line.split(), out=out, prepare=limit_files))
+        got = stage.end(stage.begin(line.split(), out=out, prepare=no_longer_files(MOST_BYTES)))
         out.seek(MOST_BYTES - room)
         return Got(got.status, out.read(), got.err)
 
 
 def check_narrow(stage, line, room, wanted):
-    """Compares what a run gives whose standard output has room for so many bytes."""
     stage.compare(line, wanted, run_narrow(stage, line, room))
 
 
@@ -35,16 +49,12 @@ def run_held_up(stage, line, room, meanwhile, program='restore', prepare=None):
         os.write(writer, bytes(size - room))
         child = stage.begin(line.split(), program, out=writer, prepare=prepare)
         os.close(writer)
-        wait_until_full(reader, size, child)
+        # The pipe is waited for until it is full, or the child that fills it has ended.
+        latest = time.monotonic() + SECONDS
+        while struct.unpack('i', fcntl.ioctl(reader, termios.FIONREAD, bytes(4)))[0] < size and child.poll() is None:
+            if time.monotonic() > latest:
+                raise Failed('the pipe is not filled')
+            time.sleep(0.01)
         out = b'' if meanwhile() is False else b''.join(pieces_of(reader))[size - room:]
     got = stage.end(child)
     return Got(got.status, out, got.err)
-
-
-def wait_until_full(reader, size, child):
-    """Waits until a pipe is full, or the child that fills it has ended."""
-    latest = time.monotonic() + SECONDS
-    while struct.unpack('i', fcntl.ioctl(reader, termios.FIONREAD, bytes(4)))[0] < size and child.poll() is None:
-        if time.monotonic() > latest:
-            raise Failed('the pipe is not filled')
-        time.sleep(0.01)

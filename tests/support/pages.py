@@ -53,8 +53,6 @@ def escaped(text):
 
 
 class Reader(HTMLParser):
-    """Reads a page as a tree."""
-
     def __init__(self, text):
         super().__init__(convert_charrefs=True)
         self.root = Element('page')
@@ -98,12 +96,6 @@ def read_page(body):
     start = text.index('<body>')
     if text[start:] != f'{page.one("body").written()}</html>\n':
         raise Failed('the body is written in another way')
-    check_loads_nothing(page)
-    check_is_told(page)
-    return page
-
-
-def check_loads_nothing(page):
     ids = [it.attributes['id'] for it in page.all(*ELEMENTS) if 'id' in it.attributes]
     links = {it.attributes['href'] for it in page.all(*ELEMENTS) if 'href' in it.attributes}
     if len(set(ids)) != len(ids) or links - {f'#{it}' for it in ids}:
@@ -114,10 +106,7 @@ def check_loads_nothing(page):
     policy = [it.attributes['content'] for it in page.all('meta') if it.attributes.get('http-equiv') == 'Content-Security-Policy']
     if policy != ["default-src 'none'; style-src 'unsafe-inline'"]:
         raise Failed(f'policy {policy}')
-
-
-def check_is_told(page):
-    """Compares that a page can be listened to: one first heading, none left out between, headings in tables, and words for pictures."""
+    # It can be listened to: one first heading, none left out between, headings in tables, and words for pictures.
     levels = [int(it.name[1]) for it in page.all('h1', 'h2', 'h3')]
     if levels.count(1) != 1 or levels[0] != 1 or any(later > level + 1 for level, later in zip(levels, levels[1:])):
         raise Failed(f'headings {levels}')
@@ -132,6 +121,7 @@ def check_is_told(page):
     for it in page.all('svg'):
         if not (it.attributes.get('aria-hidden') == 'true' or it.attributes.get('role') == 'img' and it.attributes.get('aria-label')):
             raise Failed('a picture without words')
+    return page
 
 
 def section(page, name):
@@ -142,7 +132,6 @@ def section(page, name):
 
 
 def rows_of(table):
-    """The texts of the cells of a table's rows."""
     return [[cell.text() for cell in row.elements()] for row in table.one('tbody').all('tr')]
 
 

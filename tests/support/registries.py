@@ -4,7 +4,7 @@ import sys
 from support import TOP
 
 sys.path.append(f'{TOP}/samples')
-from registry import NUMBERS, TABLES, Registry, deposit
+from registry import NUMBERS, TABLES, Registry, csv_text, deposit
 
 # How many rows a registry of the usual numbers has.
 ROWS = 97_000

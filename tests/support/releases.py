@@ -31,7 +31,6 @@ class Release(NamedTuple):
 
 
 def numbered(bodies):
-    """Bodies with numbers in their order."""
     return [(f'{at:04}', body) for at, body in enumerate(bodies)]
 
 

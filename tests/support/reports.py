@@ -12,7 +12,6 @@ HEADINGS = {
 
 
 def report(name, rows=()):
-    """The heading of a report, and its rows."""
     return text_of([HEADINGS[name], *rows])
 
 

@@ -2,6 +2,8 @@
 import contextlib, difflib, os, select, subprocess, tempfile
 from dataclasses import dataclass
 
+from support.files import write
+
 # How long a run may take.
 SECONDS = 60
 # How many lines of a difference are shown.
@@ -104,13 +106,12 @@ class Stage:
         return os.path.join(self.room.name, path)
 
     def write(self, path, content):
-        """Writes a file, or writes it anew."""
-        with open(self.at(path), 'wb') as file:
-            file.write(content)
+        """Writes a file, or writes it anew, and its folder where there is none."""
+        write(self.at(path), content)
 
-    def begin(self, words, program='restore', out=subprocess.PIPE, err=subprocess.PIPE, prepare=None):
+    def begin(self, words, program='restore', out=subprocess.PIPE, err=subprocess.PIPE, prepare=None, stdin=subprocess.DEVNULL):
         """Starts `restore`, or another program. The child becomes the program after it has prepared itself."""
-        self.children.append(subprocess.Popen([self.programs[program], *words], cwd=self.room.name, stdin=subprocess.DEVNULL,
+        self.children.append(subprocess.Popen([self.programs[program], *words], cwd=self.room.name, stdin=stdin,
                                               stdout=out, stderr=err, bufsize=0, preexec_fn=prepare))
         return self.children[-1]
 

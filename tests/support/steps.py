@@ -56,7 +56,7 @@ def Statements(stage, path, text):
 @step
 def FirstStore(stage, path, manifest, bodies):
     """A store of version 1 that was made of a manifest and took bodies, each under its number."""
-    write_store(stage.at(path), first_rows(contents(manifest), [(number, contents(name)) for number, name in bodies]))
+    write_store(stage.at(path), first_rows(read(f'{FILES}/{manifest}'), [(number, read(f'{FILES}/{name}')) for number, name in bodies]))
 
 
 @step
@@ -97,7 +97,3 @@ def write_new(stage, path, content):
     """Writes a file that isn't there yet."""
     with open(stage.at(path), 'xb') as file:
         file.write(content)
-
-
-def contents(name):
-    return read(f'{FILES}/{name}')

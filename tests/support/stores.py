@@ -13,8 +13,6 @@ REPORTS = ('status', 'gaps', 'links', 'receipts', 'parked', 'moment')
 READINGS = [*(('report', it) for it in REPORTS), *(('export', it) for it in KINDS)]
 
 
-# ---- files
-
 def copy(old, new):
     """A store's two files under another name, in place of those that are there; without an old one they are removed alone."""
     for end in ENDS:
@@ -52,9 +50,6 @@ def readings(run, store):
     return {f'{command} {what}': run(command, '--store', store, what) for command, what in READINGS}
 
 
-# ---- in the folder of a case
-
-
 def run(stage, line, program='restore', statuses=(0,)):
     """Runs a program, which must end with one of these statuses and say nothing on standard error. Gives its standard output."""
     got = stage.end(stage.begin(line.split(), program))
@@ -69,9 +64,3 @@ def change_row(stage, store, statement, values):
         if database.execute(statement, values).rowcount != 1:
             raise Failed(f'{statement}: it is of another number of rows')
         database.commit()
-
-
-def objects_of(stage, store):
-    """The records of a store's objects, by kind and key."""
-    with opened(stage.at(store)) as database:
-        return {(KINDS[kind], key): record for kind, key, record in database.execute('SELECT kind, key, record FROM object')}

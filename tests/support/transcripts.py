@@ -32,7 +32,7 @@ from dataclasses import dataclass, field
 from support.bodies import BODIES
 from support.harness import Harness
 from support.stage import Wanted, case
-from support.steps import FILES, Bodies, Copy, FirstScript, FirstStore, Folder, Link, Manifest, Parked, Statements, Text, Zeros
+from support.steps import FILES, Bodies, Copy, FirstScript, FirstStore, Folder, Link, Manifest, Parked, Statements, Text, Zeros, step
 
 WORD = re.compile(r' *("(?:[^"\\]|\\.)*"|[^\s"]\S*)(?= |$)')
 # The programs that are run on words, and the marks below a run of them.
@@ -45,18 +45,11 @@ class Misread(Exception):
     """A line of a transcript is none of its form."""
 
 
-@dataclass(frozen=True)
-class Command:
+@step
+def Command(stage, place, program, line, words, wanted):
     """A run of a program on words, and what it must give."""
-    place: str
-    program: str
-    line: str
-    words: list
-    wanted: Wanted
-
-    def do(self, stage):
-        with case(self.place):
-            stage.check(self.line, self.wanted, self.words, self.program)
+    with case(place):
+        stage.check(line, wanted, words, program)
 
 
 @dataclass
@@ -72,17 +65,14 @@ class Exchange:
         return len(self.told) == 1 + (int(run[1]) if run else 0)
 
 
-@dataclass(frozen=True)
-class Talk:
+@step
+def Talk(stage, exchanges):
     """A run of desk_harness: what it is told, and what it must answer."""
-    exchanges: list
-
-    def do(self, stage):
-        with Harness(stage) as desk:
-            for exchange in self.exchanges:
-                line, *events = exchange.told
-                with case(exchange.place):
-                    desk.check(line, text_of(exchange.answer), *events)
+    with Harness(stage) as desk:
+        for exchange in exchanges:
+            line, *events = exchange.told
+            with case(exchange.place):
+                desk.check(line, text_of(exchange.answer), *events)
 
 
 @dataclass
@@ -91,8 +81,8 @@ class Transcript:
     steps: list = field(default_factory=list)
 
     def play(self, stage):
-        for step in self.steps:
-            step.do(stage)
+        for it in self.steps:
+            it.do(stage)
 
 
 def words_of(text):
@@ -108,7 +98,6 @@ def words_of(text):
 
 
 def plain(word):
-    """What a word means."""
     try:
         return json.loads(word) if word.startswith('"') else word
     except ValueError as error:
@@ -129,7 +118,6 @@ def count_of(word):
 
 
 def worked(name):
-    """The name of a worked body."""
     if name not in BODIES:
         raise Misread(f'there is no worked body {name}')
     return name
@@ -171,15 +159,6 @@ def step_of(line):
     raise Misread(f'this is no line of a transcript: {line}')
 
 
-def told_of(lines):
-    """What standard error must be, of the lines behind their marks."""
-    if lines == ['...']:
-        return None
-    if '...' in lines:
-        raise Misread('`! ...` stands alone')
-    return text_of(lines)
-
-
 def text_of(lines):
     return ''.join(f'{it[1:] if it.startswith(ESCAPE) else it}\n' for it in lines)
 
@@ -190,10 +169,12 @@ def wanted_of(lines):
     out = [it for it in lines if it[0] not in MARKS]
     if len(out) + sum(map(len, marked.values())) != len(lines):
         raise Misread('a mark has a space after it')
-    parts, statuses = marked['~'], marked['?']
+    parts, statuses, errors = marked['~'], marked['?'], marked['!']
     if len(parts) > 1 or len(statuses) > 1 or parts and out:
         raise Misread('a run has one status, and one part of standard output or its lines')
-    return Wanted(count_of(statuses[0]) if statuses else 0, text_of(out), told_of(marked['!']), *parts)
+    if '...' in errors and errors != ['...']:
+        raise Misread('`! ...` stands alone')
+    return Wanted(count_of(statuses[0]) if statuses else 0, text_of(out), None if '...' in errors else text_of(errors), *parts)
 
 
 def exchanges_of(below):
@@ -239,7 +220,6 @@ def blocks_of(lines):
 
 
 def read_transcripts(path):
-    """The cases of a file."""
     name, cases = os.path.basename(path), []
     with open(path, encoding='utf-8', newline='\n') as file:
         lines = [(f'{name}:{at}', it) for at, it in enumerate([*file.read().split('\n'), ''], 1) if not it.startswith('#')]
@@ -254,7 +234,7 @@ def read_transcripts(path):
                 raise Misread('it belongs to no case')
         except Misread as error:
             raise Misread(f'{place}: {error}') from None
-    idle = [it.title for it in cases if not any(isinstance(step, (Command, Talk)) for step in it.steps)]
+    idle = [it.title for it in cases if not any(isinstance(done, (Command, Talk)) for done in it.steps)]
     if idle or not cases:
         raise Misread(f'{name}: nothing is run: {", ".join(idle)}')
     return cases

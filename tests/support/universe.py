@@ -50,12 +50,6 @@ class History:
         self.files = {it.name: it.bytes for it in bodies} | {'first.csv': manifest_text(first)}
         self.early, self.events = [], []
 
-    def add_rows(self, rows):
-        """The line of an amendment that lists rows."""
-        name = f'rows{len(self.files)}.csv'
-        self.files[name] = manifest_text(rows)
-        return f'amend {name}'
-
     def shown(self):
         """The lines, and the manifests among them."""
         lines = ['create first.csv', *self.early, 'and then', *self.events]
@@ -69,9 +63,6 @@ def moment_text(half):
 
 def manifest_text(rows):
     return manifest((it.header, it.body.bytes) for it in rows)
-
-
-# ---- chance
 
 
 class Chance(random.Random):
@@ -99,15 +90,10 @@ class Chance(random.Random):
         return items[self.low_below(len(items))]
 
     def day(self):
-        """A day of the month, from 1 on."""
         return self.below(8) + 1
 
 
-# ---- bodies that are drawn
-
-
 def id_of(day, type):
-    """An id that no other place has."""
     return day * 10 + TYPES.index(type)
 
 
@@ -116,20 +102,18 @@ def draw_full(chance):
     return Header(id_of(day, 'FULL'), day, 'FULL')
 
 
-def draw_after(chance, type, before):
-    """A deposit after another one: mostly one or two days later, else on any day."""
-    later = chance.below(2) + 1
-    day = chance.day() if chance.is_one_in(12) else before.day + later
-    return Header(id_of(day, type), day, type, before.id)
-
-
 def draw_beside(chance, before):
     """A deposit after another one, another revision of it, which may have another previous id, or a Full: as it is before its resend is
     drawn, and its id anew."""
     type = ('FULL', 'INCR', 'INCR', *['DIFF'] * 5)[chance.below(8)]
     if chance.is_one_in(4):
         return before._replace(prev=NO_ID) if chance.is_one_in(6) and before.prev is not None else before
-    return draw_full(chance) if type == 'FULL' else draw_after(chance, type, before)
+    if type == 'FULL':
+        return draw_full(chance)
+    # Mostly it is one or two days later, else on any day.
+    later = chance.below(2) + 1
+    day = chance.day() if chance.is_one_in(12) else before.day + later
+    return Header(id_of(day, type), day, type, before.id)
 
 
 def draw_header(chance, drawn):
@@ -143,11 +127,6 @@ def draw_header(chance, drawn):
     return header._replace(id=id_of(header.day, header.type) + 100) if chance.is_one_in(8) else header
 
 
-def draw_lines(chance, count, keys, first):
-    """Keys, each with a number that no other row has, from this one on."""
-    return [(chance.one_of(keys), first + at) for at in range(count)]
-
-
 def rows_of(lines, keys, word):
     """The rows of some keys, of each its key and its number after a word."""
     return ''.join(f'{key},{word}{mark}\n' for key, mark in lines if key in keys)
@@ -157,8 +136,9 @@ def draw_body(chance, drawn):
     """A body, from which sometimes no deposit reads. What it counts is its index, so that no two bodies are the same."""
     index, header = len(drawn), draw_header(chance, drawn)
     deletes = [chance.one_of(KEYS) for _ in range(chance.below(3))]
-    parents = draw_lines(chance, chance.below(3) + 1, KEYS, index * 10)
-    children = draw_lines(chance, chance.below(3), DOMAINS, index * 10 + 5)
+    # Keys, each with a number that no other row has.
+    parents = [(chance.one_of(KEYS), index * 10 + at) for at in range(chance.below(3) + 1)]
+    children = [(chance.one_of(DOMAINS), index * 10 + 5 + at) for at in range(chance.below(3))]
     fault = {0: 1, 1: 5, 2: 9, 3: 10}.get(chance.below(50))
     # (The rows of U9 and of U10 have one field, and an empty key.)
     faulty = {9: 'C1\n', 10: ',r\n'}.get(fault, '')
@@ -171,37 +151,24 @@ def draw_body(chance, drawn):
     return Body(f'body{index}', header, made[:-1] if fault == 1 else made.replace(b'{"id"', b'["id"', 1) if fault == 5 else made)
 
 
-def draw_bodies(chance):
-    """The bodies that there are."""
-    bodies = []
+def drawn(seed):
+    """The chance of a seed, the bodies that there are, and the rows: those that say of each body what it is, and then some with one of their
+    values changed."""
+    chance, bodies = Chance(seed), []
     for _ in range(BODIES):
         bodies.append(draw_body(chance, bodies))
-    return bodies
-
-
-# ---- rows that are drawn
-
-
-def draw_wrong(chance, row):
-    """A row with one of its values changed."""
-    it = row.header
-    changes = ({'id': it.id + 200}, {'day': it.day + 1}, {'type': 'FULL'}, {'resend': it.resend + 1}, {'prev': NO_ID}, {'prev': it.id - 10})
-    return Row(it._replace(**changes[chance.below(6)]), row.body)
-
-
-def draw_rows(chance, bodies):
-    """The rows that there are: those that say of each body what it is, and then some others."""
-    rows = [Row(it.header, it) for it in bodies]
-    return rows + [draw_wrong(chance, chance.one_of(rows)) for _ in range(WRONG_ROWS)]
+    rows, wrong = [Row(it.header, it) for it in bodies], []
+    for _ in range(WRONG_ROWS):
+        it, body = chance.one_of(rows)
+        changes = ({'id': it.id + 200}, {'day': it.day + 1}, {'type': 'FULL'}, {'resend': it.resend + 1}, {'prev': NO_ID}, {'prev': it.id - 10})
+        wrong.append(Row(it._replace(**changes[chance.below(6)]), body))
+    return chance, bodies, rows + wrong
 
 
 def draw_first(chance, rows):
     """The row that is listed first: that of a Full, since a row that contradicts itself makes no store."""
     row = rows[chance.low_below(BODIES)]
     return row if row.header.type == 'FULL' else rows[0]
-
-
-# ---- events that are drawn
 
 
 def draw_arrival(chance, bodies, events):
@@ -225,15 +192,15 @@ def draw_event(chance, bodies, rows, history, closes):
     if case <= 2:
         return f'as-of {moment_text(None if chance.is_one_in(2) else chance.below(20) + 4)}'
     if case <= 5:
-        return history.add_rows(dict.fromkeys(chance.low_one_of(rows) for _ in range(chance.below(7) + 1)))
+        name = f'rows{len(history.files)}.csv'
+        history.files[name] = manifest_text(dict.fromkeys(chance.low_one_of(rows) for _ in range(chance.below(7) + 1)))
+        return f'amend {name}'
     return draw_arrival(chance, bodies, history.early + history.events)
 
 
 def draw_history(seed, count, closes):
     """The history of a seed, with so many events, and whether the store is closed now and then."""
-    chance = Chance(seed)
-    bodies = draw_bodies(chance)
-    rows = draw_rows(chance, bodies)
+    chance, bodies, rows = drawn(seed)
     history = History(bodies, [draw_first(chance, rows)])
     for _ in range(count):
         history.events.append(draw_event(chance, bodies, rows, history, closes))

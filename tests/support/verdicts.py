@@ -1,21 +1,20 @@
 """What a desk says of bodies that its manifest lists: those that are refused, in one store, and those that are held, each in a new one."""
-import contextlib
-
 from support.bundles import HEADING, row_of
+from support.clients import new_desk
 from support.harness import Harness
 from support.stage import case, compare, text_of
 
 # What a row says of a Full, without the digest of its body.
 F1 = 'F1,FULL,2024-03-03T00:00:00Z,,0'
+# How a desk tells objects.
+R1, C1 = 'registrar R1: registrar id=R1', 'contact C1: contact id=C1 clID=R1'
+DOMAIN_A, DOMAIN_B = (f'domain {it}.example: domain name={it}.example clID=R1 registrant=C1' for it in 'ab')
 
 
-@contextlib.contextmanager
 def desk_over(stage, rows):
     """A desk over a new store of a manifest with these lines, in a `with` statement."""
     stage.write('listed.csv', (HEADING + ''.join(rows)).encode())
-    with Harness(stage) as desk:
-        desk.check('create listed.csv', 'created\n')
-        yield desk
+    return new_desk(stage)
 
 
 def reply_to(stage, desk, number, body):

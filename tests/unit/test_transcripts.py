@@ -9,7 +9,6 @@ HARNESS = '$ desk_harness'
 
 
 def read(text):
-    """The cases of a transcript with this text."""
     with tempfile.NamedTemporaryFile('w', suffix='.txt') as file:
         file.write(text)
         file.flush()

@@ -1,10 +1,13 @@
-"""What arrives at a desk: the deposits of a seeded release, damaged, each with what the row that lists it says, and the
-numbers of arrivals; and what a desk has to print of a folder, by the definitions."""
+"""What arrives at a desk: the deposits of a seeded release, damaged, each with what the row that lists it says, and the numbers of arrivals; and
+what `take` has to make of folders of them, by the definitions."""
+import shutil
 from typing import NamedTuple
 
 from fuzzing import bundles
+from fuzzing.damage import flipped
 from support import registries
-from support.bundles import Header
+from support.bundles import Header, manifest
+from support.model import Desk
 from support.reports import report
 
 
@@ -28,7 +31,8 @@ def mutated_release(rng, many):
         else:
             told = dict(id=name, type=kind, watermark=watermark, **({'prevId': prev} if prev else {}))
             body = registries.delta(world, told, 6)
-        made = Listed(*bundles.bundle(rng, body), Header(name, kind, watermark, prev))
+        what, change = rng.choice(bundles.CHANGES)
+        made = Listed(what, change(rng, body), Header(name, kind, watermark, prev))
         if made.body not in seen:
             seen.add(made.body)
             rows.append(made)
@@ -36,7 +40,6 @@ def mutated_release(rng, many):
 
 
 def names(rng, many):
-    """So many numbers of arrivals."""
     found = set()
     while len(found) < many:
         found.add(''.join(rng.choices('ABCXYZabcxyz019._-', k=rng.choice((1, 4, 8, 64)))))
@@ -48,3 +51,42 @@ def expected_take(files, desk):
     """Status, output and refusals of a folder that the model of a desk takes."""
     receipts = [desk.arrive(name, files[name]) for name in sorted(files)]
     return int(any(it.verdict != 'A1' for it in receipts)), report('receipts', map(desk.row_text, receipts)).encode(), b''
+
+
+def folder_of(rng, rows):
+    """The files of a folder: listed bundles, some twice, and others that are not listed."""
+    bodies = [row.body for row in rows] + [rng.choice(rows).body for _ in range(3)]
+    bodies += [rng.randbytes(rng.randint(0, 400)) for _ in range(4)] + [flipped(rng, rows[0].body)]
+    rng.shuffle(bodies)
+    return dict(zip(names(rng, len(bodies)), bodies))
+
+
+def blame(trial, batch, rows, files, expected, got, **kept):
+    """Says which bundles of a folder are wrong: those of other lines, or the one at which the program stopped."""
+    lines, found = expected[1].splitlines(), [*got[1].splitlines(), f'status {got[0]}'.encode()]
+    for want, is_line in [(want, is_line) for want, is_line in zip(lines, found) if want != is_line] or [(expected[1], got)]:
+        body = files.get(want.decode().split(',')[1], b'')
+        mutation = next((row.mutation for row in rows if row.body == body), 'not listed')
+        how = 'restore init --store s --manifest manifest.csv; restore take --store s FOLDER_OF_bundle'
+        trial.wrong(f'bundle ({mutation}) of folder {batch}: {how}', want, is_line, bundle=body, **kept)
+
+
+def over_bundles(trial, batch, rng, many):
+    rows = mutated_release(rng, many)
+    files, listed = folder_of(rng, rows), manifest((row.header, row.body) for row in rows)
+    store, folder, made = trial.set_up(f'store-{batch}', listed, files.items())
+    desk = Desk(listed)
+    expected = expected_take(files, desk)
+    trial.expect(f'init of folder {batch}', (0, f'listed {many}\n'.encode(), b''), made)
+    got = trial.run('take', '--store', store, folder)
+    if got != expected:
+        blame(trial, batch, rows, files, expected, got, **{'manifest.csv': listed})
+    trial.check_store(f'folder {batch}', store)
+    before = trial.texts(store)
+    trial.expect(f'folder {batch} taken again', expected, trial.run('take', '--store', store, folder))
+    trial.expect(f'folder {batch}: the reports after that', before, trial.texts(store))
+    for name, told in (('receipts', desk.receipt_rows()), ('parked', desk.parked_rows())):
+        trial.expect(f'{name} of folder {batch}', (0, report(name, told).encode(), b''), trial.run('report', '--store', store, name))
+    trial.counts.update({it.row: it.verdict for it in desk.receipts.values() if it.row is not None}.values())
+    trial.counts['inputs'] += many
+    shutil.rmtree(folder)

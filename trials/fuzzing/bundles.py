@@ -126,9 +126,3 @@ def other_rows(random, body):
 
 CHANGES = [('unchanged', lambda _, body: body)] + [(it.__name__, it) for it in (
     damaged, other_value, other_value, other_value, other_text, other_sections, other_length, other_ends, other_rows, other_rows)]
-
-
-def bundle(random, body):
-    """A mutated bundle: the name of its mutation, and its bytes."""
-    what, change = random.choice(CHANGES)
-    return what, change(random, body)

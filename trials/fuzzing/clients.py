@@ -3,13 +3,12 @@
 The desk grants a client 10 seconds, and one more for each 65,536 bytes that came or went, and reads for 10 seconds what comes
 after the response. So the good client has to get its whole response within that time, and a margin for the machine; the desk
 has to tell each client that it gave up, and to end by itself with its store as it was."""
-import concurrent.futures, itertools, os, socket, threading, time
+import concurrent.futures, itertools, socket, threading, time
 from dataclasses import dataclass
 from typing import Iterable
 
 from fuzzing.damage import table_of
 from support.bundles import manifest
-from support.files import write
 from support.messages import response
 from support.sockets import HOST, received
 from support.stores import copy
@@ -117,10 +116,7 @@ def over_one(trial, base, what, kind, expected):
 def over_clients(trial):
     """A client of each kind on a desk of its own, all side by side, and a good one after it."""
     body = table_of(b''.join(b'%059d\n' % key for key in range(60_000)))
-    store, folder = trial.at('held'), trial.at('held-folder')
-    write(store + '.csv', manifest([('L,FULL,2024-04-01T00:00:00Z,,', body)]))
-    write(os.path.join(folder, 'n1'), body)
-    trial.run('init', '--store', store, '--manifest', store + '.csv')
+    store, folder, _ = trial.set_up('held', manifest([('L,FULL,2024-04-01T00:00:00Z,,', body)]), [('n1', body)])
     trial.run('take', '--store', store, folder)
     told = trial.texts(store)
     expected = response(200, told['/gaps'], 'text/csv')

@@ -12,39 +12,31 @@ def flipped(random, text):
     return bytes(out)
 
 
-def overwritten(random, text):
-    at, size = random.randrange(len(text)), random.randint(1, 16)
-    return text[:at] + random.randbytes(size) + text[at + size:]
-
-
-def put_in(random, text):
-    at = random.randrange(len(text) + 1)
-    piece = random.choice((random.randbytes(random.randint(1, 9)), b'\n', b'\r\n', b',', b'"', b'""', b'\0', b'\xef\xbb\xbf',
-                           b' ', b'end\n'))
-    return text[:at] + piece + text[at:]
-
-
-def cut_out(random, text):
+def damaged_once(random, text):
+    """Bytes that are overwritten, put in, cut out or put in twice, or bits that are flipped."""
+    kind = random.randrange(6)
+    if kind < 2:
+        return flipped(random, text)
+    if kind == 3:
+        at = random.randrange(len(text) + 1)
+        piece = random.choice((random.randbytes(random.randint(1, 9)), b'\n', b'\r\n', b',', b'"', b'""', b'\0', b'\xef\xbb\xbf',
+                               b' ', b'end\n'))
+        return text[:at] + piece + text[at:]
     at = random.randrange(len(text))
-    return text[:at] + text[at + random.choice((1, 1, random.randint(1, 200))):]
-
-
-def twice(random, text):
-    at, to = random.randrange(len(text)), random.randrange(len(text) + 1)
-    piece = text[at:at + random.choice((1, random.randint(1, 400)))]
-    return text[:to] + piece + text[to:]
-
-
-BYTES = (flipped, flipped, overwritten, put_in, cut_out, twice)
+    if kind == 2:
+        size = random.randint(1, 16)
+        return text[:at] + random.randbytes(size) + text[at + size:]
+    if kind == 4:
+        return text[:at] + text[at + random.choice((1, 1, random.randint(1, 200))):]
+    to = random.randrange(len(text) + 1)
+    return text[:to] + text[at:at + random.choice((1, random.randint(1, 400)))] + text[to:]
 
 
 def damaged(random, text):
     for _ in range(random.choice((1, 1, 2, 4))):
-        text = random.choice(BYTES)(random, text) if text else text
+        text = damaged_once(random, text) if text else text
     return text
 
-
-# ---- bundles by their sections
 
 def opened(body):
     """The envelope of an undamaged bundle, and its other sections."""

@@ -1,12 +1,11 @@
 """A desk on a socket, what it has to answer, and the requests that it gets."""
-import os, re, socket, time
+import re, socket, time
 
 from fuzzing import requests
 from fuzzing.arrivals import expected_take, names
 from support import model
 from support.bundles import manifest
 from support.clients import replied
-from support.files import write
 from support.messages import asked, response
 from support.reports import report
 from support.sockets import HOST, breaks_off, received
@@ -16,26 +15,19 @@ PATIENCE = 60
 
 
 class Desk:
-    """A desk on a socket, and what it has to answer."""
+    """A desk on a socket, which serves so many connections beside those of its rows, and what it has to answer."""
 
-    def __init__(self, trial, batch, rng, rows):
+    def __init__(self, trial, batch, rng, rows, many):
         self.trial, self.name = trial, f'server {batch}'
-        self.store, self.twin = trial.at(f'desk-{batch}'), trial.at(f'twin-{batch}')
         listed = manifest((row.header, row.body) for row in rows)
         self.model, self.faults = model.Desk(listed), 0
         self.bodies = [row.body for row in rows] + [b'', b'abc', rng.randbytes(5000)]
         self.numbers = names(rng, 6) + ['n1']
-        write(self.store + '.csv', listed)
-        for number, row in enumerate(rows):
-            write(os.path.join(self.twin + '-folder', f'n{number}'), row.body)
-        for store in (self.store, self.twin):
-            trial.run('init', '--store', store, '--manifest', self.store + '.csv')
-        trial.run('take', '--store', self.twin, self.twin + '-folder')
-        self.texts = trial.texts(self.twin)
-
-    def open(self, many):
-        """Listens for so many connections."""
-        self.server, self.port = self.trial.serve(self.store, many)
+        self.store, *_ = trial.set_up(f'desk-{batch}', listed)
+        twin, self.folder, _ = trial.set_up(f'twin-{batch}', listed, [(f'n{number}', row.body) for number, row in enumerate(rows)])
+        trial.run('take', '--store', twin, self.folder)
+        self.texts = trial.texts(twin)
+        self.server, self.port = trial.serve(self.store, len(rows) + many)
 
     def answer(self, text):
         """The bytes that have to answer a request. An arrival is taken."""
@@ -81,7 +73,7 @@ class Desk:
         self.trial.check_store(self.name, self.store)
         told = self.trial.run('report', '--store', self.store, 'receipts')
         self.trial.expect(f'receipts of {self.name}', (0, report('receipts', self.model.receipt_rows()).encode(), b''), told)
-        again = self.trial.run('take', '--store', self.store, self.twin + '-folder')
+        again = self.trial.run('take', '--store', self.store, self.folder)
         files = {f'n{number}': body for number, body in enumerate(self.bodies[:-3])}
         self.trial.expect(f'the folder of {self.name} taken again', expected_take(files, self.model), again)
         export = self.trial.texts(self.store)['/export/domain']
@@ -111,8 +103,7 @@ def sent(port, text):
 
 def over_requests(trial, batch, rng, rows, many):
     """A desk on a socket: the bundles first, then requests of all kinds, good ones among them."""
-    desk = Desk(trial, batch, rng, rows)
-    desk.open(len(rows) + many)
+    desk = Desk(trial, batch, rng, rows, many)
     for number, row in enumerate(rows):
         desk.ask(rng, 'good', requests.put_request(rng, f'n{number}', row.body))
     for index in range(many):

@@ -1,15 +1,13 @@
 """Bundles as large as a bundle may be, or nearly: what comes of each, its time and peak memory."""
-import json, os, subprocess, sys, time
+import subprocess, sys, time
 
 from fuzzing.damage import table_of
 from support.bundles import manifest, sealed
-from support.files import write
 from support.reports import report
+from support.stores import copy
 
 
-def envelope_with(member):
-    told = dict(id='L', type='FULL', watermark='2024-04-01T00:00:00Z')
-    return json.dumps(told).encode()[:-1] + b',' + member + b'}'
+HEADER = 'L,FULL,2024-04-01T00:00:00Z,,'
 
 
 def largest():
@@ -31,7 +29,8 @@ def largest():
         'JSON, 15,000,000 spaces': (b' ' * most + b'"x":0', 'A1'),
         'JSON, 200,000 declarations that are none': (b'"contents":[' + b'{"name":"a","kind":"host"},' * 200_000 + b'0]', 'A3 U7'),
     }
-    made = {name: (sealed(envelope_with(text), []), known) for name, (text, known) in texts.items()}
+    front = b'{"id":"L","type":"FULL","watermark":"2024-04-01T00:00:00Z",'
+    made = {name: (sealed(front + text + b'}', []), known) for name, (text, known) in texts.items()}
     made['CSV, one record of 15,000,000 fields'] = table_of(b',' * most, 2), 'A3 U9'
     made['CSV, 7,500,000 records'] = table_of(b'a\n' * (most // 2)), 'A3 U11'
     made['CSV, 15,000,000 line ends'] = table_of(b'\n' * most), 'A1'
@@ -51,31 +50,22 @@ print(usage.ru_maxrss, file=sys.stderr)
 sys.exit(os.waitstatus_to_exitcode(status) & 0xff)"""
 
 
-def over_large(trial, name, body, known):
-    """Takes one large bundle, and prints its time and peak memory."""
-    store, folder = trial.at('large'), trial.at('large-folder')
-    for path in (store, store + '-wal'):
-        if os.path.exists(path):
-            os.remove(path)
-    listed = manifest([('L,FULL,2024-04-01T00:00:00Z,,', body)])
-    write(store + '.csv', listed)
-    write(os.path.join(folder, 'n1'), body)
-    trial.run('init', '--store', store, '--manifest', store + '.csv')
-    begun = time.perf_counter()
-    taken = subprocess.run([sys.executable, '-c', MEASURE, trial.program, 'take', '--store', store, folder], capture_output=True,
-                           preexec_fn=trial.bounded)
-    took = time.perf_counter() - begun
-    *refusals, peak = taken.stderr.decode().splitlines()
-    verdict, _, fault = known.partition(' ')
-    reply = f'1,n1,{verdict},{fault},L,0,' + ('new,0' if verdict == 'A1' else ',')
-    expected, got = (int(verdict != 'A1'), report('receipts', [reply]), []), (taken.returncode, taken.stdout.decode(), refusals)
-    if got != expected:
-        trial.wrong(name, expected, got, bundle=body, **{'manifest.csv': listed})
-    trial.check_store(name, store)
-    print(f'{name:42} {known:7} {took:6.2f} s {int(peak) / 1024:6.0f} MB', flush=True)
-    trial.counts['inputs'] += 1
-
-
 def over_largest(trial):
+    """Takes each of these bundles, and prints its time and peak memory."""
     for name, (body, known) in largest().items():
-        over_large(trial, name, body, known)
+        copy(None, trial.at('large'))
+        listed = manifest([(HEADER, body)])
+        store, folder, _ = trial.set_up('large', listed, [('n1', body)])
+        begun = time.perf_counter()
+        taken = subprocess.run([sys.executable, '-c', MEASURE, trial.program, 'take', '--store', store, folder], capture_output=True,
+                               preexec_fn=trial.bounded)
+        took = time.perf_counter() - begun
+        *refusals, peak = taken.stderr.decode().splitlines()
+        verdict, _, fault = known.partition(' ')
+        reply = f'1,n1,{verdict},{fault},L,0,' + ('new,0' if verdict == 'A1' else ',')
+        expected, got = (int(verdict != 'A1'), report('receipts', [reply]), []), (taken.returncode, taken.stdout.decode(), refusals)
+        if got != expected:
+            trial.wrong(name, expected, got, bundle=body, **{'manifest.csv': listed})
+        trial.check_store(name, store)
+        print(f'{name:42} {known:7} {took:6.2f} s {int(peak) / 1024:6.0f} MB', flush=True)
+        trial.counts['inputs'] += 1

@@ -3,7 +3,6 @@ import os
 
 from fuzzing.damage import damaged
 from support import bundles, formats
-from support.files import write
 from support.stores import copy
 
 HEADING = bundles.HEADING.encode()
@@ -65,15 +64,13 @@ CHANGES = [
 
 
 def over_manifest(trial, rng, number):
-    """Gives a mutated manifest to `init`."""
     what, change = ('too_much', too_much) if rng.random() < 0.02 else rng.choice(CHANGES)
-    text, store = change(rng, good_rows(rng, rng.randint(1, 12))), trial.at(f'made-{number}')
-    write(store + '.csv', text)
+    text = change(rng, good_rows(rng, rng.randint(1, 12)))
     try:
         expected = 0, f'listed {len(formats.manifest(text))}\n'.encode(), b''
     except formats.Refused as refused:
         expected = 1, b'', f'M{refused.code} row {refused.where}\n'.encode()
-    got = trial.run('init', '--store', store, '--manifest', store + '.csv')
+    store, _, got = trial.set_up(f'made-{number}', text)
     what = f'manifest ({what}): restore init --store s --manifest manifest.csv'
     trial.expect(what, (expected, expected[0] == 0), (got, os.path.exists(store)), **{'manifest.csv': text})
     if os.path.exists(store):

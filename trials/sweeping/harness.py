@@ -59,7 +59,6 @@ def over_harness(sweep, program):
 
 
 def answers(out):
-    """The whole answers of the harness."""
     return re.split(r'^\.\n', out, flags=re.M)[:-1]
 
 

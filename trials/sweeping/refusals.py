@@ -3,10 +3,12 @@
 Refusals are judged side by side, in processes of their own; what they find wrong comes back to the one that prints."""
 import contextlib, hashlib, multiprocessing, os, subprocess, tempfile, threading
 
+from support.files import read
 from support.stores import contents, copy
 
 HERE = os.path.dirname(os.path.abspath(__file__))
-LIMIT = 400
+# Of many calls the first ones are refused, and at most so many beyond, evenly.
+LIMIT, BEYOND = 400, 200
 
 
 class Sweep:
@@ -46,18 +48,9 @@ class Sweep:
         self.port = self.port + 1 if self.port < 30_000 else 10_000 + os.getpid() % 10_000
         return self.port
 
-    def count_of(self, tell):
-        """How many calls there are to refuse."""
-        path = self.own()
-        tell(path)
-        with open(path) as file:
-            count = int(file.read())
-        os.remove(path)
-        return count
-
     def numbers(self, calls, is_whole):
         """Those of so many calls that are refused, each in turn."""
-        step = 1 if is_whole else self.given.every or max(1, -(-(calls - LIMIT) // max(1, self.given.beyond)))
+        step = 1 if is_whole else max(1, -(-(calls - LIMIT) // BEYOND))
         numbers = [*range(1, min(calls, LIMIT) + 1), *range(LIMIT + step, calls + 1, step)]
         if self.given.some:
             numbers = numbers[::max(1, -(-len(numbers) // self.given.some))]
@@ -68,7 +61,10 @@ class Sweep:
         if self.given.only not in name:
             return
         self.parts += 1
-        calls = self.count_of(tell)
+        path = self.own()
+        tell(path)
+        calls = int(read(path))
+        os.remove(path)
         numbers = self.numbers(calls, is_whole)
         # (The processes that judge are forked here, and have the function from then on.)
         global judging
@@ -91,7 +87,14 @@ class Sweep:
     def refuse_over(self, name, fault, before, play, play_again, is_right, is_whole):
         """Refuses calls while something is played on a copy of a store: calls of the database's files at the fault S1, else growths of memory.
         `is_right` judges what comes of it, and of what is played on the copy then."""
-        once_more, disk = Again(play_again), fault == 'S1'
+        known, disk = {}, fault == 'S1'
+
+        def once_more(store):
+            # What comes of the same again goes by the contents of the store's files, and is run once for each.
+            key = hashlib.sha256(repr(contents(store)).encode()).digest()
+            if key not in known:
+                known[key] = play_again(store)
+            return known[key]
 
         def judge(at):
             with self.copied(before) as store:
@@ -118,16 +121,3 @@ def ended_in(seconds, ran):
         yield
     finally:
         timer.cancel()
-
-
-class Again:
-    """What comes of the same again, undisturbed. It goes by the contents of the store's files, and is run once for each."""
-
-    def __init__(self, play):
-        self.play, self.known = play, {}
-
-    def __call__(self, store):
-        key = hashlib.sha256(repr(contents(store)).encode()).digest()
-        if key not in self.known:
-            self.known[key] = self.play(store)
-        return self.known[key]

@@ -60,9 +60,3 @@ def over_routes(sweep, release):
     over_serve(sweep, release, 'PUT /arrivals', put(first, read(os.path.join(release.deposits, first))), release.fresh)
     for path in (*(f'/{it}' for it in REPORTS), *(f'/export/{it}' for it in KINDS)):
         over_serve(sweep, release, f'GET {path}', get(path), release.taken)
-
-
-def over_parked(sweep, parts):
-    """A desk in which bodies wait for their rows is asked for them, and one more comes."""
-    over_serve(sweep, parts, 'GET /parked', get('/parked'), parts.taken)
-    over_serve(sweep, parts, 'PUT of a body without a row', put('n', b'abc'), parts.taken)
