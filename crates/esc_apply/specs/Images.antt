@@ -1,16 +1,6 @@
 -- A registry that holds a chain of deposits.
-use Rattle.std.specs.Prelude.{
-  ℕ,
-  zero,
-  suc,
-  if◌then◌else◌,
-  List,
-  take,
-  slice_get,
-  Option,
-  Some,
-  None,
-}
+use Rattle.std.specs.Prelude.{ℕ, zero, suc, if◌then◌else◌, List, take, slice_get, Option, Some}
+use Rattle.std.specs.Prelude.{None}
 use Rattle.esc_tables.specs.DepositValue.{DepositValue}
 use Rattle.esc_apply.specs.Tables.{mentions, tables}
 use Rattle.esc_apply.specs.Registry.{State, Befores}

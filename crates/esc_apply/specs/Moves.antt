@@ -1,19 +1,6 @@
 -- What a move from one chain to another costs.
-use Rattle.std.specs.Prelude.{
-  ℕ,
-  ◌+◌,
-  ◌-◌,
-  ◌&&◌,
-  ◌==◌,
-  nat_lt,
-  Bool,
-  if◌then◌else◌,
-  List,
-  [],
-  length,
-  drop,
-  sum_by,
-}
+use Rattle.std.specs.Prelude.{ℕ, ◌+◌, ◌-◌, ◌&&◌, ◌==◌, nat_lt, Bool, if◌then◌else◌, List, []}
+use Rattle.std.specs.Prelude.{length, drop, sum_by}
 use Rattle.esc_tables.specs.DepositValue.{DepositValue}
 use Rattle.esc_apply.specs.declared.front.Step.{Step}
 use Rattle.esc_apply.specs.declared.moves.Work.{Work}

@@ -1,25 +1,7 @@
 //! Applying deposits.
 
-ghost use Rattle.std.specs.Prelude.{
-  ◌≡◌,
-  ◌+◌,
-  ◌<◌,
-  ◌^◌,
-  ◌&&◌,
-  ◌++◌,
-  ◌∷◌,
-  [],
-  not,
-  is_some,
-  None,
-  List,
-  length,
-  map,
-  sum_by,
-  IfOk,
-  IfErr,
-  OnOk,
-};
+ghost use Rattle.std.specs.Prelude.{◌≡◌, ◌+◌, ◌<◌, ◌^◌, ◌&&◌, ◌++◌, ◌∷◌, [], not, is_some, None};
+ghost use Rattle.std.specs.Prelude.{List, length, map, sum_by, IfOk, IfErr, OnOk};
 ghost use Rattle.std.specs.List.{list_any};
 ghost use Rattle.std.specs.Map.{lookup};
 ghost use Rattle.std.specs.BTreeSet as sorted;

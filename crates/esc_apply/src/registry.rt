@@ -1,29 +1,10 @@
 //! Registries of objects.
 
-ghost use Rattle.std.specs.Prelude.{
-  ◌≡◌,
-  ℕ,
-  ◌+◌,
-  ◌<◌,
-  ◌^◌,
-  length,
-  map,
-  Some,
-  None,
-  IfOk,
-  IfErr,
-  OnOk,
-};
+ghost use Rattle.std.specs.Prelude.{◌≡◌, ℕ, ◌+◌, ◌<◌, ◌^◌, length, map, Some, None, IfOk, IfErr};
+ghost use Rattle.std.specs.Prelude.{OnOk};
 ghost use Rattle.std.specs.Option.{option_copied};
-ghost use Rattle.esc_apply.specs.Registry.{
-  State,
-  empty,
-  written,
-  noted,
-  taken,
-  saturated,
-  IsEntriesOf,
-};
+ghost use Rattle.esc_apply.specs.Registry.{State, empty, written, noted, taken, saturated};
+ghost use Rattle.esc_apply.specs.Registry.{IsEntriesOf};
 ghost use Rattle.esc_apply.specs.Changes.{with_object, changed_by, CanBePut};
 ghost use Rattle.esc_bundle.specs.declared.fault.NoMemory.{NoMemory};
 

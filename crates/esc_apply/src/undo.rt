@@ -1,20 +1,7 @@
 //! Taking steps back.
 
-ghost use Rattle.std.specs.Prelude.{
-  ◌≡◌,
-  ◌+◌,
-  ◌≤◌,
-  ◌++◌,
-  ◌∷◌,
-  [],
-  List,
-  length,
-  take,
-  drop,
-  sum_by,
-  IfOk,
-  IfErr,
-};
+ghost use Rattle.std.specs.Prelude.{◌≡◌, ◌+◌, ◌≤◌, ◌++◌, ◌∷◌, [], List, length, take, drop, sum_by};
+ghost use Rattle.std.specs.Prelude.{IfOk, IfErr};
 ghost use Rattle.esc_tables.specs.DepositValue.{DepositValue};
 ghost use Rattle.esc_apply.specs.Tables.{mention_count};
 ghost use Rattle.esc_apply.specs.Registry.{State, restored, saturated, HasSize};

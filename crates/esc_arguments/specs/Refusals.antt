@@ -1,19 +1,6 @@
 -- What a word for a moment and the text of a manifest are read as, and what they are refused for.
-use Rattle.std.specs.Prelude.{
-  ◌≡◌,
-  ℕ,
-  ℤ,
-  List,
-  Option,
-  Some,
-  None,
-  option_map,
-  Err,
-  String,
-  string_bytes,
-  codes,
-  if◌then◌else◌,
-}
+use Rattle.std.specs.Prelude.{◌≡◌, ℕ, ℤ, List, Option, Some, None, option_map, Err, String}
+use Rattle.std.specs.Prelude.{string_bytes, codes, if◌then◌else◌}
 use Rattle.std.specs.Str.{bytes_eq}
 use Rattle.esc_envelope.specs.Watermark.{watermark_of}
 use Rattle.esc_manifest.specs.Manifest.{manifest_of}

@@ -1,50 +1,12 @@
 -- What a text is refused for, read from the front.
-use Rattle.std.specs.Prelude.{
-  ◌≡◌,
-  ◌≢◌,
-  ◌⊎◌,
-  ◌<◌,
-  ◌≤◌,
-  ◌+◌,
-  ℕ,
-  List,
-  [],
-  ◌∷◌,
-  ◌++◌,
-  length,
-  take,
-  drop,
-  ◌==◌,
-  ◌&&◌,
-  ◌||◌,
-  not,
-  nat_lt,
-  nat_le,
-  slice_index,
-  nat_eq,
-  if◌then◌else◌,
-  Option,
-  Some,
-  None,
-  option_map,
-  Result,
-  Ok,
-  Err,
-}
+use Rattle.std.specs.Prelude.{◌≡◌, ◌≢◌, ◌⊎◌, ◌<◌, ◌≤◌, ◌+◌, ℕ, List, [], ◌∷◌, ◌++◌, length, take}
+use Rattle.std.specs.Prelude.{drop, ◌==◌, ◌&&◌, ◌||◌, not, nat_lt, nat_le, slice_index, nat_eq}
+use Rattle.std.specs.Prelude.{if◌then◌else◌, Option, Some, None, option_map, Result, Ok, Err}
 use Rattle.std.specs.List.{list_any, starts_with}
 use Rattle.std.specs.Str.{bytes_eq}
 use Rattle.std.specs.Str.Parse.{digits_value}
-use Rattle.esc_bundle.specs.Bundle.{
-  Named,
-  limit,
-  first_line,
-  last_line,
-  envelope_name,
-  is_name,
-  is_length,
-  AreSections,
-  beginning_text,
-}
+use Rattle.esc_bundle.specs.Bundle.{Named, limit, first_line, last_line, envelope_name, is_name}
+use Rattle.esc_bundle.specs.Bundle.{is_length, AreSections, beginning_text}
 use Rattle.esc_bundle.specs.Tests.{◌>>=◌, check, or_fault}
 
 -- the bytes before and after the first c, if there is one

@@ -1,19 +1,5 @@
 -- Laws of steps: what each step gave, if all of them gave a value.
-use Rattle.std.proofs.Common.{
-  ◌≡◌,
-  ◌⊎◌,
-  inl,
-  inr,
-  ℕ,
-  Bool,
-  true,
-  false,
-  Result,
-  Ok,
-  Err,
-  refl,
-  ap,
-}
+use Rattle.std.proofs.Common.{◌≡◌, ◌⊎◌, inl, inr, ℕ, Bool, true, false, Result, Ok, Err, refl, ap}
 use Rattle.std.specs.Result.{is_ok}
 use Rattle.std.proofs.lemmas.Bool.{false≢true}
 use Rattle.esc_bundle.specs.Tests.{◌>>=◌, check}

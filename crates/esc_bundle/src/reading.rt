@@ -1,56 +1,17 @@
 //! From bytes to sections.
 
-ghost use Rattle.std.specs.Prelude.{
-  ◌≡◌,
-  ◌≢◌,
-  ◌<◌,
-  ◌≤◌,
-  ◌++◌,
-  List,
-  [],
-  ℕ,
-  length,
-  option_map,
-  IfOk,
-  IfErr,
-  MatchResult,
-  IsErrAnd,
-  Ok,
-  Err,
-  true,
-  Some,
-  None,
-  ◌==◌,
-  ◌||◌,
-  ◌⊎◌,
-  not,
-};
+ghost use Rattle.std.specs.Prelude.{◌≡◌, ◌≢◌, ◌<◌, ◌≤◌, ◌++◌, List, [], ℕ, length, option_map};
+ghost use Rattle.std.specs.Prelude.{IfOk, IfErr, MatchResult, IsErrAnd, Ok, Err, true, Some, None};
+ghost use Rattle.std.specs.Prelude.{◌==◌, ◌||◌, ◌⊎◌, not};
 ghost use Rattle.std.specs.List.{list_all, list_any, position};
 ghost use Rattle.std.specs.Char.{is_ascii_digit};
 ghost use Rattle.std.specs.Str.{bytes_eq};
 ghost use Rattle.std.specs.Str.Parse.{digits_value};
-ghost use Rattle.esc_bundle.specs.Bundle.{
-  Named,
-  view,
-  views,
-  limit,
-  first_line,
-  envelope_name,
-  is_name_byte,
-  is_name,
-  is_length,
-  IsBundle,
-};
+ghost use Rattle.esc_bundle.specs.Bundle.{Named, view, views, limit, first_line, envelope_name};
+ghost use Rattle.esc_bundle.specs.Bundle.{is_name_byte, is_name, is_length, IsBundle};
 ghost use Rattle.esc_bundle.specs.Tests.{Gives, GivesOrNoMemory};
-ghost use Rattle.esc_bundle.specs.Reading.{
-  IsFault,
-  parted,
-  stands_at,
-  length_at,
-  section_at,
-  end_at,
-  next_at,
-};
+ghost use Rattle.esc_bundle.specs.Reading.{IsFault, parted, stands_at, length_at, section_at};
+ghost use Rattle.esc_bundle.specs.Reading.{end_at, next_at};
 ghost use Rattle.esc_bundle.specs.Frame.{frame_after, frame};
 
 use crate::fault::Fault;

@@ -1,22 +1,7 @@
 //! From sections to bytes.
 
-ghost use Rattle.std.specs.Prelude.{
-  ◌≡◌,
-  ◌++◌,
-  [],
-  ℕ,
-  List,
-  length,
-  Ok,
-  Err,
-  OnOk,
-  IfOk,
-  IfErr,
-  MatchResult,
-  IsErrAnd,
-  ◌⊎◌,
-  map,
-};
+ghost use Rattle.std.specs.Prelude.{◌≡◌, ◌++◌, [], ℕ, List, length, Ok, Err, OnOk, IfOk, IfErr};
+ghost use Rattle.std.specs.Prelude.{MatchResult, IsErrAnd, ◌⊎◌, map};
 ghost use Rattle.esc_bundle.specs.Bundle.{view, views, section_text, bundle_text, IsBundle};
 ghost use Rattle.esc_bundle.specs.Tests.{GivesOrNoMemory};
 ghost use Rattle.esc_bundle.specs.Writing.{named, in_order, within_limit, bundle_of, IsUnwritten};

@@ -6,15 +6,8 @@ ghost use Rattle.std.specs.Ordering.{nat_cmp};
 ghost use Rattle.esc_chain.specs.Chain.{InRange};
 ghost use Rattle.esc_chain.specs.Walk.{AreBases};
 ghost use Rattle.esc_chain.specs.Gap.{AreGapLines, AreGapLinesAt};
-ghost use Rattle.esc_chain.specs.Stops.{
-  AreWays,
-  IsRowIn,
-  HasText,
-  line_by,
-  state_by,
-  blocker_by,
-  blocker_of,
-};
+ghost use Rattle.esc_chain.specs.Stops.{AreWays, IsRowIn, HasText, line_by, state_by, blocker_by};
+ghost use Rattle.esc_chain.specs.Stops.{blocker_of};
 
 use crate::bases::bases;
 use crate::gap::{Blocker, GapLine, Id, ListedPlace, State};

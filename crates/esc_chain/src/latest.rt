@@ -3,15 +3,8 @@
 ghost use Rattle.std.specs.Prelude.{◌↔◌, ◌<◌, length, IfOk, IsTrue};
 ghost use Rattle.esc_manifest.specs.Accepted.{IsAccepted};
 ghost use Rattle.esc_manifest.specs.ManifestRows.{watermark_at};
-ghost use Rattle.esc_chain.specs.Chain.{
-  InRange,
-  AreHeldRows,
-  AreUntil,
-  IsBy,
-  IsHeld,
-  IsLatestChain,
-  IsLatestChainAt,
-};
+ghost use Rattle.esc_chain.specs.Chain.{InRange, AreHeldRows, AreUntil, IsBy, IsHeld};
+ghost use Rattle.esc_chain.specs.Chain.{IsLatestChain, IsLatestChainAt};
 
 use crate::Held;
 use crate::at_end::is_by;

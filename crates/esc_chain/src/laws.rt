@@ -1,11 +1,7 @@
 //! What follows from the definitions of the latest chain and of the lines on gaps alone.
 
-ghost use Rattle.esc_chain.specs.Laws.{
-  OneLatestChainAt,
-  ChainsAreOfRows,
-  LatestChainsAtAreHeldRows,
-  OneListOfLines,
-};
+ghost use Rattle.esc_chain.specs.Laws.{OneLatestChainAt, ChainsAreOfRows};
+ghost use Rattle.esc_chain.specs.Laws.{LatestChainsAtAreHeldRows, OneListOfLines};
 
 /// A manifest has one latest chain, up to a moment if there is one, which depends on nothing but
 /// the moment and which rows are held. There is nothing to run: a caller calls it for what it

@@ -1,40 +1,17 @@
 -- The fields that are verified (this project's profile of RFC 9022).
-use Rattle.std.specs.Prelude.{
-  ℕ,
-  Bool,
-  true,
-  false,
-  if◌then◌else◌,
-  List,
-  [],
-  ◌∷◌,
-  Option,
-  Some,
-  None,
-  codes,
-}
+use Rattle.std.specs.Prelude.{ℕ, Bool, true, false, if◌then◌else◌, List, [], ◌∷◌, Option, Some}
+use Rattle.std.specs.Prelude.{None, codes}
 use Rattle.std.specs.Option.{unwrap_or}
 use Rattle.std.specs.Map.{lookup}
 use Rattle.std.specs.Str.{bytes_eq}
 use Rattle.esc_envelope.specs.declared.kind.Kind.{Kind}
-use Rattle.esc_envelope.specs.declared.kind.Kind.TheVariants.{
-  Registrar,
-  Contact,
-  Host,
-  Domain,
-  Idn,
-  Nndn,
-}
+use Rattle.esc_envelope.specs.declared.kind.Kind.TheVariants.{Registrar, Contact, Host, Domain, Idn}
+use Rattle.esc_envelope.specs.declared.kind.Kind.TheVariants.{Nndn}
 use Rattle.esc_tables.specs.KeyName.{KeyName}
 use Rattle.esc_tables.specs.ObjectValue.{RowValue, ObjectValue}
 use Rattle.esc_check.specs.declared.field.LinkField.{LinkField}
-use Rattle.esc_check.specs.declared.field.LinkField.TheVariants.{
-  ClId,
-  Registrant,
-  IdnTableId,
-  ContactId,
-  HostName,
-}
+use Rattle.esc_check.specs.declared.field.LinkField.TheVariants.{ClId, Registrant, IdnTableId}
+use Rattle.esc_check.specs.declared.field.LinkField.TheVariants.{ContactId, HostName}
 
 -- the text of a field in a row: that of its first cell, and empty where there is none
 abbrev pub cell : List ℕ → RowValue → List ℕ

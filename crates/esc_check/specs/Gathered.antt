@@ -1,30 +1,8 @@
 -- What a walk over the objects gathers, with repeats, as lists. The crate's own functions return
 -- these to one another; `Findings` alone says what `verify` returns.
-use Rattle.std.specs.Prelude.{
-  ◌≡◌,
-  ℕ,
-  ℤ,
-  int_lt,
-  ◌==◌,
-  Bool,
-  true,
-  false,
-  not,
-  ◌&&◌,
-  if◌then◌else◌,
-  List,
-  [],
-  ◌∷◌,
-  ◌++◌,
-  map,
-  filter,
-  count_by,
-  Option,
-  Some,
-  None,
-  is_some,
-  codes,
-}
+use Rattle.std.specs.Prelude.{◌≡◌, ℕ, ℤ, int_lt, ◌==◌, Bool, true, false, not, ◌&&◌, if◌then◌else◌}
+use Rattle.std.specs.Prelude.{List, [], ◌∷◌, ◌++◌, map, filter, count_by, Option, Some, None}
+use Rattle.std.specs.Prelude.{is_some, codes}
 use Rattle.std.specs.List.{flat_map, list_any}
 use Rattle.std.specs.BTreeSet as sorted
 use Rattle.std.specs.Map.{lookup, keys_of}
@@ -38,26 +16,11 @@ use Rattle.esc_apply.specs.ObjectStreams.{Entry}
 use Rattle.esc_check.specs.declared.field.LinkField.{LinkField}
 use Rattle.esc_check.specs.declared.walk.Gathering.{Gathering}
 use Rattle.esc_check.specs.Export.{is_of_table}
-use Rattle.esc_check.specs.Fields.{
-  cell,
-  field_name,
-  parent_fields,
-  is_domain,
-  child_field,
-  status_table,
-  created,
-  expires,
-}
+use Rattle.esc_check.specs.Fields.{cell, field_name, parent_fields, is_domain, child_field}
+use Rattle.esc_check.specs.Fields.{status_table, created, expires}
 use Rattle.esc_check.specs.FindingValue.{FindingValue}
-use Rattle.esc_check.specs.Findings.{
-  missing_target,
-  miscounted,
-  unknown_status,
-  mixed_status,
-  late,
-  early,
-  malformed,
-}
+use Rattle.esc_check.specs.Findings.{missing_target, miscounted, unknown_status, mixed_status, late}
+use Rattle.esc_check.specs.Findings.{early, malformed}
 use Rattle.esc_check.specs.LinkValue.{LinkValue, link_to_name}
 use Rattle.esc_check.specs.Statuses.{status_words}
 

@@ -3,14 +3,8 @@
 use Rattle.std.specs.Prelude.{◌≡◌, ◌≢◌, ℕ, List, [], ◌∷◌, Some, codes}
 use Rattle.std.specs.List.{Contains}
 use Rattle.esc_envelope.specs.declared.kind.Kind.{Kind}
-use Rattle.esc_envelope.specs.declared.kind.Kind.TheVariants.{
-  Registrar,
-  Contact,
-  Host,
-  Domain,
-  Idn,
-  Nndn,
-}
+use Rattle.esc_envelope.specs.declared.kind.Kind.TheVariants.{Registrar, Contact, Host, Domain, Idn}
+use Rattle.esc_envelope.specs.declared.kind.Kind.TheVariants.{Nndn}
 use Rattle.esc_tables.specs.KeyName.{KeyName}
 use Rattle.esc_tables.specs.ObjectValue.{RowValue, ObjectValue}
 use Rattle.esc_check.specs.Fields.{cell, status_table}

@@ -3,16 +3,9 @@
 ghost use Rattle.std.specs.Prelude.{◌≡◌, ◌++◌, OnOk, IfOk, string_bytes};
 ghost use Rattle.esc_envelope.specs.Watermark.{printed};
 ghost use Rattle.esc_check.specs.Fields.{created, expires};
-ghost use Rattle.esc_check.specs.Gathered.{
-  is_known_after,
-  is_known_before,
-  is_malformed,
-  late_findings,
-  early_findings,
-  malformed_findings,
-  moment_findings,
-  form_findings,
-};
+ghost use Rattle.esc_check.specs.Gathered.{is_known_after, is_known_before, is_malformed};
+ghost use Rattle.esc_check.specs.Gathered.{late_findings, early_findings, malformed_findings};
+ghost use Rattle.esc_check.specs.Gathered.{moment_findings, form_findings};
 
 use crate::field::{created, expires};
 use crate::finding::{Finding, add};

@@ -1,33 +1,13 @@
 //! The export of all objects of a kind.
 
-ghost use Rattle.std.specs.Prelude.{
-  ◌≡◌,
-  ◌+◌,
-  [],
-  ◌<◌,
-  ◌^◌,
-  ◌∷◌,
-  ◌++◌,
-  List,
-  length,
-  count_by,
-  IfOk,
-  IfErr,
-  OnOk,
-  string_bytes,
-};
+ghost use Rattle.std.specs.Prelude.{◌≡◌, ◌+◌, [], ◌<◌, ◌^◌, ◌∷◌, ◌++◌, List, length, count_by};
+ghost use Rattle.std.specs.Prelude.{IfOk, IfErr, OnOk, string_bytes};
 ghost use Rattle.std.specs.Fmt.{decimal};
 ghost use Rattle.esc_apply.specs.ObjectStreams.{Entry};
 ghost use Rattle.esc_envelope.specs.Kinds.{kind_name, is_kind};
 ghost use Rattle.esc_csv.specs.Lines.{line_text, text_of};
-ghost use Rattle.esc_check.specs.Export.{
-  export_heading,
-  row_lines,
-  is_of_table,
-  child_lines,
-  object_lines,
-  export_text,
-};
+ghost use Rattle.esc_check.specs.Export.{export_heading, row_lines, is_of_table, child_lines};
+ghost use Rattle.esc_check.specs.Export.{object_lines, export_text};
 ghost use Rattle.esc_check.specs.ObjectReports.{IfSource, OfSource};
 
 use crate::stream::StreamFault;

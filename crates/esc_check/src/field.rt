@@ -1,17 +1,8 @@
 //! The fields that are verified.
 
 ghost use Rattle.std.specs.Prelude.{◌≡◌};
-ghost use Rattle.esc_check.specs.Fields.{
-  field_name,
-  field_target,
-  parent_fields,
-  is_domain,
-  child_field,
-  cell,
-  has_created,
-  created,
-  expires,
-};
+ghost use Rattle.esc_check.specs.Fields.{field_name, field_target, parent_fields, is_domain};
+ghost use Rattle.esc_check.specs.Fields.{child_field, cell, has_created, created, expires};
 
 use esc_envelope::Kind;
 use esc_tables::{Key, Object, Row};

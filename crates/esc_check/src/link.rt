@@ -6,14 +6,8 @@ ghost use Rattle.std.specs.BTreeSet as sorted;
 ghost use Rattle.esc_tables.specs.KeyName.{key_cmp};
 ghost use Rattle.esc_check.specs.Fields.{parent_fields};
 ghost use Rattle.esc_check.specs.Findings.{missing_target};
-ghost use Rattle.esc_check.specs.Gathered.{
-  text_links,
-  field_links,
-  child_links,
-  links_of,
-  is_present,
-  link_findings,
-};
+ghost use Rattle.esc_check.specs.Gathered.{text_links, field_links, child_links, links_of};
+ghost use Rattle.esc_check.specs.Gathered.{is_present, link_findings};
 
 use crate::field::{LinkField, cell, child_field, parent_fields};
 use crate::finding::{Finding, add};

@@ -5,15 +5,8 @@ ghost use Rattle.std.specs.List.{flat_map, list_any};
 ghost use Rattle.std.specs.Option.{option_map};
 ghost use Rattle.std.specs.Str.{bytes_eq};
 ghost use Rattle.esc_check.specs.Fields.{status_table};
-ghost use Rattle.esc_check.specs.Gathered.{
-  is_ok,
-  is_mixed,
-  is_status,
-  row_status,
-  statuses_of,
-  one_unknown,
-  status_findings,
-};
+ghost use Rattle.esc_check.specs.Gathered.{is_ok, is_mixed, is_status, row_status, statuses_of};
+ghost use Rattle.esc_check.specs.Gathered.{one_unknown, status_findings};
 ghost use Rattle.esc_check.specs.Statuses.{status_words};
 
 use crate::field::{cell, is_domain};

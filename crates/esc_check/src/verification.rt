@@ -7,13 +7,8 @@ ghost use Rattle.std.specs.Map.{keys_of};
 ghost use Rattle.esc_tables.specs.KeyName.{key_cmp};
 ghost use Rattle.esc_check.specs.FindingValue.{FindingValue, listing_cmp};
 ghost use Rattle.esc_check.specs.Findings.{IsFinding};
-ghost use Rattle.esc_check.specs.Gathered.{
-  is_present,
-  links_of,
-  link_findings,
-  own_findings,
-  object_findings,
-};
+ghost use Rattle.esc_check.specs.Gathered.{is_present, links_of, link_findings, own_findings};
+ghost use Rattle.esc_check.specs.Gathered.{object_findings};
 ghost use Rattle.esc_check.specs.TableMap.{content_of_entries};
 
 use crate::count::check_counts;

@@ -2,16 +2,8 @@
 
 ghost use Rattle.std.specs.Prelude.{◌≡◌, ◌+◌, ◌^◌, ◌-◌, ◌↔◌, min, IsNone, IfSome};
 ghost use Rattle.std.specs.Duration.{as_nanos, max_nanos};
-ghost use Rattle.esc_client.specs.TimeBudget.{
-  most_seconds,
-  pause,
-  moved,
-  waited,
-  granted,
-  next_wait,
-  IsSpent,
-  IsNewBudget,
-};
+ghost use Rattle.esc_client.specs.TimeBudget.{most_seconds, pause, moved, waited, granted};
+ghost use Rattle.esc_client.specs.TimeBudget.{next_wait, IsSpent, IsNewBudget};
 
 use std::time::Duration;
 

@@ -1,23 +1,6 @@
 -- What a run is asked to take in, as events, and which of it was taken in.
-use Rattle.std.specs.Prelude.{
-  ℕ,
-  ℤ,
-  List,
-  [],
-  ◌∷◌,
-  ◌++◌,
-  Option,
-  Some,
-  None,
-  Bool,
-  true,
-  false,
-  Result,
-  Ok,
-  Err,
-  map,
-  if◌then◌else◌,
-}
+use Rattle.std.specs.Prelude.{ℕ, ℤ, List, [], ◌∷◌, ◌++◌, Option, Some, None, Bool, true, false}
+use Rattle.std.specs.Prelude.{Result, Ok, Err, map, if◌then◌else◌}
 use Rattle.esc_manifest.specs.declared.row.MRow.{MRow}
 use Rattle.esc_manifest.specs.Manifest.{manifest_of}
 use Rattle.esc_store.specs.declared.fault.SFault.{SFault}

@@ -1,24 +1,7 @@
 -- The words of a desk's contracts: what a call says of whatever events the desk reflected before
 -- it.
-use Rattle.std.specs.Prelude.{
-  ◌≡◌,
-  ◌≢◌,
-  ℕ,
-  Bool,
-  ◌+◌,
-  ◌<◌,
-  ◌≤◌,
-  ◌++◌,
-  List,
-  [],
-  ◌∷◌,
-  length,
-  Some,
-  None,
-  Result,
-  IfOk,
-  OnErr,
-}
+use Rattle.std.specs.Prelude.{◌≡◌, ◌≢◌, ℕ, Bool, ◌+◌, ◌<◌, ◌≤◌, ◌++◌, List, [], ◌∷◌, length, Some}
+use Rattle.std.specs.Prelude.{None, Result, IfOk, OnErr}
 use Rattle.sha2.specs.Sha256.{sha256}
 use Rattle.sqlite_trees.specs.declared.store.Store.{Ghosts}
 use Rattle.esc_tables.specs.Reading.{reading}
@@ -35,14 +18,8 @@ use Rattle.esc_desk.specs.declared.desk.Desk.{Desk}
 use Rattle.esc_desk.specs.declared.event.Event.{Event}
 use Rattle.esc_desk.specs.declared.event.EventOutcome.{EventOutcome}
 use Rattle.esc_events.specs.ArrivalValue.{ArrivalValue}
-use Rattle.esc_desk.specs.Crashes.{
-  CrashLeaves,
-  LeavesTaken,
-  LeavesMade,
-  IsApartIf,
-  doubtful_by,
-  doubtful_after,
-}
+use Rattle.esc_desk.specs.Crashes.{CrashLeaves, LeavesTaken, LeavesMade, IsApartIf, doubtful_by}
+use Rattle.esc_desk.specs.Crashes.{doubtful_after}
 use Rattle.esc_events.specs.Events.{EventValue, union}
 use Rattle.esc_events.specs.Events.EventValue.{arrived}
 use Rattle.esc_events.specs.Receipts.{receipts_of, reply_to}

@@ -9,13 +9,8 @@ use Rattle.esc_store.specs.declared.store.Store.{Store}
 use Rattle.esc_store.specs.Faults.{IsS1OrS2}
 use Rattle.esc_store.specs.StoreState.{StoreState}
 use Rattle.esc_store.specs.ReplyValue.{ReceiptValue}
-use Rattle.esc_store.specs.Representation.{
-  ChangeOf,
-  IsHonest,
-  Represents,
-  StoreLeavesNoMore,
-  HasMadeBooks,
-}
+use Rattle.esc_store.specs.Representation.{ChangeOf, IsHonest, Represents, StoreLeavesNoMore}
+use Rattle.esc_store.specs.Representation.{HasMadeBooks}
 use Rattle.esc_events.specs.declared.assessment.Assessment.{Assessment}
 use Rattle.esc_events.specs.declared.assessment.Assessment.TheVariants.{Unlisted}
 use Rattle.esc_events.specs.declared.parking.Parking.TheVariants.{Crowded}

@@ -1,21 +1,6 @@
 -- What an event comes to, found by reads alone, and what is so once it was made.
-use Rattle.std.specs.Prelude.{
-  ◌≡◌,
-  ℕ,
-  true,
-  false,
-  IsSome,
-  IfSome,
-  List,
-  [],
-  ◌∷◌,
-  ◌++◌,
-  Option,
-  Some,
-  None,
-  Result,
-  IfOk,
-}
+use Rattle.std.specs.Prelude.{◌≡◌, ℕ, true, false, IsSome, IfSome, List, [], ◌∷◌, ◌++◌, Option}
+use Rattle.std.specs.Prelude.{Some, None, Result, IfOk}
 use Rattle.sha2.specs.Sha256.{sha256}
 use Rattle.sqlite_trees.specs.declared.store.Store.{Ghosts}
 use Rattle.esc_tables.specs.DepositValue.{DepositValue}
@@ -24,14 +9,8 @@ use Rattle.esc_manifest.specs.declared.row.MRow.{MRow}
 use Rattle.esc_apply.specs.declared.moves.Work.{Work}
 use Rattle.esc_store.specs.declared.fault.SFault.{SFault}
 use Rattle.esc_store.specs.declared.store.Store.{Store}
-use Rattle.esc_store.specs.StoreState.{
-  StoreState,
-  AreHeld,
-  AreHeldBy,
-  kept_chain,
-  with_body,
-  with_parked,
-}
+use Rattle.esc_store.specs.StoreState.{StoreState, AreHeld, AreHeldBy, kept_chain, with_body}
+use Rattle.esc_store.specs.StoreState.{with_parked}
 use Rattle.esc_store.specs.ReplyValue.{ReceiptValue}
 use Rattle.esc_store.specs.Representation.{StoreLeavesNoMore}
 use Rattle.esc_events.specs.declared.assessment.Assessment.{Assessment}
@@ -53,17 +32,8 @@ use Rattle.esc_desk.specs.declared.edit.Storing.{Storing}
 use Rattle.esc_desk.specs.Again.{is_missing}
 use Rattle.esc_desk.specs.Calls.{IsHonestDesk}
 use Rattle.esc_desk.specs.Crashes.{LeavesOnlyFor}
-use Rattle.esc_desk.specs.Edits.{
-  Begins,
-  IsSoundPlan,
-  HasItsDeposit,
-  IsFromChainOf,
-  IsCostOfEdit,
-  IsResult,
-  edited,
-  is_empty,
-  receipted,
-}
+use Rattle.esc_desk.specs.Edits.{Begins, IsSoundPlan, HasItsDeposit, IsFromChainOf, IsCostOfEdit}
+use Rattle.esc_desk.specs.Edits.{IsResult, edited, is_empty, receipted}
 use Rattle.esc_desk.specs.Reflection.{DeskReflects}
 
 -- what is known of a store's rows once a plan was carried out, if there is one

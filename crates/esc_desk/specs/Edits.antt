@@ -1,24 +1,6 @@
 -- What an event changes of what a store keeps, and what is kept then.
-use Rattle.std.specs.Prelude.{
-  ◌≡◌,
-  ◌≤◌,
-  ◌+◌,
-  ℕ,
-  Bool,
-  true,
-  false,
-  ◌&&◌,
-  is_none,
-  ℤ,
-  List,
-  length,
-  take,
-  Option,
-  Some,
-  None,
-  Ok,
-  IfSome,
-}
+use Rattle.std.specs.Prelude.{◌≡◌, ◌≤◌, ◌+◌, ℕ, Bool, true, false, ◌&&◌, is_none, ℤ, List, length}
+use Rattle.std.specs.Prelude.{take, Option, Some, None, Ok, IfSome}
 use Rattle.sqlite_trees.specs.declared.store.Store.{Ghosts}
 use Rattle.esc_tables.specs.DepositValue.{DepositValue}
 use Rattle.esc_tables.specs.Reading.{reading}
@@ -27,24 +9,11 @@ use Rattle.esc_apply.specs.Registry.{State}
 use Rattle.esc_apply.specs.declared.moves.Work.{Work}
 use Rattle.esc_store.specs.declared.books.TheConstants.{MOST_RECEIPTS}
 use Rattle.esc_store.specs.declared.store.Store.{Store}
-use Rattle.esc_store.specs.StoreState.{
-  StoreState,
-  with_body,
-  with_listed,
-  with_moment,
-  with_parked,
-  with_receipt,
-  with_registry,
-}
+use Rattle.esc_store.specs.StoreState.{StoreState, with_body, with_listed, with_moment, with_parked}
+use Rattle.esc_store.specs.StoreState.{with_receipt, with_registry}
 use Rattle.esc_store.specs.ReplyValue.{ReceiptValue}
-use Rattle.esc_store.specs.Representation.{
-  ChangeOf,
-  IsHonest,
-  LeavesOnly,
-  HasMadeBooks,
-  HasMadeTables,
-  Represents,
-}
+use Rattle.esc_store.specs.Representation.{ChangeOf, IsHonest, LeavesOnly, HasMadeBooks}
+use Rattle.esc_store.specs.Representation.{HasMadeTables, Represents}
 use Rattle.esc_events.specs.declared.plan.Plan.{Plan}
 use Rattle.esc_events.specs.Amended.{with_all_adopted, with_all_dropped}
 use Rattle.esc_events.specs.Plans.{IsMovedFrom, IsCostOfMove, moved_by}

@@ -2,12 +2,8 @@
 use Rattle.std.specs.Prelude.{◌≡◌, ℕ, true, false, List, [], ◌∷◌, Option, None, is_some}
 use Rattle.esc_manifest.specs.declared.row.MRow.{MRow}
 use Rattle.esc_events.specs.declared.assessment.Assessment.{Assessment}
-use Rattle.esc_events.specs.declared.assessment.Assessment.TheVariants.{
-  Unlisted,
-  Unreadable,
-  Differing,
-  Holding,
-}
+use Rattle.esc_events.specs.declared.assessment.Assessment.TheVariants.{Unlisted, Unreadable}
+use Rattle.esc_events.specs.declared.assessment.Assessment.TheVariants.{Differing, Holding}
 use Rattle.esc_events.specs.Amended.{parked_for, is_adopted, adopted_rows, dropped_rows}
 use Rattle.esc_desk.specs.declared.judging.Judgement.{Judgement}
 use Rattle.esc_desk.specs.declared.judging.Judgement.TheVariants.{Absent, Dropped, Adopted}

@@ -12,24 +12,10 @@ use Rattle.esc_store.specs.StoreState.{StoreState}
 use Rattle.esc_store.specs.ReplyValue.{ReplyValue}
 use Rattle.esc_events.specs.Apart.{WhereApart}
 use Rattle.esc_events.specs.ArrivalValue.{ArrivalValue}
-use Rattle.esc_events.specs.Events.{
-  EventValue,
-  Coming,
-  union,
-  coming,
-  last_moment,
-  manifest_then,
-}
+use Rattle.esc_events.specs.Events.{EventValue, Coming, union, coming, last_moment, manifest_then}
 use Rattle.esc_events.specs.Receipts.{distinct, receipts_after, reply_to}
-use Rattle.esc_events.specs.StateAfter.{
-  Among,
-  kept_arrivals,
-  deposits_of,
-  rows_of_arrivals,
-  held_rows,
-  held_body,
-  IsStateAfter,
-}
+use Rattle.esc_events.specs.StateAfter.{Among, kept_arrivals, deposits_of, rows_of_arrivals}
+use Rattle.esc_events.specs.StateAfter.{held_rows, held_body, IsStateAfter}
 use Rattle.esc_events.specs.LatestTables.{IsChainOf, tables_of_chain}
 
 -- a store that stands for these events has the tables of the latest chain

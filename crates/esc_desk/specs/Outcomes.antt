@@ -1,19 +1,6 @@
 -- Of what kind an outcome is, and what work a run did.
-use Rattle.std.specs.Prelude.{
-  ◌≡◌,
-  ℕ,
-  ◌+◌,
-  List,
-  [],
-  ◌∷◌,
-  ◌++◌,
-  Option,
-  Some,
-  None,
-  Result,
-  IfErr,
-  sum_by,
-}
+use Rattle.std.specs.Prelude.{◌≡◌, ℕ, ◌+◌, List, [], ◌∷◌, ◌++◌, Option, Some, None, Result, IfErr}
+use Rattle.std.specs.Prelude.{sum_by}
 use Rattle.esc_apply.specs.declared.moves.Work.{Work}
 use Rattle.esc_apply.specs.Registry.{saturated}
 use Rattle.esc_store.specs.declared.fault.SFault.{SFault}

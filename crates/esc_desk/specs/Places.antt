@@ -1,28 +1,9 @@
 -- Where the pages of a walk begin.
-use Rattle.std.specs.Prelude.{
-  ◌≡◌,
-  ℕ,
-  ◌-◌,
-  ◌++◌,
-  Bool,
-  List,
-  [],
-  ◌∷◌,
-  Option,
-  None,
-  Some,
-  if◌then◌else◌,
-  MatchOption,
-}
+use Rattle.std.specs.Prelude.{◌≡◌, ℕ, ◌-◌, ◌++◌, Bool, List, [], ◌∷◌, Option, None, Some}
+use Rattle.std.specs.Prelude.{if◌then◌else◌, MatchOption}
 use Rattle.esc_envelope.specs.declared.kind.Kind.{Kind}
-use Rattle.esc_envelope.specs.declared.kind.Kind.TheVariants.{
-  Registrar,
-  Contact,
-  Host,
-  Domain,
-  Idn,
-  Nndn,
-}
+use Rattle.esc_envelope.specs.declared.kind.Kind.TheVariants.{Registrar, Contact, Host, Domain, Idn}
+use Rattle.esc_envelope.specs.declared.kind.Kind.TheVariants.{Nndn}
 use Rattle.esc_envelope.specs.Kinds.{kind_rank}
 use Rattle.esc_apply.specs.ObjectStreams.{Entry}
 use Rattle.esc_store.specs.Pages.{last_text}

@@ -1,18 +1,6 @@
 -- What the reads of a desk return after a list of events.
-use Rattle.std.specs.Prelude.{
-  ◌≡◌,
-  ℕ,
-  ◌-◌,
-  List,
-  length,
-  map,
-  Option,
-  Some,
-  None,
-  option_map,
-  slice_get,
-  Ok,
-}
+use Rattle.std.specs.Prelude.{◌≡◌, ℕ, ◌-◌, List, length, map, Option, Some, None, option_map}
+use Rattle.std.specs.Prelude.{slice_get, Ok}
 use Rattle.sha2.specs.Sha256.{sha256}
 use Rattle.esc_tables.specs.DepositValue.{DepositValue}
 use Rattle.esc_tables.specs.Reading.{reading}

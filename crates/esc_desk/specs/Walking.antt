@@ -1,20 +1,6 @@
 -- What a walk over a desk's objects still returns.
-use Rattle.std.specs.Prelude.{
-  ◌≡◌,
-  ℕ,
-  ◌==◌,
-  Bool,
-  true,
-  false,
-  not,
-  List,
-  filter,
-  ◌++◌,
-  Option,
-  None,
-  Some,
-  if◌then◌else◌,
-}
+use Rattle.std.specs.Prelude.{◌≡◌, ℕ, ◌==◌, Bool, true, false, not, List, filter, ◌++◌, Option}
+use Rattle.std.specs.Prelude.{None, Some, if◌then◌else◌}
 use Rattle.std.specs.Map.{lookup}
 use Rattle.std.specs.Ordering.{nat_cmp, is_ge, match_ordering}
 use Rattle.std.specs.Cmp.Lexicographic.{slice_cmp}

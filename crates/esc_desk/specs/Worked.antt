@@ -1,19 +1,6 @@
 -- Manifests of a row or two and some arrivals, to compute the definitions at.
-use Rattle.std.specs.Prelude.{
-  ℕ,
-  List,
-  [],
-  ◌∷◌,
-  ◌++◌,
-  Bool,
-  Some,
-  None,
-  Result,
-  Ok,
-  pos,
-  codes,
-  if◌then◌else◌,
-}
+use Rattle.std.specs.Prelude.{ℕ, List, [], ◌∷◌, ◌++◌, Bool, Some, None, Result, Ok, pos, codes}
+use Rattle.std.specs.Prelude.{if◌then◌else◌}
 use Rattle.std.specs.Str.{bytes_eq}
 use Rattle.esc_envelope.specs.declared.kind.Kind.TheVariants.{Domain}
 use Rattle.esc_envelope.specs.declared.place.DepositType.TheVariants.{Full, Diff}

@@ -1,20 +1,7 @@
 //! Amendments: manifests that list more rows.
 
-ghost use Rattle.std.specs.Prelude.{
-  ◌≡◌,
-  ◌<◌,
-  ◌++◌,
-  ℕ,
-  List,
-  None,
-  false,
-  Err,
-  length,
-  take,
-  IfOk,
-  IfErr,
-  OnOk,
-};
+ghost use Rattle.std.specs.Prelude.{◌≡◌, ◌<◌, ◌++◌, ℕ, List, None, false, Err, length, take, IfOk};
+ghost use Rattle.std.specs.Prelude.{IfErr, OnOk};
 ghost use Rattle.sha2.specs.Sha256.{sha256};
 ghost use Rattle.esc_tables.specs.Reading.{reading};
 ghost use Rattle.esc_manifest.specs.declared.fault.MFault.TheVariants as MFault;
@@ -29,21 +16,10 @@ ghost use Rattle.esc_events.specs.Events.{EventValue, union as union_of};
 ghost use Rattle.esc_events.specs.Events.EventValue.{listed};
 ghost use Rattle.esc_events.specs.Cache.{IsCacheOf};
 ghost use Rattle.esc_events.specs.StateAfter.{IsStateAfter};
-ghost use Rattle.esc_desk.specs.Amendments.{
-  IsAmended,
-  IsAmendCause,
-  IsRefusal,
-  IsRefusedUnion,
-  IsUnionWith,
-  DeskLeavesAmended,
-};
-ghost use Rattle.esc_desk.specs.Calls.{
-  store_of,
-  OkForDeskEvents,
-  ForEventsInDoubt,
-  IsWhole,
-  DeskLeavesMade,
-};
+ghost use Rattle.esc_desk.specs.Amendments.{IsAmended, IsAmendCause, IsRefusal, IsRefusedUnion};
+ghost use Rattle.esc_desk.specs.Amendments.{IsUnionWith, DeskLeavesAmended};
+ghost use Rattle.esc_desk.specs.Calls.{store_of, OkForDeskEvents, ForEventsInDoubt, IsWhole};
+ghost use Rattle.esc_desk.specs.Calls.{DeskLeavesMade};
 ghost use Rattle.esc_desk.specs.Decisions.{IsDecided, IsSound};
 ghost use Rattle.esc_desk.specs.Edits.{is_empty};
 ghost use Rattle.esc_desk.specs.Reflection.{TakesIn};

@@ -1,47 +1,17 @@
 //! How an edit is made: in one transaction of the store, whole or not at all.
 
-ghost use Rattle.std.specs.Prelude.{
-  ◌≡◌,
-  ◌+◌,
-  ◌≤◌,
-  length,
-  IfOk,
-  IfErr,
-  IfSome,
-  OnOk,
-  OnErr,
-};
+ghost use Rattle.std.specs.Prelude.{◌≡◌, ◌+◌, ◌≤◌, length, IfOk, IfErr, IfSome, OnOk, OnErr};
 ghost use Rattle.esc_apply.specs.Registry.{saturated};
 ghost use Rattle.esc_store.specs.Faults.{IsS1OrS2};
 ghost use Rattle.esc_store.specs.StoreState.{StoreState};
-ghost use Rattle.esc_store.specs.Representation.{
-  Represents,
-  IsHonest,
-  LeavesOnly,
-  StoreLeavesOr,
-  Began,
-  HasMadeBooks,
-  HasMadeTables,
-  IsUncommitted,
-  IsChangePart,
-  listed_by,
-};
+ghost use Rattle.esc_store.specs.Representation.{Represents, IsHonest, LeavesOnly, StoreLeavesOr};
+ghost use Rattle.esc_store.specs.Representation.{Began, HasMadeBooks, HasMadeTables, IsUncommitted};
+ghost use Rattle.esc_store.specs.Representation.{IsChangePart, listed_by};
 ghost use Rattle.esc_events.specs.Amended.{with_all_adopted, with_all_dropped};
 ghost use Rattle.esc_desk.specs.Causes.{IsEditFault, IsFillFault};
-ghost use Rattle.esc_desk.specs.Edits.{
-  receipted,
-  stored,
-  timed,
-  listed_more,
-  edited,
-  IsSoundPlan,
-  HasItsDeposit,
-  Begins,
-  IsFromChainOf,
-  IsFilled,
-  HasAllParts,
-  IsCommitted,
-};
+ghost use Rattle.esc_desk.specs.Edits.{receipted, stored, timed, listed_more, edited, IsSoundPlan};
+ghost use Rattle.esc_desk.specs.Edits.{HasItsDeposit, Begins, IsFromChainOf, IsFilled, HasAllParts};
+ghost use Rattle.esc_desk.specs.Edits.{IsCommitted};
 
 use crate::edit::{Edit, Listing, Storing};
 use crate::moves::move_if_planned;

@@ -10,17 +10,9 @@ ghost use Rattle.esc_events.specs.ArrivalValue.{an_arrival};
 ghost use Rattle.esc_events.specs.Events.{EventValue};
 ghost use Rattle.esc_events.specs.Cache.{IsCacheOf};
 ghost use Rattle.esc_events.specs.StateAfter.{IsStateAfter};
-ghost use Rattle.esc_desk.specs.Calls.{
-  store_of,
-  DeskLeaves,
-  DeskLeavesTaken,
-  ForDeskEvents,
-  OkForDeskEvents,
-  ForEventsInDoubt,
-  IsWhole,
-  IsCause,
-  Answers,
-};
+ghost use Rattle.esc_desk.specs.Calls.{store_of, DeskLeaves, DeskLeavesTaken, ForDeskEvents};
+ghost use Rattle.esc_desk.specs.Calls.{OkForDeskEvents, ForEventsInDoubt, IsWhole, IsCause};
+ghost use Rattle.esc_desk.specs.Calls.{Answers};
 ghost use Rattle.esc_desk.specs.Reflection.{StoreReflects, DeskReflects};
 
 use crate::answering::{Answer, answer_arrival, numbered};

@@ -13,24 +13,10 @@ ghost use Rattle.esc_events.specs.Events.{union, comings, arrivals, manifest_the
 ghost use Rattle.esc_events.specs.Events.EventValue.{listed};
 ghost use Rattle.esc_events.specs.Receipts.{distinct, reply_to};
 ghost use Rattle.esc_events.specs.StateAfter.{IsStateAfter};
-ghost use Rattle.esc_desk.specs.Laws.{
-  TablesAreOfEvents,
-  AreLeftByArrivals,
-  RepliesStay,
-  SameHeldSameKept,
-  SameRowsSameTables,
-};
-ghost use Rattle.esc_desk.specs.Worked.{
-  itself,
-  reads_full,
-  full_1,
-  full_9,
-  other_1,
-  held_reply,
-  unlisted_reply,
-  listed_then,
-  came,
-};
+ghost use Rattle.esc_desk.specs.Laws.{TablesAreOfEvents, AreLeftByArrivals, RepliesStay};
+ghost use Rattle.esc_desk.specs.Laws.{SameHeldSameKept, SameRowsSameTables};
+ghost use Rattle.esc_desk.specs.Worked.{itself, reads_full, full_1, full_9, other_1, held_reply};
+ghost use Rattle.esc_desk.specs.Worked.{unlisted_reply, listed_then, came};
 
 use esc_chain::{chains_are_of_rows, latest_chain_at_is_one};
 use esc_store::Store;
@@ -151,14 +137,6 @@ ghost use Rattle.std.specs.Prelude.{◌++◌};
 ghost use Rattle.esc_apply.specs.Tables.{tables};
 ghost use Rattle.esc_events.specs.Events.EventValue.{arrived};
 ghost use Rattle.esc_events.specs.StateAfter.{deposits_of, held_body, parked_body};
-ghost use Rattle.esc_desk.specs.Worked.{
-  a_domain,
-  of_domain,
-  reads_either,
-  two_rows,
-  diff_2,
-  migrated,
-  amended_then_again,
-  again_then_amended,
-  lost_reply,
-};
+ghost use Rattle.esc_desk.specs.Worked.{a_domain, of_domain, reads_either, two_rows, diff_2};
+ghost use Rattle.esc_desk.specs.Worked.{migrated, amended_then_again, again_then_amended};
+ghost use Rattle.esc_desk.specs.Worked.{lost_reply};

@@ -1,61 +1,22 @@
 //! How the tables of a change are moved from the chain that the store keeps to another one. Of the
 //! deposits of that chain one at a time is in memory.
 
-ghost use Rattle.std.specs.Prelude.{
-  ◌≡◌,
-  ◌≢◌,
-  ◌<◌,
-  ◌≤◌,
-  ◌+◌,
-  ◌++◌,
-  ◌∷◌,
-  ◌^◌,
-  [],
-  ℕ,
-  List,
-  Option,
-  length,
-  take,
-  slice_get,
-  sum_by,
-  IfSome,
-  IfOk,
-  IfErr,
-  OnOk,
-};
+ghost use Rattle.std.specs.Prelude.{◌≡◌, ◌≢◌, ◌<◌, ◌≤◌, ◌+◌, ◌++◌, ◌∷◌, ◌^◌, [], ℕ, List, Option};
+ghost use Rattle.std.specs.Prelude.{length, take, slice_get, sum_by, IfSome, IfOk, IfErr, OnOk};
 ghost use Rattle.esc_tables.specs.DepositValue.{DepositValue};
 ghost use Rattle.esc_tables.specs.Reading.{reading};
 ghost use Rattle.esc_apply.specs.Registry.{State, saturated};
 ghost use Rattle.esc_apply.specs.Tables.{mention_count};
 ghost use Rattle.esc_apply.specs.Images.{chain_state};
 ghost use Rattle.esc_store.specs.StoreState.{StoreState};
-ghost use Rattle.esc_store.specs.Representation.{
-  IsHonest,
-  HasMadeBooks,
-  HasMadeTables,
-  IsUncommitted,
-  ChangeFollows,
-};
+ghost use Rattle.esc_store.specs.Representation.{IsHonest, HasMadeBooks, HasMadeTables};
+ghost use Rattle.esc_store.specs.Representation.{IsUncommitted, ChangeFollows};
 ghost use Rattle.esc_store.specs.Faults.{IsS1OrS2};
-ghost use Rattle.esc_events.specs.Plans.{
-  IsMovedFrom,
-  IsCostOfMove,
-  deposits_past,
-  front_of,
-  moved_by,
-  rows_in_steps,
-};
+ghost use Rattle.esc_events.specs.Plans.{IsMovedFrom, IsCostOfMove, deposits_past, front_of};
+ghost use Rattle.esc_events.specs.Plans.{moved_by, rows_in_steps};
 ghost use Rattle.esc_events.specs.StateAfter.{deposit_of, deposits_of};
-ghost use Rattle.esc_desk.specs.Edits.{
-  chain_deposits,
-  moved_if,
-  IsAtHand,
-  IsSoundPlan,
-  IsFromChainOf,
-  IsCostIf,
-  StaysPut,
-  IsFilled,
-};
+ghost use Rattle.esc_desk.specs.Edits.{chain_deposits, moved_if, IsAtHand, IsSoundPlan};
+ghost use Rattle.esc_desk.specs.Edits.{IsFromChainOf, IsCostIf, StaysPut, IsFilled};
 
 use crate::desk::NO_WORK;
 use crate::edit::AtHand;

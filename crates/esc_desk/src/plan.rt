@@ -1,18 +1,6 @@
 //! How the registry gets from the chain that the store keeps to another one.
 
-ghost use Rattle.std.specs.Prelude.{
-  ◌≡◌,
-  ◌≤◌,
-  ◌<◌,
-  ◌++◌,
-  ◌∷◌,
-  [],
-  length,
-  map,
-  IfOk,
-  IfErr,
-  IsTrue,
-};
+ghost use Rattle.std.specs.Prelude.{◌≡◌, ◌≤◌, ◌<◌, ◌++◌, ◌∷◌, [], length, map, IfOk, IfErr, IsTrue};
 ghost use Rattle.esc_store.specs.Faults.{IsS1OrS2};
 ghost use Rattle.esc_store.specs.StoreState.{step_at};
 ghost use Rattle.esc_events.specs.Plans.{AllInRange, AreLatestSteps};

@@ -5,21 +5,13 @@ ghost use Rattle.sha2.specs.Sha256.{sha256};
 ghost use Rattle.esc_tables.specs.Reading.{reading};
 ghost use Rattle.esc_store.specs.Faults.{IsS1OrS2};
 ghost use Rattle.esc_store.specs.Holding.{HasReceipts};
-ghost use Rattle.esc_store.specs.Reading.{
-  IsHonestReader,
-  IsReadOnly,
-  ReaderRepresents,
-  rows_listed_by,
-};
+ghost use Rattle.esc_store.specs.Reading.{IsHonestReader, IsReadOnly, ReaderRepresents};
+ghost use Rattle.esc_store.specs.Reading.{rows_listed_by};
 ghost use Rattle.esc_store.specs.StoreState.{StoreState, AreHeld};
 ghost use Rattle.esc_events.specs.Events.{EventValue, union, last_moment};
 ghost use Rattle.esc_events.specs.StateAfter.{IsStateAfter};
-ghost use Rattle.esc_desk.specs.Readers.{
-  store_read_by,
-  ReaderReflects,
-  IsUnchangedReader,
-  OkForReaderEvents,
-};
+ghost use Rattle.esc_desk.specs.Readers.{store_read_by, ReaderReflects, IsUnchangedReader};
+ghost use Rattle.esc_desk.specs.Readers.{OkForReaderEvents};
 ghost use Rattle.esc_desk.specs.Reads.{replies_of, AreHeldOf, AreParkedOf, IsEnd, IsStatus};
 
 pub mod walk;

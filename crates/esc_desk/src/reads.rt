@@ -1,15 +1,6 @@
 //! The reads of a desk.
 
-ghost use Rattle.std.specs.Prelude.{
-  ◌≡◌,
-  List,
-  length,
-  option_map,
-  IfOk,
-  IfErr,
-  map,
-  All,
-};
+ghost use Rattle.std.specs.Prelude.{◌≡◌, List, length, option_map, IfOk, IfErr, map, All};
 ghost use Rattle.esc_apply.specs.declared.front.Step.{Step};
 ghost use Rattle.esc_store.specs.Faults.{IsS1OrS2};
 ghost use Rattle.esc_store.specs.Parks.{IsParkedBody};
@@ -19,15 +10,8 @@ ghost use Rattle.esc_desk.specs.Calls.{store_of, writes_of, OkForStoreEvents, Is
 ghost use Rattle.esc_events.specs.Events.{EventValue, union, last_moment};
 ghost use Rattle.esc_events.specs.LatestTables.{AreTables};
 ghost use Rattle.esc_desk.specs.Reflection.{StoreReflects};
-ghost use Rattle.esc_desk.specs.Reads.{
-  last,
-  replies_of,
-  AreHeldOf,
-  AreParkedOf,
-  SaysOfBody,
-  IsEnd,
-  IsStatus,
-};
+ghost use Rattle.esc_desk.specs.Reads.{last, replies_of, AreHeldOf, AreParkedOf, SaysOfBody, IsEnd};
+ghost use Rattle.esc_desk.specs.Reads.{IsStatus};
 
 use crate::caching::cache_of;
 use crate::desk::Desk;

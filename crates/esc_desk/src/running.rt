@@ -1,21 +1,9 @@
 //! Runs: lists of events, one after another.
 
 ghost use Rattle.std.specs.Prelude.{◌≡◌, length, IfOk, OnErr};
-ghost use Rattle.esc_desk.specs.Asked.{
-  as_event,
-  as_events,
-  as_outcome,
-  as_outcomes,
-  matched,
-};
-ghost use Rattle.esc_desk.specs.Calls.{
-  ForDeskEvents,
-  OkForDeskEvents,
-  ForEventsInDoubt,
-  WasHonest,
-  DeskLeavesEvent,
-  DeskLeavesRun,
-};
+ghost use Rattle.esc_desk.specs.Asked.{as_event, as_events, as_outcome, as_outcomes, matched};
+ghost use Rattle.esc_desk.specs.Calls.{ForDeskEvents, OkForDeskEvents, ForEventsInDoubt, WasHonest};
+ghost use Rattle.esc_desk.specs.Calls.{DeskLeavesEvent, DeskLeavesRun};
 ghost use Rattle.esc_desk.specs.Outcomes.{IsOutcomeOf, AreOutcomesOf};
 ghost use Rattle.esc_desk.specs.Running.{Ran, Takes};
 

@@ -1,22 +1,7 @@
 //! The objects of a desk's tables, one at a time.
 
-ghost use Rattle.std.specs.Prelude.{
-  ◌≡◌,
-  ◌<◌,
-  ◌-◌,
-  ◌^◌,
-  ◌++◌,
-  ◌∷◌,
-  [],
-  List,
-  Some,
-  None,
-  false,
-  is_some,
-  IfOk,
-  IfErr,
-  OnOk,
-};
+ghost use Rattle.std.specs.Prelude.{◌≡◌, ◌<◌, ◌-◌, ◌^◌, ◌++◌, ◌∷◌, [], List, Some, None, false};
+ghost use Rattle.std.specs.Prelude.{is_some, IfOk, IfErr, OnOk};
 ghost use Rattle.std.specs.Vec.Iter.{into_iter_items, into_iter_len};
 ghost use Rattle.std.specs.Borrow.{sem, RestsIfErr};
 ghost use Rattle.esc_apply.specs.ObjectStreams.{Entry};
@@ -62,15 +47,8 @@ pub struct Walk<'a, S: Alter, P = Pages> {
 
 impl<S: Alter> Desk<S> {
     ghost use Rattle.esc_desk.specs.contracts.desk.Desk.{the_row};
-    ghost use Rattle.esc_desk.specs.Walking.{
-      AreToCome,
-      HasFailed,
-      ListsPages,
-      ListsTables,
-      desk_of,
-      lent_as,
-      most_left,
-    };
+    ghost use Rattle.esc_desk.specs.Walking.{AreToCome, HasFailed, ListsPages, ListsTables};
+    ghost use Rattle.esc_desk.specs.Walking.{desk_of, lent_as, most_left};
 
     /// The objects of the latest chain's tables, those of one kind or (`None`) of all, one at a
     /// time by key. No more than a page of 256 is held in memory. A new walk hasn't failed, and

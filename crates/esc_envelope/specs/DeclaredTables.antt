@@ -1,32 +1,7 @@
 -- The tables that an envelope declares (this project's profile).
-use Rattle.std.specs.Prelude.{
-  ◌≡◌,
-  ◌<◌,
-  ◌≤◌,
-  ℕ,
-  List,
-  [],
-  ◌∷◌,
-  length,
-  map,
-  Bool,
-  true,
-  false,
-  not,
-  ◌==◌,
-  ◌&&◌,
-  ◌||◌,
-  nat_lt,
-  nat_le,
-  if◌then◌else◌,
-  count_by,
-  position,
-  Option,
-  Some,
-  None,
-  option_and_then,
-  codes,
-}
+use Rattle.std.specs.Prelude.{◌≡◌, ◌<◌, ◌≤◌, ℕ, List, [], ◌∷◌, length, map, Bool, true, false, not}
+use Rattle.std.specs.Prelude.{◌==◌, ◌&&◌, ◌||◌, nat_lt, nat_le, if◌then◌else◌, count_by, position}
+use Rattle.std.specs.Prelude.{Option, Some, None, option_and_then, codes}
 use Rattle.std.specs.List.{list_all, list_any}
 use Rattle.std.specs.Str.{bytes_eq}
 use Rattle.serde_json.specs.Data.{Data}

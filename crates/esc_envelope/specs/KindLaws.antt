@@ -1,14 +1,8 @@
 -- Laws of kinds: kinds with equal ranks are equal.
 use Rattle.std.proofs.Common.{◌≡◌, ◌∙◌, ℕ, zero, suc, refl, sym, ap}
 use Rattle.esc_envelope.specs.declared.kind.Kind.{Kind}
-use Rattle.esc_envelope.specs.declared.kind.Kind.TheVariants.{
-  Registrar,
-  Contact,
-  Host,
-  Domain,
-  Idn,
-  Nndn,
-}
+use Rattle.esc_envelope.specs.declared.kind.Kind.TheVariants.{Registrar, Contact, Host, Domain, Idn}
+use Rattle.esc_envelope.specs.declared.kind.Kind.TheVariants.{Nndn}
 use Rattle.esc_envelope.specs.Kinds.{kind_rank}
 
 -- the kind of a rank

@@ -1,27 +1,10 @@
 -- The kinds of objects in order, and their names.
-use Rattle.std.specs.Prelude.{
-  ℕ,
-  List,
-  [],
-  ◌∷◌,
-  Bool,
-  ◌==◌,
-  if◌then◌else◌,
-  Option,
-  Some,
-  None,
-  codes,
-}
+use Rattle.std.specs.Prelude.{ℕ, List, [], ◌∷◌, Bool, ◌==◌, if◌then◌else◌, Option, Some, None}
+use Rattle.std.specs.Prelude.{codes}
 use Rattle.std.specs.Str.{bytes_eq}
 use Rattle.esc_envelope.specs.declared.kind.Kind.{Kind}
-use Rattle.esc_envelope.specs.declared.kind.Kind.TheVariants.{
-  Registrar,
-  Contact,
-  Host,
-  Domain,
-  Idn,
-  Nndn,
-}
+use Rattle.esc_envelope.specs.declared.kind.Kind.TheVariants.{Registrar, Contact, Host, Domain, Idn}
+use Rattle.esc_envelope.specs.declared.kind.Kind.TheVariants.{Nndn}
 
 -- the index of a kind in the order of kinds, from 0
 abbrev pub kind_rank : Kind → ℕ

@@ -3,13 +3,8 @@
 ghost use Rattle.std.specs.Prelude.{◌≡◌, ◌++◌, IfOk, OnOk, Some, option_map};
 ghost use Rattle.serde_json.specs.View.{view};
 ghost use Rattle.esc_envelope.specs.Kinds.{kind_rank};
-ghost use Rattle.esc_envelope.specs.Members.{
-  AreBelow,
-  declared_count,
-  count_entry,
-  counts_of,
-  counts_in,
-};
+ghost use Rattle.esc_envelope.specs.Members.{AreBelow, declared_count, count_entry, counts_of};
+ghost use Rattle.esc_envelope.specs.Members.{counts_in};
 
 use crate::kind::Kind;
 use esc_bundle::NoMemory;

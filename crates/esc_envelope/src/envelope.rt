@@ -1,18 +1,6 @@
 //! The envelope of a deposit.
 
-ghost use Rattle.std.specs.Prelude.{
-  ◌≡◌,
-  ◌⊎◌,
-  ◌≤◌,
-  ℕ,
-  Ok,
-  Err,
-  Some,
-  None,
-  IfOk,
-  IfErr,
-  IsErrAnd,
-};
+ghost use Rattle.std.specs.Prelude.{◌≡◌, ◌⊎◌, ◌≤◌, ℕ, Ok, Err, Some, None, IfOk, IfErr, IsErrAnd};
 ghost use Rattle.serde_json.specs.View.{view};
 ghost use Rattle.esc_envelope.specs.Envelope.{json_of, envelope_in, envelope_of};
 ghost use Rattle.esc_envelope.specs.EnvelopeFaults.{IsLeastEnvelopeFault};

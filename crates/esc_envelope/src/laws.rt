@@ -3,20 +3,7 @@
 //! The functions here do nothing. Each has a law as its contract: a caller who needs the law calls
 //! it.
 
-ghost use Rattle.std.specs.Prelude.{
-  ◌≡◌,
-  ◌≤◌,
-  ◌↔◌,
-  ◌++◌,
-  ℕ,
-  ℤ,
-  List,
-  All,
-  Ok,
-  Err,
-  Some,
-  IsSome,
-};
+ghost use Rattle.std.specs.Prelude.{◌≡◌, ◌≤◌, ◌↔◌, ◌++◌, ℕ, ℤ, List, All, Ok, Err, Some, IsSome};
 ghost use Rattle.esc_envelope.specs.DeclaredTables.{IsTable, AreContents, AreDeletes};
 ghost use Rattle.esc_envelope.specs.Envelope.{envelope_of};
 ghost use Rattle.esc_envelope.specs.EnvelopeFaults.{IsEnvelopeFault, IsLeastEnvelopeFault};

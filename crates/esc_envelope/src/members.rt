@@ -3,18 +3,9 @@
 
 ghost use Rattle.std.specs.Prelude.{◌≡◌, IfOk, option_map};
 ghost use Rattle.serde_json.specs.View.{view};
-ghost use Rattle.esc_envelope.specs.Members.{
-  text_at,
-  id_of,
-  type_of,
-  watermark_member,
-  prev_of,
-  prev_from,
-  id_if_any,
-  resend_member,
-  resend_from,
-  header_of,
-};
+ghost use Rattle.esc_envelope.specs.Members.{text_at, id_of, type_of, watermark_member, prev_of};
+ghost use Rattle.esc_envelope.specs.Members.{prev_from, id_if_any, resend_member, resend_from};
+ghost use Rattle.esc_envelope.specs.Members.{header_of};
 ghost use Rattle.esc_envelope.specs.Told.{told_value};
 
 use crate::header::Header;

@@ -1,24 +1,10 @@
 //! Watermarks: moments in UTC, to the nanosecond.
 
-ghost use Rattle.std.specs.Prelude.{
-  ◌≡◌,
-  ◌<◌,
-  Some,
-  None,
-  Ok,
-  IfOk,
-  IfSome,
-  option_map,
-  string_bytes,
-  pos,
-};
+ghost use Rattle.std.specs.Prelude.{◌≡◌, ◌<◌, Some, None, Ok, IfOk, IfSome, option_map};
+ghost use Rattle.std.specs.Prelude.{string_bytes, pos};
 ghost use Rattle.jiff.specs.Words.{civil_nanos, IsBetween};
-ghost use Rattle.esc_envelope.specs.Watermark.{
-  IsInYears,
-  value_if,
-  watermark_of,
-  watermark_text_of,
-};
+ghost use Rattle.esc_envelope.specs.Watermark.{IsInYears, value_if, watermark_of};
+ghost use Rattle.esc_envelope.specs.Watermark.{watermark_text_of};
 
 use crate::parts::{Clock, Day, after_byte, before_z, billionths, read_clock, read_day};
 use esc_bundle::NoMemory;

@@ -4,14 +4,8 @@
 ghost use Rattle.std.specs.Prelude.{◌≡◌, ◌<◌, true, option_map, IfSome};
 ghost use Rattle.jiff_fmt.specs.Reader.{fraction_value};
 ghost use Rattle.esc_envelope.specs.Moment.{is_fraction};
-ghost use Rattle.esc_envelope.specs.Watermark.{
-  two_at,
-  byte_at,
-  before_z,
-  day_at,
-  clock_at,
-  billionths_of,
-};
+ghost use Rattle.esc_envelope.specs.Watermark.{two_at, byte_at, before_z, day_at, clock_at};
+ghost use Rattle.esc_envelope.specs.Watermark.{billionths_of};
 ghost use Rattle.std.specs.Char.{is_ascii_digit};
 ghost use Rattle.std.specs.List.{list_all};
 

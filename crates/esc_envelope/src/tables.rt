@@ -4,22 +4,11 @@
 ghost use Rattle.std.specs.Prelude.{◌≡◌, IfOk, map, option_map, string_bytes, count_by};
 ghost use Rattle.std.specs.List.{list_all};
 ghost use Rattle.serde_json.specs.View.{view};
-ghost use Rattle.esc_envelope.specs.DeclaredTables.{
-  all_of,
-  is_table_name_byte,
-  is_table_name,
-  name_of,
-  kind_of,
-  parent_of,
-  fields_of,
-  key_index,
-  table_of,
-  have_distinct_names,
-  is_parent_of,
-  have_one_parent,
-  contents_in,
-  deletes_in,
-};
+ghost use Rattle.esc_envelope.specs.DeclaredTables.{all_of, is_table_name_byte, is_table_name};
+ghost use Rattle.esc_envelope.specs.DeclaredTables.{name_of, kind_of, parent_of, fields_of};
+ghost use Rattle.esc_envelope.specs.DeclaredTables.{key_index, table_of, have_distinct_names};
+ghost use Rattle.esc_envelope.specs.DeclaredTables.{is_parent_of, have_one_parent, contents_in};
+ghost use Rattle.esc_envelope.specs.DeclaredTables.{deletes_in};
 
 use crate::kind::Kind;
 use crate::members::text_at;

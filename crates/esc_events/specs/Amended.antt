@@ -1,24 +1,6 @@
 -- What becomes of held and parked bodies where rows are added to those that are listed.
-use Rattle.std.specs.Prelude.{
-  ℕ,
-  ◌-◌,
-  zero,
-  suc,
-  nat_lt,
-  Bool,
-  ◌&&◌,
-  not,
-  if◌then◌else◌,
-  filter,
-  List,
-  [],
-  ◌∷◌,
-  length,
-  Option,
-  Some,
-  None,
-  is_some,
-}
+use Rattle.std.specs.Prelude.{ℕ, ◌-◌, zero, suc, nat_lt, Bool, ◌&&◌, not, if◌then◌else◌, filter}
+use Rattle.std.specs.Prelude.{List, [], ◌∷◌, length, Option, Some, None, is_some}
 use Rattle.esc_tables.specs.Reading.{reading}
 use Rattle.esc_manifest.specs.declared.row.MRow.{MRow}
 use Rattle.esc_manifest.specs.Extension.{extended}

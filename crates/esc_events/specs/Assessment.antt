@@ -6,12 +6,8 @@ use Rattle.esc_manifest.specs.declared.row.MRow.{MRow}
 pub use Rattle.esc_manifest.specs.Listed.{as_listed, row_with_digest}
 use Rattle.esc_manifest.specs.ManifestRows.{row_at}
 use Rattle.esc_events.specs.declared.assessment.Assessment.{Assessment}
-use Rattle.esc_events.specs.declared.assessment.Assessment.TheVariants.{
-  Unlisted,
-  Unreadable,
-  Differing,
-  Holding,
-}
+use Rattle.esc_events.specs.declared.assessment.Assessment.TheVariants.{Unlisted, Unreadable}
+use Rattle.esc_events.specs.declared.assessment.Assessment.TheVariants.{Differing, Holding}
 
 -- what is found at row r, if this deposit reads from the body
 abbrev pub compared : List MRow → ℕ → DepositValue → Assessment

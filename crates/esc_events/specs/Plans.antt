@@ -1,20 +1,6 @@
 -- What a plan says of a move to another chain, and what is kept once it was carried out.
-use Rattle.std.specs.Prelude.{
-  ◌≡◌,
-  ℤ,
-  ℕ,
-  ◌<◌,
-  ◌^◌,
-  List,
-  ◌++◌,
-  Option,
-  slice_index,
-  length,
-  map,
-  take,
-  drop,
-  sum_by,
-}
+use Rattle.std.specs.Prelude.{◌≡◌, ℤ, ℕ, ◌<◌, ◌^◌, List, ◌++◌, Option, slice_index, length, map}
+use Rattle.std.specs.Prelude.{take, drop, sum_by}
 use Rattle.std.specs.FinSet as set
 use Rattle.esc_tables.specs.DepositValue.{DepositValue}
 use Rattle.esc_tables.specs.Reading.{reading}

@@ -1,24 +1,7 @@
 -- Distinct arrivals, and the receipts and replies that a list of events leaves (this project's
 -- profile).
-use Rattle.std.specs.Prelude.{
-  ℕ,
-  Bool,
-  false,
-  ◌&&◌,
-  ◌==◌,
-  nat_eq,
-  not,
-  if◌then◌else◌,
-  filter,
-  List,
-  [],
-  ◌∷◌,
-  ◌++◌,
-  Option,
-  Some,
-  None,
-  Result,
-}
+use Rattle.std.specs.Prelude.{ℕ, Bool, false, ◌&&◌, ◌==◌, nat_eq, not, if◌then◌else◌, filter, List}
+use Rattle.std.specs.Prelude.{[], ◌∷◌, ◌++◌, Option, Some, None, Result}
 use Rattle.std.specs.List.{list_any}
 use Rattle.std.specs.Str.{bytes_eq}
 use Rattle.esc_tables.specs.DepositValue.{DepositValue}
@@ -26,12 +9,8 @@ use Rattle.esc_store.specs.declared.reply.Verdict.{Verdict}
 use Rattle.esc_store.specs.declared.reply.Verdict.TheVariants.{A1, A2, A3, A4, A5}
 use Rattle.esc_store.specs.ReplyValue.{ReplyValue, ReceiptValue, reply_alike}
 use Rattle.esc_events.specs.declared.assessment.Assessment.{Assessment}
-use Rattle.esc_events.specs.declared.assessment.Assessment.TheVariants.{
-  Unlisted,
-  Unreadable,
-  Differing,
-  Holding,
-}
+use Rattle.esc_events.specs.declared.assessment.Assessment.TheVariants.{Unlisted, Unreadable}
+use Rattle.esc_events.specs.declared.assessment.Assessment.TheVariants.{Differing, Holding}
 use Rattle.esc_events.specs.ArrivalValue.{ArrivalValue}
 use Rattle.esc_events.specs.Events.{EventValue, Coming, union, comings}
 use Rattle.esc_events.specs.Assessment.{assessment, held_row}

@@ -1,26 +1,7 @@
 -- The fields by which links, statuses and dates go, and how a declared table has them (RFC 9022,
 -- RFC 5731 to 5733, and this project's profile).
-use Rattle.std.specs.Prelude.{
-  ℕ,
-  List,
-  [],
-  ◌∷◌,
-  map,
-  filter,
-  take,
-  drop,
-  length,
-  Bool,
-  true,
-  false,
-  not,
-  ◌&&◌,
-  ◌||◌,
-  ◌==◌,
-  nat_lt,
-  codes,
-  if◌then◌else◌,
-}
+use Rattle.std.specs.Prelude.{ℕ, List, [], ◌∷◌, map, filter, take, drop, length, Bool, true, false}
+use Rattle.std.specs.Prelude.{not, ◌&&◌, ◌||◌, ◌==◌, nat_lt, codes, if◌then◌else◌}
 use Rattle.std.specs.List.{list_any}
 use Rattle.std.specs.Str.{bytes_eq}
 use Rattle.std.specs.Char.{to_ascii_lowercase}
@@ -29,24 +10,14 @@ use Rattle.esc_envelope.specs.declared.kind.Kind.TheVariants as kind
 use Rattle.esc_envelope.specs.EnvelopeValue.{TableValue}
 use Rattle.esc_envelope.specs.Kinds.{is_kind}
 use Rattle.esc_handover.specs.declared.guide.Guide.{Guide}
-use Rattle.esc_handover.specs.declared.guide.Guide.TheVariants.{
-  RegistrarCreation,
-  ContactSponsor,
-  ContactCreation,
-  ContactStatus,
-  HostSponsor,
-  HostCreation,
-  HostStatus,
-  DomainSponsor,
-  DomainRegistrant,
-  DomainTable,
-  DomainCreation,
-  DomainExpiry,
-  DomainContact,
-  DomainHost,
-  DomainStatus,
-  NndnTable,
-}
+use Rattle.esc_handover.specs.declared.guide.Guide.TheVariants.{RegistrarCreation, ContactSponsor}
+use Rattle.esc_handover.specs.declared.guide.Guide.TheVariants.{ContactCreation, ContactStatus}
+use Rattle.esc_handover.specs.declared.guide.Guide.TheVariants.{HostSponsor, HostCreation}
+use Rattle.esc_handover.specs.declared.guide.Guide.TheVariants.{HostStatus, DomainSponsor}
+use Rattle.esc_handover.specs.declared.guide.Guide.TheVariants.{DomainRegistrant, DomainTable}
+use Rattle.esc_handover.specs.declared.guide.Guide.TheVariants.{DomainCreation, DomainExpiry}
+use Rattle.esc_handover.specs.declared.guide.Guide.TheVariants.{DomainContact, DomainHost}
+use Rattle.esc_handover.specs.declared.guide.Guide.TheVariants.{DomainStatus, NndnTable}
 
 -- all of them
 unfoldable pub guides : List Guide

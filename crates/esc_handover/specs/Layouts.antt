@@ -1,20 +1,7 @@
 -- The tables of a registry as CSV files: which there are, their columns and their texts (this
 -- project's profile of RFC 9022's CSV model).
-use Rattle.std.specs.Prelude.{
-  ◌≡◌,
-  ℕ,
-  not,
-  if◌then◌else◌,
-  List,
-  [],
-  ◌∷◌,
-  map,
-  filter,
-  Option,
-  Some,
-  None,
-  codes,
-}
+use Rattle.std.specs.Prelude.{◌≡◌, ℕ, not, if◌then◌else◌, List, [], ◌∷◌, map, filter, Option, Some}
+use Rattle.std.specs.Prelude.{None, codes}
 use Rattle.std.specs.Option.{unwrap_or}
 use Rattle.std.specs.List.{flat_map}
 use Rattle.std.specs.Str.{bytes_eq}

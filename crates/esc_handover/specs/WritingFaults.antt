@@ -1,11 +1,8 @@
 -- Why a table was not written.
 use Rattle.std.specs.Prelude.{⊤}
 use Rattle.esc_handover.specs.declared.writing_fault.WritingFault.{WritingFault}
-use Rattle.esc_handover.specs.declared.writing_fault.WritingFault.TheVariants.{
-  Source,
-  Output,
-  NoMemory,
-}
+use Rattle.esc_handover.specs.declared.writing_fault.WritingFault.TheVariants.{Source, Output}
+use Rattle.esc_handover.specs.declared.writing_fault.WritingFault.TheVariants.{NoMemory}
 
 -- P holds, if the fault is the source's
 abbrev pub IfWritingSource : {E : Type 0} → WritingFault E → Type 0 → Type 0

@@ -4,20 +4,9 @@ ghost use Rattle.std.specs.Prelude.{◌≡◌, ◌||◌, not};
 ghost use Rattle.std.specs.List.{list_all, list_any};
 ghost use Rattle.esc_envelope.specs.Kinds.{kinds};
 ghost use Rattle.esc_envelope.specs.Place.{rank};
-ghost use Rattle.esc_handover.specs.Acceptance.{
-  is_after,
-  is_by,
-  is_later,
-  is_end,
-  is_in_chain,
-  is_outdated,
-  is_open,
-  is_passed,
-  is_counted,
-  passes,
-  tests,
-  is_accepted,
-};
+ghost use Rattle.esc_handover.specs.Acceptance.{is_after, is_by, is_later, is_end, is_in_chain};
+ghost use Rattle.esc_handover.specs.Acceptance.{is_outdated, is_open, is_passed, is_counted};
+ghost use Rattle.esc_handover.specs.Acceptance.{passes, tests, is_accepted};
 ghost use Rattle.esc_handover.specs.Guides.{is_disguise, is_wanted, is_guide_declared, guides};
 
 use crate::guide::Guide;

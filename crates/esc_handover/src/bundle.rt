@@ -1,13 +1,8 @@
 //! The tables of a registry as one deposit.
 
 ghost use Rattle.std.specs.Prelude.{◌≡◌, true, IfOk};
-ghost use Rattle.esc_handover.specs.FullBundle.{
-  entry_count,
-  counted_kinds,
-  first_full_header,
-  full_of,
-  IsFullOf,
-};
+ghost use Rattle.esc_handover.specs.FullBundle.{entry_count, counted_kinds, first_full_header};
+ghost use Rattle.esc_handover.specs.FullBundle.{full_of, IsFullOf};
 
 use crate::draft::draft_bundle;
 use crate::refusal::BundleRefusal;

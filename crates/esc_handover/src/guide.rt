@@ -42,12 +42,8 @@ pub enum Guide {
 
 impl Guide {
     ghost use Rattle.std.specs.Prelude.{◌≡◌};
-    ghost use Rattle.esc_handover.specs.Guides.{
-      guide_kind,
-      child_name,
-      guide_field_name,
-      leads_to_idn,
-    };
+    ghost use Rattle.esc_handover.specs.Guides.{guide_kind, child_name, guide_field_name};
+    ghost use Rattle.esc_handover.specs.Guides.{leads_to_idn};
 
     /// All of them.
     pub const ALL: [Guide; 16] = [

@@ -4,24 +4,11 @@
 ghost use Rattle.std.specs.Prelude.{◌≡◌, string_bytes};
 ghost use Rattle.std.specs.List.{list_any};
 ghost use Rattle.std.specs.Str.{bytes_eq};
-ghost use Rattle.esc_handover.specs.Guides.{
-  guides,
-  is_of_parents,
-  is_its_table,
-  has_field,
-  is_guide_declared,
-  has_objects,
-  is_wanted,
-  is_name_sign,
-  folds_to,
-  looks_like,
-  is_disguised,
-  is_disguised_table,
-  has_disguised_field,
-  has_disguise,
-  stands_for_its_table,
-  is_disguise,
-};
+ghost use Rattle.esc_handover.specs.Guides.{guides, is_of_parents, is_its_table, has_field};
+ghost use Rattle.esc_handover.specs.Guides.{is_guide_declared, has_objects, is_wanted};
+ghost use Rattle.esc_handover.specs.Guides.{is_name_sign, folds_to, looks_like, is_disguised};
+ghost use Rattle.esc_handover.specs.Guides.{is_disguised_table, has_disguised_field, has_disguise};
+ghost use Rattle.esc_handover.specs.Guides.{stands_for_its_table, is_disguise};
 
 use crate::guide::Guide;
 use esc_envelope::{Kind, Table};

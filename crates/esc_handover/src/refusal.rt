@@ -1,9 +1,7 @@
 //! Why the tables of a registry are no bundle.
 
 ghost use Rattle.std.specs.Prelude.{◌≡◌};
-ghost use Rattle.esc_handover.specs.declared.refusal.BundleRefusal.TheVariants.{
-  NoMemory as no_memory,
-};
+ghost use Rattle.esc_handover.specs.declared.refusal.BundleRefusal.TheVariants.{NoMemory as no_memory};
 
 use esc_bundle::{Fault, NoMemory};
 use std::alloc::{AllocError, AllocFailed};

@@ -4,14 +4,8 @@ ghost use Rattle.std.specs.Prelude.{◌≡◌, ◌∷◌, List, map, IfOk, IfErr
 ghost use Rattle.esc_apply.specs.ObjectStreams.{Entry};
 ghost use Rattle.esc_check.specs.ObjectReports.{IfSource, OfSource};
 ghost use Rattle.esc_handover.specs.Gathering.{with_names};
-ghost use Rattle.esc_handover.specs.Layouts.{
-  parent_table,
-  child_table,
-  names_in,
-  child_names,
-  table_names,
-  called,
-};
+ghost use Rattle.esc_handover.specs.Layouts.{parent_table, child_table, names_in, child_names};
+ghost use Rattle.esc_handover.specs.Layouts.{table_names, called};
 
 use crate::gathering::add_name;
 use esc_apply::Objects;

@@ -1,19 +1,7 @@
 //! The text of a table.
 
-ghost use Rattle.std.specs.Prelude.{
-  ◌≡◌,
-  ◌∷◌,
-  ◌++◌,
-  List,
-  map,
-  filter,
-  option_map,
-  codes,
-  IfOk,
-  IfErr,
-  OnOk,
-  string_bytes,
-};
+ghost use Rattle.std.specs.Prelude.{◌≡◌, ◌∷◌, ◌++◌, List, map, filter, option_map, codes, IfOk};
+ghost use Rattle.std.specs.Prelude.{IfErr, OnOk, string_bytes};
 ghost use Rattle.std.specs.Io.KnownBytes.{Appends};
 ghost use Rattle.std.specs.Map.{lookup};
 ghost use Rattle.std.specs.Str.{bytes_eq};

@@ -1,10 +1,8 @@
 //! Why a table was not written.
 
 ghost use Rattle.std.specs.Prelude.{◌≡◌};
-ghost use Rattle.esc_handover.specs.declared.writing_fault.WritingFault.TheVariants.{
-  NoMemory as no_memory,
-  Output as of_output,
-};
+ghost use Rattle.esc_handover.specs.declared.writing_fault.WritingFault.TheVariants.{NoMemory as no_memory};
+ghost use Rattle.esc_handover.specs.declared.writing_fault.WritingFault.TheVariants.{Output as of_output};
 
 use esc_bundle::NoMemory;
 use sqlite::ErrorCode;

@@ -1,5 +1,6 @@
 -- What a page is made of (HTML Standard, section 13.1).
-use Rattle.std.specs.Prelude.{◌≡◌, ℕ, ◌/◌, ◌%◌, List, [], ◌++◌, map, Option, Some, None, codes, IfSome}
+use Rattle.std.specs.Prelude.{◌≡◌, ℕ, ◌/◌, ◌%◌, List, [], ◌++◌, map, Option, Some, None, codes}
+use Rattle.std.specs.Prelude.{IfSome}
 use Rattle.std.specs.List.{flat_map}
 use Rattle.std.specs.Fmt.{decimal}
 use Rattle.esc_html.specs.declared.tag.Tag.{Tag}

@@ -3,14 +3,8 @@
 ghost use Rattle.std.specs.Prelude.{◌≡◌, [], Some, option_map, IfOk};
 ghost use Rattle.std.specs.Fmt.{decimal};
 ghost use Rattle.esc_html.specs.Escape.{escaped};
-ghost use Rattle.esc_html.specs.Markup.{
-  given,
-  element_text,
-  page_text,
-  IsHtmlPage,
-  joined,
-  IsUnlessRefused,
-};
+ghost use Rattle.esc_html.specs.Markup.{given, element_text, page_text, IsHtmlPage, joined};
+ghost use Rattle.esc_html.specs.Markup.{IsUnlessRefused};
 
 use crate::attribute::Attribute;
 use crate::escape::push_escaped;

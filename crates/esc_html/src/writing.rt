@@ -2,14 +2,8 @@
 
 ghost use Rattle.std.specs.Prelude.{◌≡◌, ◌++◌, OnOk, IfOk, codes};
 ghost use Rattle.std.specs.List.{flat_map};
-ghost use Rattle.esc_html.specs.Markup.{
-  given,
-  attribute_text,
-  element_text,
-  page_front,
-  page_text,
-  value_text,
-};
+ghost use Rattle.esc_html.specs.Markup.{given, attribute_text, element_text, page_front, page_text};
+ghost use Rattle.esc_html.specs.Markup.{value_text};
 ghost use Rattle.esc_html.specs.Names.{tag_name};
 
 use crate::attribute::Attribute;

@@ -1,21 +1,6 @@
 -- Which request an input makes, and what the response to it is.
-use Rattle.std.specs.Prelude.{
-  ◌≡◌,
-  ◌⊎◌,
-  ℕ,
-  List,
-  [],
-  if◌then◌else◌,
-  nat_le,
-  length,
-  take,
-  Option,
-  Some,
-  None,
-  Result,
-  Ok,
-  Err,
-}
+use Rattle.std.specs.Prelude.{◌≡◌, ◌⊎◌, ℕ, List, [], if◌then◌else◌, nat_le, length, take, Option}
+use Rattle.std.specs.Prelude.{Some, None, Result, Ok, Err}
 use Rattle.std.specs.Global.{Vec}
 use Rattle.sqlite_trees.specs.declared.store.Store.{Ghosts}
 use Rattle.httparse.specs.Grammar.{RequestHead}
@@ -25,17 +10,8 @@ use Rattle.esc_store.specs.Faults.{IsS1OrS2, IsS1OrS2OrS4OrS5}
 use Rattle.esc_store.specs.ReplyValue.{ReplyValue}
 use Rattle.esc_desk.specs.declared.desk.Desk.{Desk}
 use Rattle.esc_events.specs.ArrivalValue.{ArrivalValue, an_arrival}
-use Rattle.esc_desk.specs.Calls.{
-  ForDeskEvents,
-  ForStoreEvents,
-  ForEventsInDoubt,
-  DeskLeaves,
-  DeskLeavesTaken,
-  StillReflects,
-  IsUnchangedDesk,
-  Answers,
-  IsCause,
-}
+use Rattle.esc_desk.specs.Calls.{ForDeskEvents, ForStoreEvents, ForEventsInDoubt, DeskLeaves}
+use Rattle.esc_desk.specs.Calls.{DeskLeavesTaken, StillReflects, IsUnchangedDesk, Answers, IsCause}
 use Rattle.esc_reports.specs.declared.catalog.Report.{Report}
 use Rattle.esc_reports.specs.Reports.{IsReport}
 use Rattle.esc_request.specs.declared.refusal.Refusal.{Refusal}
@@ -113,7 +89,8 @@ pub record GivesFault (text : List ℕ) : Type 0 where
 module _ {S : Type 0} (g : Ghosts S) (old new : Desk S) where
   -- what a crash leaves after an arrival, by what came of it
   abbrev pub LeavesAfter : ArrivalValue → Result ReplyValue SFault → Type 0
-  LeavesAfter a result = ForEventsInDoubt g old (λ e doubtful. DeskLeavesTaken g new e doubtful a result)
+  LeavesAfter a result =
+      ForEventsInDoubt g old (λ e doubtful. DeskLeavesTaken g new e doubtful a result)
 
   -- a crash leaves what it might leave before
   abbrev pub LeavesStill : Type 0

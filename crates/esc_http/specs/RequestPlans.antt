@@ -7,22 +7,12 @@ use Rattle.httparse.specs.Grammar.{RequestHead}
 use Rattle.httparse.specs.Spans.{name_and_value}
 use Rattle.esc_envelope.specs.Id.{is_id}
 use Rattle.esc_request.specs.declared.length.BodyLength.{BodyLength}
-use Rattle.esc_request.specs.declared.length.BodyLength.TheVariants.{
-  Bytes,
-  Missing,
-  Malformed,
-  TooLong,
-}
+use Rattle.esc_request.specs.declared.length.BodyLength.TheVariants.{Bytes, Missing, Malformed}
+use Rattle.esc_request.specs.declared.length.BodyLength.TheVariants.{TooLong}
 use Rattle.esc_reports.specs.declared.catalog.Report.{Report}
-use Rattle.esc_request.specs.declared.refusal.Refusal.TheVariants.{
-  BadRequest,
-  NotFound,
-  PutOnly,
-  GetOnly,
-  BadNumber,
-  LengthRequired,
-  TooLarge,
-}
+use Rattle.esc_request.specs.declared.refusal.Refusal.TheVariants.{BadRequest, NotFound, PutOnly}
+use Rattle.esc_request.specs.declared.refusal.Refusal.TheVariants.{GetOnly, BadNumber}
+use Rattle.esc_request.specs.declared.refusal.Refusal.TheVariants.{LengthRequired, TooLarge}
 use Rattle.esc_http.specs.declared.request_plan.RequestPlan.{RequestPlan}
 use Rattle.esc_http.specs.declared.request_plan.RequestPlan.TheVariants.{Refuse, Put, Get}
 use Rattle.esc_request.specs.BodyLength.{HeaderLine, body_length}

@@ -6,15 +6,8 @@ use Rattle.esc_store.specs.declared.reply.Verdict.{Verdict}
 use Rattle.esc_store.specs.declared.reply.Verdict.TheVariants.{A1, A2, A3, A4, A5}
 use Rattle.esc_store.specs.ReplyValue.{ReplyValue}
 use Rattle.esc_reports.specs.declared.catalog.Report.{Report}
-use Rattle.esc_reports.specs.declared.catalog.Report.TheVariants.{
-  Status,
-  Gaps,
-  Links,
-  Receipts,
-  Parked,
-  Moment,
-  Export,
-}
+use Rattle.esc_reports.specs.declared.catalog.Report.TheVariants.{Status, Gaps, Links, Receipts}
+use Rattle.esc_reports.specs.declared.catalog.Report.TheVariants.{Parked, Moment, Export}
 use Rattle.esc_reports.specs.ReplyText.{reply_text}
 use Rattle.esc_request.specs.Response.{response, unavailable}
 use Rattle.esc_http.specs.declared.serving.ServeFault.{ServeFault}

@@ -1,37 +1,12 @@
 -- Where the path of a request leads (this project's profile).
-use Rattle.std.specs.Prelude.{
-  ℕ,
-  List,
-  [],
-  ◌∷◌,
-  Bool,
-  false,
-  if◌then◌else◌,
-  ◌==◌,
-  nat_eq,
-  not,
-  length,
-  drop,
-  codes,
-  Option,
-  Some,
-  None,
-  option_map,
-  option_and_then,
-}
+use Rattle.std.specs.Prelude.{ℕ, List, [], ◌∷◌, Bool, false, if◌then◌else◌, ◌==◌, nat_eq, not}
+use Rattle.std.specs.Prelude.{length, drop, codes, Option, Some, None, option_map, option_and_then}
 use Rattle.std.specs.List.{starts_with, list_any}
 use Rattle.std.specs.Str.{bytes_eq}
 use Rattle.esc_envelope.specs.Kinds.{kind_named}
 use Rattle.esc_reports.specs.declared.catalog.Report.{Report}
-use Rattle.esc_reports.specs.declared.catalog.Report.TheVariants.{
-  Status,
-  Gaps,
-  Links,
-  Receipts,
-  Parked,
-  Moment,
-  Export,
-}
+use Rattle.esc_reports.specs.declared.catalog.Report.TheVariants.{Status, Gaps, Links, Receipts}
+use Rattle.esc_reports.specs.declared.catalog.Report.TheVariants.{Parked, Moment, Export}
 use Rattle.esc_http.specs.declared.route.Target.{Target}
 use Rattle.esc_http.specs.declared.route.Target.TheVariants as to
 use Rattle.esc_http.specs.declared.route.Route.{Route}

@@ -11,17 +11,8 @@ ghost use Rattle.esc_request.specs.Body.{IsShorter};
 ghost use Rattle.esc_request.specs.Head.{ShowsHead};
 ghost use Rattle.esc_request.specs.Pieces.{ReadsWhile};
 ghost use Rattle.esc_http.specs.RequestPlans.{plan_of_head};
-ghost use Rattle.esc_http.specs.Answering.{
-  Request,
-  arrives,
-  wants,
-  request_with_body,
-  Asks,
-  IsAnswered,
-  IsUndecided,
-  ReadsNoMore,
-  text_or_memory,
-};
+ghost use Rattle.esc_http.specs.Answering.{Request, arrives, wants, request_with_body, Asks};
+ghost use Rattle.esc_http.specs.Answering.{IsAnswered, IsUndecided, ReadsNoMore, text_or_memory};
 
 use crate::request_plan::{RequestPlan, plan_of_head};
 use crate::response::{fault_response, reply_response, report_response};

@@ -4,13 +4,8 @@ ghost use Rattle.std.specs.Prelude.{◌≡◌, length, map, All};
 ghost use Rattle.httparse.specs.Grammar.{RequestHead};
 ghost use Rattle.httparse.specs.Spans.{IsHeaderWithin, IsRequestAt, IsRequestWithin, header_bytes};
 ghost use Rattle.esc_request.specs.Head.{ShowsHead};
-ghost use Rattle.esc_http.specs.RequestPlans.{
-  path_of,
-  plan_of,
-  plan_to_put,
-  plan_to_get,
-  plan_of_head,
-};
+ghost use Rattle.esc_http.specs.RequestPlans.{path_of, plan_of, plan_to_put, plan_to_get};
+ghost use Rattle.esc_http.specs.RequestPlans.{plan_of_head};
 ghost use Rattle.esc_http.specs.Router.{rows};
 
 use crate::route::{Route, Target, route_of};

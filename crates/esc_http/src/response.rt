@@ -2,13 +2,8 @@
 //! memory was refused.
 
 ghost use Rattle.std.specs.Prelude.{◌≡◌, IfSome};
-ghost use Rattle.esc_http.specs.Response.{
-  fault_response,
-  reply_status,
-  reply_response,
-  report_media,
-  report_response,
-};
+ghost use Rattle.esc_http.specs.Response.{fault_response, reply_status, reply_response};
+ghost use Rattle.esc_http.specs.Response.{report_media, report_response};
 
 use esc_desk::{Reply, SFault, Verdict};
 use esc_reports::{Report, reply_text};

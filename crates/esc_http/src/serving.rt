@@ -3,17 +3,9 @@
 ghost use Rattle.std.specs.Prelude.{◌≡◌, ℕ, List, Some, Err, IfSome, IsTrue, OnOk, OnErr};
 ghost use Rattle.std.specs.Io.KnownBytes.{Appends, Keeps};
 ghost use Rattle.esc_desk.specs.Calls.{WasHonest};
-ghost use Rattle.esc_http.specs.declared.serving.ServeFault.TheVariants.{
-  Read as reading,
-  Write as writing,
-};
-ghost use Rattle.esc_http.specs.Answering.{
-  Request,
-  Asks,
-  IsAnswered,
-  ReadsNoMore,
-  text_or_memory,
-};
+ghost use Rattle.esc_http.specs.declared.serving.ServeFault.TheVariants.{Read as reading};
+ghost use Rattle.esc_http.specs.declared.serving.ServeFault.TheVariants.{Write as writing};
+ghost use Rattle.esc_http.specs.Answering.{Request, Asks, IsAnswered, ReadsNoMore, text_or_memory};
 ghost use Rattle.esc_http.specs.Response.{serve_fault_text};
 ghost use Rattle.esc_request.specs.Sent.{AppendsBeginning};
 

@@ -1,24 +1,6 @@
 -- Laws of digests: 64 hexadecimal digits are decoded into 32 bytes, and nothing else is.
-use Rattle.std.proofs.Common.{
-  ◌≡◌,
-  ◌∙◌,
-  ℕ,
-  Bool,
-  true,
-  false,
-  List,
-  length,
-  None,
-  Result,
-  Ok,
-  Err,
-  IsOk,
-  is_ok,
-  refl,
-  sym,
-  ap,
-  true≢false,
-}
+use Rattle.std.proofs.Common.{◌≡◌, ◌∙◌, ℕ, Bool, true, false, List, length, None, Result, Ok, Err}
+use Rattle.std.proofs.Common.{IsOk, is_ok, refl, sym, ap, true≢false}
 use Rattle.std.specs.Prelude.{◌==◌, ◌&&◌, if◌then◌else◌}
 use Rattle.std.specs.List.{list_all}
 use Rattle.std.specs.Result.{result_ok}

@@ -1,37 +1,11 @@
 -- The union of two manifests (this project's profile).
-use Rattle.std.specs.Prelude.{
-  ℕ,
-  suc,
-  Bool,
-  true,
-  false,
-  not,
-  ◌&&◌,
-  ◌||◌,
-  ◌==◌,
-  List,
-  ◌++◌,
-  filter,
-  position,
-  Option,
-  None,
-  Some,
-  Result,
-  Ok,
-  Err,
-  if◌then◌else◌,
-}
+use Rattle.std.specs.Prelude.{ℕ, suc, Bool, true, false, not, ◌&&◌, ◌||◌, ◌==◌, List, ◌++◌, filter}
+use Rattle.std.specs.Prelude.{position, Option, None, Some, Result, Ok, Err, if◌then◌else◌}
 use Rattle.std.specs.List.{list_any}
 use Rattle.std.specs.Str.{bytes_eq}
 use Rattle.esc_manifest.specs.declared.row.MRow.{MRow}
-use Rattle.esc_manifest.specs.RowFaults.{
-  same_place,
-  same_revision,
-  moved_id,
-  follows_later,
-  same_digest,
-  rows_fault,
-}
+use Rattle.esc_manifest.specs.RowFaults.{same_place, same_revision, moved_id, follows_later}
+use Rattle.esc_manifest.specs.RowFaults.{same_digest, rows_fault}
 
 -- both have the same prevId, or both have none
 abbrev pub same_prev : Option (List ℕ) → Option (List ℕ) → Bool

@@ -1,54 +1,18 @@
 -- The least fault of rows, of a text and of an extension: which faults there are, and at which rows
 -- (this project's profile).
-use Rattle.std.specs.Prelude.{
-  ◌≡◌,
-  ◌⊎◌,
-  ◌<◌,
-  ◌≤◌,
-  ◌+◌,
-  ℕ,
-  suc,
-  List,
-  [],
-  length,
-  take,
-  drop,
-  map,
-  Bool,
-  true,
-  false,
-  ◌==◌,
-  Some,
-  slice_index_or,
-  if◌then◌else◌,
-}
+use Rattle.std.specs.Prelude.{◌≡◌, ◌⊎◌, ◌<◌, ◌≤◌, ◌+◌, ℕ, suc, List, [], length, take, drop, map}
+use Rattle.std.specs.Prelude.{Bool, true, false, ◌==◌, Some, slice_index_or, if◌then◌else◌}
 use Rattle.std.specs.List.{list_any}
 use Rattle.esc_manifest.specs.declared.row.MRow.{MRow}
 use Rattle.esc_csv.specs.Records.{records_of}
 use Rattle.esc_manifest.specs.Extension.{is_listed, extended}
 use Rattle.esc_manifest.specs.Fields.{row_of}
-use Rattle.esc_manifest.specs.Manifest.{
-  most_bytes,
-  has_other_length,
-  lacks_heading,
-  lacks_id,
-  lacks_type,
-  lacks_watermark,
-  is_diff_alone,
-  lacks_resend,
-  lacks_digest,
-}
-use Rattle.esc_manifest.specs.RowFaults.{
-  most_manifest_rows,
-  has_bad_id,
-  has_bad_watermark,
-  lacks_prev,
-  has_bad_resend,
-  same_revision,
-  moved_id,
-  follows_later,
-  same_digest,
-}
+use Rattle.esc_manifest.specs.Manifest.{most_bytes, has_other_length, lacks_heading, lacks_id}
+use Rattle.esc_manifest.specs.Manifest.{lacks_type, lacks_watermark, is_diff_alone, lacks_resend}
+use Rattle.esc_manifest.specs.Manifest.{lacks_digest}
+use Rattle.esc_manifest.specs.RowFaults.{most_manifest_rows, has_bad_id, has_bad_watermark}
+use Rattle.esc_manifest.specs.RowFaults.{lacks_prev, has_bad_resend, same_revision, moved_id}
+use Rattle.esc_manifest.specs.RowFaults.{follows_later, same_digest}
 use Rattle.esc_manifest.specs.ManifestRows.{row_at}
 
 -- among faults, each a number with a row, this is the least: it occurs, no lesser number occurs,

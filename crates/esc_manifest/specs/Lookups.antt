@@ -1,20 +1,6 @@
 -- The place of an id, looked up.
-use Rattle.std.specs.Prelude.{
-  ◌≡◌,
-  ◌<◌,
-  ℕ,
-  ℤ,
-  List,
-  length,
-  Bool,
-  false,
-  not,
-  ◌&&◌,
-  int_lt,
-  Option,
-  Some,
-  None,
-}
+use Rattle.std.specs.Prelude.{◌≡◌, ◌<◌, ℕ, ℤ, List, length, Bool, false, not, ◌&&◌, int_lt, Option}
+use Rattle.std.specs.Prelude.{Some, None}
 use Rattle.std.specs.BTreeMap as tree
 use Rattle.std.specs.BTreeMap.{BTreeMap}
 use Rattle.std.specs.Cmp.Lexicographic.{slice_cmp}

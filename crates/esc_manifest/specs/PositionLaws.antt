@@ -1,23 +1,6 @@
 -- Laws of the first item of a list that passes a test.
-use Rattle.std.proofs.Common.{
-  ◌≡◌,
-  ℕ,
-  ◌<◌,
-  ◌≤◌,
-  Bool,
-  false,
-  cond,
-  List,
-  length,
-  get_or,
-  Some,
-  None,
-  sym,
-  ap,
-  subst,
-  le_refl,
-  lt_irrefl,
-}
+use Rattle.std.proofs.Common.{◌≡◌, ℕ, ◌<◌, ◌≤◌, Bool, false, cond, List, length, get_or, Some, None}
+use Rattle.std.proofs.Common.{sym, ap, subst, le_refl, lt_irrefl}
 use Rattle.std.specs.Prelude.{position}
 use Rattle.std.specs.List.{position_or_len}
 use Rattle.std.proofs.lemmas.Bool.{le-ltb}

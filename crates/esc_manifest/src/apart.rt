@@ -6,14 +6,8 @@ ghost use Rattle.std.specs.Prelude.{◌≡◌, ◌<◌, length, not, IfOk, IfSom
 ghost use Rattle.std.specs.List.{list_all};
 ghost use Rattle.esc_envelope.specs.declared.place.Place.{Place};
 ghost use Rattle.esc_manifest.specs.Lookups.{place_in, HavePlaces, is_no_earlier, names_later};
-ghost use Rattle.esc_manifest.specs.RowFaults.{
-  same_revision,
-  moved_id,
-  follows_later,
-  same_digest,
-  first_against_earlier,
-  first_against_any,
-};
+ghost use Rattle.esc_manifest.specs.RowFaults.{same_revision, moved_id, follows_later, same_digest};
+ghost use Rattle.esc_manifest.specs.RowFaults.{first_against_earlier, first_against_any};
 
 use crate::row::MRow;
 use crate::rows::{first_after_later, first_against_earlier};

@@ -1,33 +1,12 @@
 //! The union of two manifests.
 
-ghost use Rattle.std.specs.Prelude.{
-  ◌≡◌,
-  ◌≤◌,
-  ◌<◌,
-  ◌&&◌,
-  ℕ,
-  length,
-  not,
-  position,
-  IfOk,
-  IfSome,
-  Ok,
-  Err,
-  option_map,
-  string_bytes,
-};
+ghost use Rattle.std.specs.Prelude.{◌≡◌, ◌≤◌, ◌<◌, ◌&&◌, ℕ, length, not, position, IfOk, IfSome};
+ghost use Rattle.std.specs.Prelude.{Ok, Err, option_map, string_bytes};
 ghost use Rattle.esc_manifest.specs.declared.fault.MFault.TheVariants as MFault;
 ghost use Rattle.esc_manifest.specs.Accepted.{IsAccepted};
 ghost use Rattle.esc_manifest.specs.LeastFault.{IsLeastOfUnion};
-ghost use Rattle.esc_manifest.specs.Extension.{
-  same_prev,
-  same_row,
-  is_listed,
-  extended,
-  is_blamed,
-  blamed,
-  extension,
-};
+ghost use Rattle.esc_manifest.specs.Extension.{same_prev, same_row, is_listed, extended, is_blamed};
+ghost use Rattle.esc_manifest.specs.Extension.{blamed, extension};
 
 use crate::fault::MFault;
 use crate::manifest::Manifest;

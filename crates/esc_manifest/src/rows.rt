@@ -1,39 +1,17 @@
 //! Making a manifest from typed rows.
 
-ghost use Rattle.std.specs.Prelude.{
-  ◌≡◌,
-  ◌<◌,
-  ◌≤◌,
-  ℕ,
-  length,
-  position,
-  IfSome,
-  take,
-  Some,
-  None,
-  Ok,
-  Err,
-};
+ghost use Rattle.std.specs.Prelude.{◌≡◌, ◌<◌, ◌≤◌, ℕ, length, position, IfSome, take, Some, None};
+ghost use Rattle.std.specs.Prelude.{Ok, Err};
 ghost use Rattle.std.specs.List.{list_any};
 ghost use Rattle.esc_envelope.specs.Id.{is_id};
 ghost use Rattle.esc_manifest.specs.declared.fault.MFault.TheVariants as MFault;
 ghost use Rattle.esc_manifest.specs.Extension.{is_blamed};
 ghost use Rattle.esc_manifest.specs.LeastFault.{IsLeastManifestFault};
 ghost use Rattle.esc_manifest.specs.ManifestRows.{row_at};
-ghost use Rattle.esc_manifest.specs.RowFaults.{
-  has_bad_id,
-  has_bad_watermark,
-  lacks_prev,
-  has_bad_resend,
-  same_place,
-  same_revision,
-  moved_id,
-  follows_later,
-  same_digest,
-  least,
-  first_against_any,
-  rows_fault,
-};
+ghost use Rattle.esc_manifest.specs.RowFaults.{has_bad_id, has_bad_watermark, lacks_prev};
+ghost use Rattle.esc_manifest.specs.RowFaults.{has_bad_resend, same_place, same_revision, moved_id};
+ghost use Rattle.esc_manifest.specs.RowFaults.{follows_later, same_digest, least};
+ghost use Rattle.esc_manifest.specs.RowFaults.{first_against_any, rows_fault};
 
 use crate::apart::{
     after_later, id_in_two_places, places_of_ids, repeated_digest, repeated_revision,

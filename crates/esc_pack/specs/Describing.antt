@@ -1,38 +1,9 @@
 -- Which tables the names of an agent's files stand for, and the description that is proposed of the
 -- files (the CSV model of RFC 9022, and this project's profile).
-use Rattle.std.specs.Prelude.{
-  ◌≡◌,
-  ◌+◌,
-  ℕ,
-  List,
-  [],
-  ◌∷◌,
-  length,
-  map,
-  take,
-  drop,
-  get_or,
-  Bool,
-  true,
-  false,
-  ◌==◌,
-  ◌&&◌,
-  ◌||◌,
-  not,
-  nat_lt,
-  nat_le,
-  slice_index,
-  nat_eq,
-  codes,
-  if◌then◌else◌,
-  Option,
-  Some,
-  None,
-  option_map,
-  filter_map,
-  count_by,
-  Ok,
-}
+use Rattle.std.specs.Prelude.{◌≡◌, ◌+◌, ℕ, List, [], ◌∷◌, length, map, take, drop, get_or, Bool}
+use Rattle.std.specs.Prelude.{true, false, ◌==◌, ◌&&◌, ◌||◌, not, nat_lt, nat_le, slice_index}
+use Rattle.std.specs.Prelude.{nat_eq, codes, if◌then◌else◌, Option, Some, None, option_map}
+use Rattle.std.specs.Prelude.{filter_map, count_by, Ok}
 use Rattle.std.specs.List.{list_all, list_any, find, zip, starts_with}
 use Rattle.std.specs.Str.{bytes_eq, is_utf8}
 use Rattle.esc_csv.specs.Lines.{Line}

@@ -6,32 +6,22 @@ use Rattle.std.specs.Str.{bytes_eq}
 use Rattle.esc_envelope.specs.declared.kind.Kind.{Kind}
 use Rattle.esc_envelope.specs.declared.kind.Kind.TheVariants as kind
 use Rattle.esc_pack.specs.declared.known_table.KnownTable.{KnownTable}
-use Rattle.esc_pack.specs.declared.known_table.KnownTable.TheVariants.{
-  RegistrarDeletes,
-  ContactDeletes,
-  HostDeletes,
-  DomainDeletes,
-  IdnLanguageDeletes,
-  NndnDeletes,
-  Registrar,
-  Contact,
-  ContactPostal,
-  ContactStatuses,
-  ContactTransfer,
-  ContactDisclose,
-  Host,
-  HostAddresses,
-  HostStatuses,
-  Domain,
-  DomainContacts,
-  DomainNameServers,
-  DomainNameServersAddresses,
-  DomainStatuses,
-  DomainTransfer,
-  Dnssec,
-  IdnLanguage,
-  Nndn,
-}
+use Rattle.esc_pack.specs.declared.known_table.KnownTable.TheVariants.{RegistrarDeletes}
+use Rattle.esc_pack.specs.declared.known_table.KnownTable.TheVariants.{ContactDeletes, HostDeletes}
+use Rattle.esc_pack.specs.declared.known_table.KnownTable.TheVariants.{DomainDeletes}
+use Rattle.esc_pack.specs.declared.known_table.KnownTable.TheVariants.{IdnLanguageDeletes}
+use Rattle.esc_pack.specs.declared.known_table.KnownTable.TheVariants.{NndnDeletes, Registrar}
+use Rattle.esc_pack.specs.declared.known_table.KnownTable.TheVariants.{Contact, ContactPostal}
+use Rattle.esc_pack.specs.declared.known_table.KnownTable.TheVariants.{ContactStatuses}
+use Rattle.esc_pack.specs.declared.known_table.KnownTable.TheVariants.{ContactTransfer}
+use Rattle.esc_pack.specs.declared.known_table.KnownTable.TheVariants.{ContactDisclose, Host}
+use Rattle.esc_pack.specs.declared.known_table.KnownTable.TheVariants.{HostAddresses, HostStatuses}
+use Rattle.esc_pack.specs.declared.known_table.KnownTable.TheVariants.{Domain, DomainContacts}
+use Rattle.esc_pack.specs.declared.known_table.KnownTable.TheVariants.{DomainNameServers}
+use Rattle.esc_pack.specs.declared.known_table.KnownTable.TheVariants.{DomainNameServersAddresses}
+use Rattle.esc_pack.specs.declared.known_table.KnownTable.TheVariants.{DomainStatuses}
+use Rattle.esc_pack.specs.declared.known_table.KnownTable.TheVariants.{DomainTransfer, Dnssec}
+use Rattle.esc_pack.specs.declared.known_table.KnownTable.TheVariants.{IdnLanguage, Nndn}
 
 -- those of deletes
 unfoldable pub deletes_tables : List KnownTable

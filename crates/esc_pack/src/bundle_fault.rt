@@ -1,9 +1,7 @@
 //! Why no bundle is made of an agent's files.
 
 ghost use Rattle.std.specs.Prelude.{◌≡◌};
-ghost use Rattle.esc_pack.specs.declared.bundle_fault.BundleFault.TheVariants.{
-  NoMemory as no_memory,
-};
+ghost use Rattle.esc_pack.specs.declared.bundle_fault.BundleFault.TheVariants.{NoMemory as no_memory};
 ghost use Rattle.esc_pack.specs.BundleRefusals.{of_fault};
 
 use esc_bundle::{Fault, NoMemory};

@@ -3,21 +3,10 @@
 ghost use Rattle.std.specs.Prelude.{◌≡◌, IfOk, map, filter_map, option_map, string_bytes};
 ghost use Rattle.std.specs.List.{list_all, zip};
 ghost use Rattle.std.specs.Str.{bytes_eq};
-ghost use Rattle.esc_pack.specs.Describing.{
-  heading_in,
-  table_fields,
-  are_same,
-  has_fields,
-  name_in,
-  draft_of,
-  is_declared_draft,
-  is_filed,
-  are_proposed,
-  why_apart,
-  why_of,
-  unknown_of,
-  table_named,
-};
+ghost use Rattle.esc_pack.specs.Describing.{heading_in, table_fields, are_same, has_fields};
+ghost use Rattle.esc_pack.specs.Describing.{name_in, draft_of, is_declared_draft, is_filed};
+ghost use Rattle.esc_pack.specs.Describing.{are_proposed, why_apart, why_of, unknown_of};
+ghost use Rattle.esc_pack.specs.Describing.{table_named};
 
 use crate::describe::table_named;
 use crate::heading::{Fields, first_heading, heading_in};

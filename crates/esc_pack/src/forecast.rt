@@ -5,7 +5,8 @@ ghost use Rattle.std.specs.List.{list_all, list_any};
 ghost use Rattle.esc_tables.specs.Reading.{reading};
 ghost use Rattle.esc_manifest.specs.Listed.{as_listed};
 ghost use Rattle.esc_pack.specs.Forecasts.{said, row_forecast, forecast, is_at_row};
-ghost use Rattle.esc_pack.specs.Forecasts.{forecast_listed_row, forecast_held_row, members, differs};
+ghost use Rattle.esc_pack.specs.Forecasts.{forecast_listed_row, forecast_held_row, members};
+ghost use Rattle.esc_pack.specs.Forecasts.{differs};
 
 use crate::member::Member;
 use esc_bundle::{Fault, NoMemory};

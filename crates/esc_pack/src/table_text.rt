@@ -48,10 +48,10 @@ fn write_record(alloc: Global, lines: &mut Lines, line: &Record) -> Result<(), N
 }
 
 // Whether a record has so many fields, all of them UTF-8.
-fn is_row(record: &Record, width: usize) -> bool
-    ensures { result ≡ is_table_row width record.now }
+fn is_row(line: &Record, width: usize) -> bool
+    ensures { result ≡ is_table_row width line.now }
 {
-    record.len() == width && record.is_text()
+    line.len() == width && line.is_text()
 }
 
 // Writes the rows that are left, each of which has so many fields, all of them UTF-8. There are

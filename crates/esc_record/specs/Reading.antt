@@ -1,21 +1,6 @@
 -- Reading a record from the front of a list of bytes. Each text has to pass a test.
-use Rattle.std.specs.Prelude.{
-  ℕ,
-  zero,
-  suc,
-  Bool,
-  nat_lt,
-  if◌then◌else◌,
-  List,
-  [],
-  ◌∷◌,
-  length,
-  take,
-  drop,
-  Option,
-  None,
-  Some,
-}
+use Rattle.std.specs.Prelude.{ℕ, zero, suc, Bool, nat_lt, if◌then◌else◌, List, [], ◌∷◌, length}
+use Rattle.std.specs.Prelude.{take, drop, Option, None, Some}
 use Rattle.std.specs.Int.{from_be_bytes, w32}
 use Rattle.esc_envelope.specs.Sequences.{◌>>=◌}
 use Rattle.esc_tables.specs.ObjectValue.{RowValue, ObjectValue}

@@ -1,30 +1,12 @@
 //! Reading a record.
 
-ghost use Rattle.std.specs.Prelude.{
-  ◌≡◌,
-  ◌≢◌,
-  Some,
-  None,
-  if◌then◌else◌,
-  option_map,
-  map,
-  IfOk,
-  IfSome,
-  IfNone,
-};
+ghost use Rattle.std.specs.Prelude.{◌≡◌, ◌≢◌, Some, None, if◌then◌else◌, option_map, map, IfOk};
+ghost use Rattle.std.specs.Prelude.{IfSome, IfNone};
 ghost use Rattle.std.specs.Str.{is_utf8};
 ghost use Rattle.esc_tables.specs.ObjectValue.{ObjectValue};
 ghost use Rattle.esc_record.specs.Record.{record_of, IsOfTexts};
-ghost use Rattle.esc_record.specs.Reading.{
-  cut,
-  number_in_front,
-  text_in_front,
-  cell_in_front,
-  row_in_front,
-  many,
-  object_of_record,
-  of_rows,
-};
+ghost use Rattle.esc_record.specs.Reading.{cut, number_in_front, text_in_front, cell_in_front};
+ghost use Rattle.esc_record.specs.Reading.{row_in_front, many, object_of_record, of_rows};
 
 use esc_bundle::NoMemory;
 use esc_tables::{Object, Row};

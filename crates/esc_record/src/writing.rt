@@ -2,18 +2,9 @@
 
 ghost use Rattle.std.specs.Prelude.{◌≡◌, option_map, IfOk, length};
 ghost use Rattle.std.specs.List.{list_all, flat_map};
-ghost use Rattle.esc_record.specs.Record.{
-  number_bytes,
-  text_bytes,
-  cell_bytes,
-  row_bytes,
-  object_bytes,
-  is_small,
-  is_small_cell,
-  is_small_row,
-  is_small_object,
-  record_of,
-};
+ghost use Rattle.esc_record.specs.Record.{number_bytes, text_bytes, cell_bytes, row_bytes};
+ghost use Rattle.esc_record.specs.Record.{object_bytes, is_small, is_small_cell, is_small_row};
+ghost use Rattle.esc_record.specs.Record.{is_small_object, record_of};
 ghost use Rattle.esc_record.specs.Writing.{Pushes};
 
 use esc_bundle::NoMemory;

@@ -13,13 +13,8 @@ ghost use Rattle.esc_desk.specs.Crashes.{IsStoreFor};
 ghost use Rattle.esc_events.specs.ArrivalValue.{ArrivalValue};
 ghost use Rattle.esc_events.specs.Events.{EventValue};
 ghost use Rattle.esc_recovery.specs.Blank.{LeavesBlankOr, DeskLeavesBlankOr};
-ghost use Rattle.esc_recovery.specs.Opened.{
-  IsFirstStoreFor,
-  IsNewOn,
-  IsOpenedOn,
-  IsMigratedOn,
-  DeskLeavesFirstOr,
-};
+ghost use Rattle.esc_recovery.specs.Opened.{IsFirstStoreFor, IsNewOn, IsOpenedOn, IsMigratedOn};
+ghost use Rattle.esc_recovery.specs.Opened.{DeskLeavesFirstOr};
 
 use esc_desk::{Desk, SFault, migrated_store_serves, new_store_stands_for_its_manifest};
 use esc_manifest::Manifest;

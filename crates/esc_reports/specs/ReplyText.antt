@@ -1,18 +1,8 @@
 -- A reply as JSON (RFC 8259, and this project's profile): an object of eight members in the order
 -- of their names, without white space.
 use Rattle.std.specs.Prelude.{ℕ, List, Bool, Option, Some, None, codes}
-use Rattle.serde_json.specs.Data.{
-  Data,
-  Members,
-  object,
-  member,
-  no_members,
-  put,
-  string,
-  number as numeral,
-  unsigned,
-  null,
-}
+use Rattle.serde_json.specs.Data.{Data, Members, object, member, no_members, put, string}
+use Rattle.serde_json.specs.Data.{number as numeral, unsigned, null}
 use Rattle.serde_json.specs.Written.{compact_text}
 use Rattle.esc_store.specs.ReplyValue.{ReplyValue}
 use Rattle.esc_reports.specs.Words.{verdict_word, copy_word, verdict_fault}

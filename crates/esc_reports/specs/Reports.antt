@@ -23,15 +23,8 @@ use Rattle.esc_events.specs.LatestTables.{AreEntries}
 use Rattle.esc_desk.specs.Reads.{replies_of, IsEndOfChain, IsStatus}
 use Rattle.esc_events.specs.StateAfter.{held_body, parked_body}
 use Rattle.esc_reports.specs.declared.catalog.Report.{Report}
-use Rattle.esc_reports.specs.declared.catalog.Report.TheVariants.{
-  Status,
-  Gaps,
-  Links,
-  Receipts,
-  Parked,
-  Moment,
-  Export,
-}
+use Rattle.esc_reports.specs.declared.catalog.Report.TheVariants.{Status, Gaps, Links, Receipts}
+use Rattle.esc_reports.specs.declared.catalog.Report.TheVariants.{Parked, Moment, Export}
 use Rattle.esc_reports.specs.GapsText.{IsGapsReport}
 use Rattle.esc_reports.specs.LinksText.{links_text}
 use Rattle.esc_reports.specs.MomentText.{moment_line}

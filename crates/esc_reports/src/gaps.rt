@@ -1,26 +1,12 @@
 //! The report of gaps.
 
-ghost use Rattle.std.specs.Prelude.{
-  ◌≡◌,
-  ◌∷◌,
-  [],
-  ◌++◌,
-  IfOk,
-  IfErr,
-  OnOk,
-  string_bytes,
-  option_map,
-};
+ghost use Rattle.std.specs.Prelude.{◌≡◌, ◌∷◌, [], ◌++◌, IfOk, IfErr, OnOk, string_bytes};
+ghost use Rattle.std.specs.Prelude.{option_map};
 ghost use Rattle.esc_chain.specs.GapTexts.{state_text, blocker_text};
 ghost use Rattle.esc_csv.specs.Lines.{line_text};
 ghost use Rattle.esc_store.specs.Faults.{IsS1OrS2};
-ghost use Rattle.esc_reports.specs.GapsText.{
-  gaps_heading,
-  gap_line,
-  gap_lines_text,
-  gaps_text,
-  IsGapsReport,
-};
+ghost use Rattle.esc_reports.specs.GapsText.{gaps_heading, gap_line, gap_lines_text, gaps_text};
+ghost use Rattle.esc_reports.specs.GapsText.{IsGapsReport};
 ghost use Rattle.esc_reports.specs.ReceiptsText.{or_empty};
 
 use crate::receipts::resend_text;

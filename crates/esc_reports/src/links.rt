@@ -2,13 +2,8 @@
 
 ghost use Rattle.std.specs.Prelude.{◌≡◌, ◌∷◌, [], ◌++◌, IfOk, OnOk, string_bytes};
 ghost use Rattle.esc_csv.specs.Lines.{line_text};
-ghost use Rattle.esc_reports.specs.LinksText.{
-  code_text,
-  links_heading,
-  finding_line,
-  findings_text,
-  links_text,
-};
+ghost use Rattle.esc_reports.specs.LinksText.{code_text, links_heading, finding_line};
+ghost use Rattle.esc_reports.specs.LinksText.{findings_text, links_text};
 
 use esc_bundle::NoMemory;
 use esc_check::Finding;

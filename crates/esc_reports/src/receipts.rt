@@ -3,13 +3,8 @@
 ghost use Rattle.std.specs.Prelude.{◌≡◌, ◌∷◌, [], ◌++◌, IfOk, OnOk, string_bytes, option_map};
 ghost use Rattle.std.specs.Fmt.{decimal};
 ghost use Rattle.esc_csv.specs.Lines.{line_text};
-ghost use Rattle.esc_reports.specs.ReceiptsText.{
-  or_empty,
-  receipts_heading,
-  receipt_line,
-  replies_text,
-  receipts_text,
-};
+ghost use Rattle.esc_reports.specs.ReceiptsText.{or_empty, receipts_heading, receipt_line};
+ghost use Rattle.esc_reports.specs.ReceiptsText.{replies_text, receipts_text};
 ghost use Rattle.esc_reports.specs.Words.{copy_word};
 
 use crate::words::{copy_word, fault_of, verdict_word};

@@ -2,16 +2,8 @@
 
 ghost use Rattle.std.specs.Prelude.{◌≡◌, IfOk, OnOk, string_bytes, option_map};
 ghost use Rattle.serde_json.specs.View.{view, members_view};
-ghost use Rattle.esc_reports.specs.ReplyText.{
-  text_data,
-  number_data,
-  copy_data,
-  with_reply,
-  with_row,
-  with_holding,
-  reply_data,
-  reply_text,
-};
+ghost use Rattle.esc_reports.specs.ReplyText.{text_data, number_data, copy_data, with_reply};
+ghost use Rattle.esc_reports.specs.ReplyText.{with_row, with_holding, reply_data, reply_text};
 ghost use Rattle.esc_reports.specs.Words.{verdict_fault};
 
 use crate::words::{copy_word, fault_of, verdict_word};

@@ -2,14 +2,8 @@
 
 ghost use Rattle.std.specs.Prelude.{◌≡◌, ◌++◌, IfOk, IfErr, OnOk, string_bytes};
 ghost use Rattle.esc_store.specs.Faults.{IsS1OrS2};
-ghost use Rattle.esc_reports.specs.StatusText.{
-  number_line,
-  end_text,
-  end_line,
-  objects_text,
-  counts_text,
-  status_text,
-};
+ghost use Rattle.esc_reports.specs.StatusText.{number_line, end_text, end_line, objects_text};
+ghost use Rattle.esc_reports.specs.StatusText.{counts_text, status_text};
 
 use crate::watermark::printed_watermark;
 use esc_bundle::NoMemory;

@@ -1,5 +1,5 @@
 -- A buffer whose front was there before the rest was read.
-use Rattle.std.proofs.Common.{◌≡◌, ℕ, ◌≤◌, List, ◌++◌, length, take, ◌<◌, [], ◌∷◌, sym, ◌∙◌, ap, subst, refl, arith, le_refl, inl, inr, min, Option, Some, None, IfSome}
+use Rattle.std.proofs.Common.{◌≡◌, ℕ, ◌≤◌, List, ◌++◌, length, take, [], ◌∷◌, sym, ◌∙◌, ap, subst, refl, arith, le_refl, inl, inr, min, Option, Some, None, IfSome}
 use Rattle.std.specs.Io.KnownBytes.{Consumes, prepend_known}
 use Rattle.std.proofs.lemmas.List.{length-take-le, length-take, length-append, take-append-le, take-take}
 use Rattle.std.proofs.lemmas.Bool.{cases_lt}

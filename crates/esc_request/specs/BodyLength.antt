@@ -1,30 +1,15 @@
 -- How long the body of a request is, by its header lines (RFC 9112, section 6, within this
 -- project's profile).
-use Rattle.std.specs.Prelude.{
-  ℕ,
-  List,
-  [],
-  ◌∷◌,
-  Bool,
-  if◌then◌else◌,
-  ◌&&◌,
-  nat_lt,
-  nat_le,
-  length,
-  codes,
-}
+use Rattle.std.specs.Prelude.{ℕ, List, [], ◌∷◌, Bool, if◌then◌else◌, ◌&&◌, nat_lt, nat_le, length}
+use Rattle.std.specs.Prelude.{codes}
 use Rattle.std.specs.List.{list_any, list_all, filter}
 use Rattle.std.specs.Char.{is_ascii_digit}
 use Rattle.std.specs.Str.{str_eq_ignore_ascii_case}
 use Rattle.std.specs.Str.Parse.{digits_value}
 use Rattle.esc_bundle.specs.Bundle.{limit}
 use Rattle.esc_request.specs.declared.length.BodyLength.{BodyLength}
-use Rattle.esc_request.specs.declared.length.BodyLength.TheVariants.{
-  Bytes,
-  Missing,
-  Malformed,
-  TooLong,
-}
+use Rattle.esc_request.specs.declared.length.BodyLength.TheVariants.{Bytes, Missing, Malformed}
+use Rattle.esc_request.specs.declared.length.BodyLength.TheVariants.{TooLong}
 
 -- a header line: its name, and its value without the white space around it
 abbrev pub HeaderLine : Type 0

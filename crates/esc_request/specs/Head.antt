@@ -1,12 +1,7 @@
 -- The head of a request: RFC 9112's, in the grammar of httparse, within this project's limits.
 use Rattle.std.specs.Prelude.{ℕ, ◌≤◌, List, length, drop}
-use Rattle.httparse.specs.Grammar.{
-  RequestHead,
-  ReadsRequest,
-  HasNoRequest,
-  MayBecomeRequest,
-  print_request,
-}
+use Rattle.httparse.specs.Grammar.{RequestHead, ReadsRequest, HasNoRequest, MayBecomeRequest}
+use Rattle.httparse.specs.Grammar.{print_request}
 use Rattle.httparse.specs.Spans.{IsRequestAt}
 use Rattle.httparse.specs.declared.spans.HeaderSpan.{HeaderSpan}
 use Rattle.httparse.specs.declared.spans.RequestSpans.{RequestSpans}

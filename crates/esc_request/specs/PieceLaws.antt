@@ -1,6 +1,8 @@
 -- Laws of what was read piece by piece.
-use Rattle.std.proofs.Common.{◌≡◌, ℕ, ◌<◌, List, [], ◌∷◌, ◌++◌, length, take, refl, sym, ◌∙◌, ap, subst, append_assoc, append-nil, Option, Some, None, Ok, Err}
-use Rattle.esc_request.specs.Pieces.{Pieces, AddsPiece, AddsPieces, with_pieces, AreAwaited, ReadsWhile}
+use Rattle.std.proofs.Common.{◌≡◌, ℕ, List, [], ◌∷◌, ◌++◌, take, refl, sym, ◌∙◌, ap, subst}
+use Rattle.std.proofs.Common.{append_assoc, append-nil, Some, None, Ok, Err}
+use Rattle.esc_request.specs.Pieces.{Pieces, AddsPiece, AddsPieces, with_pieces, AreAwaited}
+use Rattle.esc_request.specs.Pieces.{ReadsWhile}
 
 adds_none : (p : Pieces) → AddsPieces p p []
 adds_none None = tt

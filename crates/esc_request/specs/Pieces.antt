@@ -1,19 +1,6 @@
 -- The pieces in which the bytes of a source come, one for each read.
-use Rattle.std.specs.Prelude.{
-  ◌≡◌,
-  ℕ,
-  List,
-  [],
-  ◌∷◌,
-  ◌++◌,
-  take,
-  ⊤,
-  Option,
-  Some,
-  None,
-  Result,
-  MatchResult,
-}
+use Rattle.std.specs.Prelude.{◌≡◌, ℕ, List, [], ◌∷◌, ◌++◌, take, ⊤, Option, Some, None, Result}
+use Rattle.std.specs.Prelude.{MatchResult}
 
 -- the pieces that came so far, where they are known
 abbrev pub Pieces : Type 0

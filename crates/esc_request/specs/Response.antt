@@ -3,15 +3,9 @@
 use Rattle.std.specs.Prelude.{ℕ, List, [], ◌++◌, length, codes}
 use Rattle.std.specs.Fmt.{decimal}
 use Rattle.esc_request.specs.declared.refusal.Refusal.{Refusal}
-use Rattle.esc_request.specs.declared.refusal.Refusal.TheVariants.{
-  BadRequest,
-  NotFound,
-  PutOnly,
-  GetOnly,
-  BadNumber,
-  LengthRequired,
-  TooLarge,
-}
+use Rattle.esc_request.specs.declared.refusal.Refusal.TheVariants.{BadRequest, NotFound, PutOnly}
+use Rattle.esc_request.specs.declared.refusal.Refusal.TheVariants.{GetOnly, BadNumber}
+use Rattle.esc_request.specs.declared.refusal.Refusal.TheVariants.{LengthRequired, TooLarge}
 
 -- the end of a line
 abbrev pub crlf : List ℕ

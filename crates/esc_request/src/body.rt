@@ -1,18 +1,7 @@
 //! The body of a request, in one buffer of its length.
 
-ghost use Rattle.std.specs.Prelude.{
-  ◌≡◌,
-  ℕ,
-  ◌≤◌,
-  ◌<◌,
-  List,
-  length,
-  take,
-  IfOk,
-  IfSome,
-  IsTrue,
-  OnErr,
-};
+ghost use Rattle.std.specs.Prelude.{◌≡◌, ℕ, ◌≤◌, ◌<◌, List, length, take, IfOk, IfSome, IsTrue};
+ghost use Rattle.std.specs.Prelude.{OnErr};
 ghost use Rattle.std.specs.Bool.{OnTrue, OnFalse};
 ghost use Rattle.std.specs.Io.KnownBytes.{Consumes, prepend_known};
 ghost use Rattle.esc_request.specs.Body.{IsBody, IsShorter};

@@ -1,19 +1,7 @@
 //! The head of a request, from a reader that returns it in any pieces.
 
-ghost use Rattle.std.specs.Prelude.{
-  ◌≡◌,
-  ℕ,
-  ◌≤◌,
-  List,
-  [],
-  length,
-  take,
-  IfOk,
-  IfSome,
-  IfNone,
-  IsTrue,
-  OnErr,
-};
+ghost use Rattle.std.specs.Prelude.{◌≡◌, ℕ, ◌≤◌, List, [], length, take, IfOk, IfSome, IfNone};
+ghost use Rattle.std.specs.Prelude.{IsTrue, OnErr};
 ghost use Rattle.std.specs.Io.KnownBytes.{Consumes};
 ghost use Rattle.httparse.specs.Spans.{IsRequestWithin};
 ghost use Rattle.esc_request.specs.Head.{HasNoHead, IsUnfinished, ShowsHead};

@@ -3,14 +3,8 @@
 ghost use Rattle.std.specs.Prelude.{◌≡◌, ◌≤◌, ◌<◌, ◌+◌, ◌-◌, ◌*◌, length, map, All};
 ghost use Rattle.std.specs.List.{list_any, filter};
 ghost use Rattle.httparse.specs.Spans.{IsHeaderWithin, header_bytes};
-ghost use Rattle.esc_request.specs.BodyLength.{
-  is_header_named,
-  Values,
-  values_of,
-  value_after,
-  length_of_value,
-  body_length,
-};
+ghost use Rattle.esc_request.specs.BodyLength.{is_header_named, Values, values_of, value_after};
+ghost use Rattle.esc_request.specs.BodyLength.{length_of_value, body_length};
 ghost use Rattle.esc_request.specs.Seen.{values_seen};
 
 use esc_bundle::MOST_BYTES;

@@ -1,12 +1,8 @@
 //! The texts of responses. Each function returns `None` out of memory.
 
 ghost use Rattle.std.specs.Prelude.{◌≡◌, IfOk, IfSome, string_bytes};
-ghost use Rattle.esc_request.specs.Response.{
-  response_head,
-  response,
-  refusal_response,
-  out_of_memory,
-};
+ghost use Rattle.esc_request.specs.Response.{response_head, response, refusal_response};
+ghost use Rattle.esc_request.specs.Response.{out_of_memory};
 
 use crate::refusal::Refusal;
 use std::alloc::{AllocError, Global};

@@ -4,21 +4,8 @@
 //! two traits of its own, which report it. Every reader and writer of std implements them, without
 //! reporting a failure.
 
-ghost use Rattle.std.specs.Prelude.{
-  ℕ,
-  ◌≤◌,
-  ◌<◌,
-  List,
-  length,
-  Option,
-  None,
-  Bool,
-  true,
-  IfOk,
-  IsTrue,
-  OnOk,
-  OnErr,
-};
+ghost use Rattle.std.specs.Prelude.{ℕ, ◌≤◌, ◌<◌, List, length, Option, None, Bool, true, IfOk};
+ghost use Rattle.std.specs.Prelude.{IsTrue, OnOk, OnErr};
 ghost use Rattle.std.specs.Io.KnownBytes.{ReadConsumes, WriteAppends, Keeps};
 ghost use Rattle.esc_request.specs.Pieces.{Pieces, AddsPiece};
 

@@ -1,19 +1,6 @@
 -- What a scan of a table gives, and what a read by scans says of a store's content.
-use Rattle.std.specs.Prelude.{
-  ◌≡◌,
-  Bool,
-  true,
-  false,
-  List,
-  [],
-  ◌∷◌,
-  Option,
-  Some,
-  None,
-  Result,
-  IfOk,
-  unwrap_or,
-}
+use Rattle.std.specs.Prelude.{◌≡◌, Bool, true, false, List, [], ◌∷◌, Option, Some, None, Result}
+use Rattle.std.specs.Prelude.{IfOk, unwrap_or}
 use Rattle.sqlite_value.specs.Order.{Row}
 use Rattle.sqlite_trees.specs.View.{View, IsClean, IsQuiet}
 use Rattle.sqlite_trees.specs.declared.store.Store.{Ghosts}

@@ -5,59 +5,17 @@ use Rattle.std.specs.Ordering.{nat_cmp, ordering_then, is_le, is_ge}
 use Rattle.std.specs.declared.cmp.Ordering.{Ordering}
 use Rattle.std.specs.declared.cmp.Ordering.TheVariants.{Less}
 use Rattle.std.specs.Cmp.Lexicographic.{slice_cmp}
-use Rattle.std.specs.Prelude.{
-  ◌≡◌,
-  ◌<◌,
-  ltb,
-  ◌==◌,
-  ◌&&◌,
-  ℕ,
-  pos,
-  false,
-  List,
-  [],
-  ◌∷◌,
-  ◌++◌,
-  map,
-  filter,
-  find,
-  length,
-  take,
-  Bool,
-  true,
-  Option,
-  Some,
-  None,
-  option_map,
-  bytes_eq,
-  is_some,
-  if◌then◌else◌,
-  IsPermutation,
-  IsSorted,
-}
+use Rattle.std.specs.Prelude.{◌≡◌, ◌<◌, ltb, ◌==◌, ◌&&◌, ℕ, pos, false, List, [], ◌∷◌, ◌++◌, map}
+use Rattle.std.specs.Prelude.{filter, find, length, take, Bool, true, Option, Some, None}
+use Rattle.std.specs.Prelude.{option_map, bytes_eq, is_some, if◌then◌else◌, IsPermutation, IsSorted}
 use Rattle.sqlite.specs.Effect.{Database}
 use Rattle.sqlite_trees.specs.Tree.{IsAscending}
 use Rattle.sqlite_keyed.specs.Keyed.{has_key, insert_by, get_by}
 use Rattle.sqlite_keyed.specs.Lists.{sort_by}
-use Rattle.esc_sql.specs.Rows.{
-  ListedRow,
-  ReceiptRow,
-  HeldRow,
-  StepRow,
-  ObjectRow,
-  UndoRow,
-  listed_number,
-  held_number,
-}
-use Rattle.esc_sql.specs.Content.{
-  Content,
-  HoldsContent,
-  object_at,
-  image_at,
-  is_object_at,
-  is_same_key,
-  is_same_image,
-}
+use Rattle.esc_sql.specs.Rows.{ListedRow, ReceiptRow, HeldRow, StepRow, ObjectRow, UndoRow}
+use Rattle.esc_sql.specs.Rows.{listed_number, held_number}
+use Rattle.esc_sql.specs.Content.{Content, HoldsContent, object_at, image_at, is_object_at}
+use Rattle.esc_sql.specs.Content.{is_same_key, is_same_image}
 
 -- if the database was a store with some content, it is then a store with the changed content
 abbrev pub Becomes : (Content → Content) → Database → Database → Type 0

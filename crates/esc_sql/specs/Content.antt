@@ -1,24 +1,6 @@
 -- What a store holds, as typed rows.
-use Rattle.std.specs.Prelude.{
-  ◌≡◌,
-  ◌==◌,
-  ◌&&◌,
-  ℕ,
-  ℤ,
-  pos,
-  negsuc,
-  Bool,
-  List,
-  [],
-  ◌∷◌,
-  map,
-  find,
-  Option,
-  Some,
-  None,
-  option_map,
-  bytes_eq,
-}
+use Rattle.std.specs.Prelude.{◌≡◌, ◌==◌, ◌&&◌, ℕ, ℤ, pos, negsuc, Bool, List, [], ◌∷◌, map, find}
+use Rattle.std.specs.Prelude.{Option, Some, None, option_map, bytes_eq}
 use Rattle.sqlite_value.specs.declared.value.Value.{Value}
 use Rattle.sqlite_value.specs.declared.value.Value.TheVariants.{Null, Int, Real, Text, Blob}
 use Rattle.sqlite_value.specs.Order.{Row, column}
@@ -26,44 +8,12 @@ use Rattle.sqlite_trees.specs.Tree.{Trees}
 use Rattle.sqlite.specs.Effect.{Database}
 use Rattle.sqlite_catalog.specs.Listing.{IsSound}
 use Rattle.sqlite_keyed.specs.Keyed.{IsKeyedBy}
-use Rattle.esc_sql.specs.Schema.{
-  store_schema,
-  info_tree,
-  listed_tree,
-  receipt_tree,
-  held_tree,
-  step_tree,
-  object_tree,
-  undo_tree,
-  parked_tree,
-  moment_tree,
-}
-use Rattle.esc_sql.specs.Rows.{
-  ListedRow,
-  ReceiptRow,
-  HeldRow,
-  StepRow,
-  ObjectRow,
-  UndoRow,
-  ParkedRow,
-  MomentRow,
-  info_row,
-}
-use Rattle.esc_sql.specs.StoreTable.{
-  StoreTable,
-  Listed,
-  Receipts,
-  Held,
-  Steps,
-  Objects,
-  Undo,
-  Parked,
-  Moment,
-  RowOf,
-  tree_of,
-  row_number,
-  stored_row,
-}
+use Rattle.esc_sql.specs.Schema.{store_schema, info_tree, listed_tree, receipt_tree, held_tree}
+use Rattle.esc_sql.specs.Schema.{step_tree, object_tree, undo_tree, parked_tree, moment_tree}
+use Rattle.esc_sql.specs.Rows.{ListedRow, ReceiptRow, HeldRow, StepRow, ObjectRow, UndoRow}
+use Rattle.esc_sql.specs.Rows.{ParkedRow, MomentRow, info_row}
+use Rattle.esc_sql.specs.StoreTable.{StoreTable, Listed, Receipts, Held, Steps, Objects, Undo}
+use Rattle.esc_sql.specs.StoreTable.{Parked, Moment, RowOf, tree_of, row_number, stored_row}
 
 -- the rows of the eight tables after `info`
 pub record Content : Type 0 where

@@ -4,45 +4,13 @@ use Rattle.std.proofs.Common.{ap, ◌∙◌}
 use Rattle.sqlite_value.specs.Order.{Row}
 use Rattle.sqlite_trees.specs.Tree.{Trees}
 use Rattle.esc_sql.specs.Schema.{object_tree, undo_tree, parked_tree, moment_tree}
-use Rattle.esc_sql.specs.Rows.{
-  ListedRow,
-  ReceiptRow,
-  UndoRow,
-  number_or_null,
-  text_or_null,
-  blob_or_null,
-}
-use Rattle.esc_sql.specs.StoreTable.{
-  StoreTable,
-  Listed,
-  Receipts,
-  Held,
-  Steps,
-  Objects,
-  Undo,
-  Parked,
-  Moment,
-  RowOf,
-  tree_of,
-  stored_row,
-}
-use Rattle.esc_sql.specs.Content.{
-  Content,
-  HoldsRows,
-  rows_of,
-  content_in,
-  listed_in,
-  receipt_in,
-  held_in,
-  step_in,
-  object_in,
-  undo_in,
-  parked_in,
-  moment_in,
-  number_in,
-  bytes_in,
-  unless_null,
-}
+use Rattle.esc_sql.specs.Rows.{ListedRow, ReceiptRow, UndoRow, number_or_null, text_or_null}
+use Rattle.esc_sql.specs.Rows.{blob_or_null}
+use Rattle.esc_sql.specs.StoreTable.{StoreTable, Listed, Receipts, Held, Steps, Objects, Undo}
+use Rattle.esc_sql.specs.StoreTable.{Parked, Moment, RowOf, tree_of, stored_row}
+use Rattle.esc_sql.specs.Content.{Content, HoldsRows, rows_of, content_in, listed_in, receipt_in}
+use Rattle.esc_sql.specs.Content.{held_in, step_in, object_in, undo_in, parked_in, moment_in}
+use Rattle.esc_sql.specs.Content.{number_in, bytes_in, unless_null}
 
 number_back : (o : Option ℕ) → unless_null number_in (number_or_null o) ≡ o
 number_back None = refl

@@ -5,13 +5,7 @@ use Rattle.sqlite_schema.specs.declared.schema.Table.{Table}
 use Rattle.sqlite_trees.specs.Tree.{Trees}
 use Rattle.sqlite.specs.Effect.{Database}
 use Rattle.sqlite_catalog.specs.Listing.{IsSound}
-use Rattle.esc_sql.specs.Schema.{
-  schema_of,
-  store_schema,
-  first_schema,
-  info_tree,
-  info_table,
-}
+use Rattle.esc_sql.specs.Schema.{schema_of, store_schema, first_schema, info_tree, info_table}
 use Rattle.esc_sql.specs.Rows.{first_info_row}
 use Rattle.esc_sql.specs.StoreTable.{StoreTable, table_index, tree_of, stored_row}
 use Rattle.esc_sql.specs.Content.{Content, IsInOrder, HoldsContent, rows_of, content_in}

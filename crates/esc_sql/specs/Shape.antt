@@ -1,22 +1,6 @@
 -- The parts of a schema that rows of data describe.
-use Rattle.std.specs.Prelude.{
-  ◌≡◌,
-  ◌≤◌,
-  ℕ,
-  Bool,
-  true,
-  false,
-  pos,
-  List,
-  [],
-  ◌∷◌,
-  length,
-  map,
-  slice_index_or,
-  Option,
-  Some,
-  None,
-}
+use Rattle.std.specs.Prelude.{◌≡◌, ◌≤◌, ℕ, Bool, true, false, pos, List, [], ◌∷◌, length, map}
+use Rattle.std.specs.Prelude.{slice_index_or, Option, Some, None}
 use Rattle.sqlite_value.specs.declared.keys.Collation.TheVariants.{Binary as binary}
 use Rattle.sqlite_value.specs.declared.value.Value.TheVariants.{Null, Int}
 use Rattle.sqlite_sql.specs.declared.ops.BinaryOp.TheVariants.{Compare}
@@ -28,15 +12,8 @@ use Rattle.sqlite_schema.specs.declared.schema.Column.{Column as TableColumn}
 use Rattle.sqlite_schema.specs.declared.schema.Reference.{Reference}
 use Rattle.sqlite_schema.specs.declared.schema.Table.{Table}
 use Rattle.sqlite_schema.specs.declared.schema.Index.{Index}
-use Rattle.esc_sql.specs.Schema.{
-  rising,
-  required,
-  optional,
-  refers_to,
-  first_is_one,
-  no_stamps,
-  automatic,
-}
+use Rattle.esc_sql.specs.Schema.{rising, required, optional, refers_to, first_is_one, no_stamps}
+use Rattle.esc_sql.specs.Schema.{automatic}
 use Rattle.esc_sql.specs.declared.shape.ColumnShape.{ColumnShape}
 use Rattle.esc_sql.specs.declared.shape.ColumnShape.TheVariants.{Required, Optional}
 use Rattle.esc_sql.specs.declared.shape.ReferenceShape.{ReferenceShape}

@@ -1,22 +1,6 @@
 -- What each single statement does; the calls of this crate are made of these.
-use Rattle.std.specs.Prelude.{
-  ◌≤◌,
-  ◌≡◌,
-  ◌==◌,
-  ℕ,
-  pos,
-  List,
-  [],
-  ◌∷◌,
-  map,
-  filter,
-  find,
-  length,
-  take,
-  reverse,
-  IsPermutation,
-  IsSorted,
-}
+use Rattle.std.specs.Prelude.{◌≤◌, ◌≡◌, ◌==◌, ℕ, pos, List, [], ◌∷◌, map, filter, find, length}
+use Rattle.std.specs.Prelude.{take, reverse, IsPermutation, IsSorted}
 use Rattle.std.specs.Option.{option_to_list}
 use Rattle.sqlite_value.specs.declared.value.Value.{Value}
 use Rattle.sqlite_value.specs.declared.value.Value.TheVariants.{Int, Blob}
@@ -25,27 +9,11 @@ use Rattle.esc_sql.specs.Schema.{info_tree, IsOfSomeVersion}
 use Rattle.sqlite.specs.Effect.{Database}
 use Rattle.sqlite_keyed.specs.Keyed.{get_by}
 use Rattle.sqlite_keyed.specs.Lists.{update_where, sort_by}
-use Rattle.esc_sql.specs.Rows.{
-  ReceiptRow,
-  HeldRow,
-  ObjectRow,
-  UndoRow,
-  held_number,
-  number_or_null,
-  blob_or_null,
-  shown_listed,
-  shown_receipt,
-  shown_step,
-}
+use Rattle.esc_sql.specs.Rows.{ReceiptRow, HeldRow, ObjectRow, UndoRow, held_number, number_or_null}
+use Rattle.esc_sql.specs.Rows.{blob_or_null, shown_listed, shown_receipt, shown_step}
 use Rattle.esc_sql.specs.Content.{Content, HoldsContent, is_object_at}
-use Rattle.esc_sql.specs.Changes.{
-  by_key,
-  by_image,
-  is_kind_from,
-  is_receipt_of,
-  is_of_verdict,
-  verdict_digests,
-}
+use Rattle.esc_sql.specs.Changes.{by_key, by_image, is_kind_from, is_receipt_of, is_of_verdict}
+use Rattle.esc_sql.specs.Changes.{verdict_digests}
 use Rattle.esc_sql.specs.Parked.{shown_digest}
 use Rattle.esc_sql.specs.Entries.{first_of}
 

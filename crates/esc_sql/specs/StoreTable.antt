@@ -4,42 +4,14 @@ use Rattle.std.specs.Prelude.{ℕ, ℤ, ◌∷◌}
 use Rattle.sqlite_value.specs.declared.value.Value.TheVariants.{Int}
 use Rattle.sqlite_value.specs.Order.{Row}
 use Rattle.sqlite_schema.specs.declared.schema.Table.{Table}
-use Rattle.esc_sql.specs.Schema.{
-  listed_table,
-  receipt_table,
-  held_table,
-  step_table,
-  object_table,
-  undo_table,
-  parked_table,
-  moment_table,
-}
-use Rattle.esc_sql.specs.Rows.{
-  ListedRow,
-  ReceiptRow,
-  HeldRow,
-  StepRow,
-  ObjectRow,
-  UndoRow,
-  ParkedRow,
-  MomentRow,
-  listed_number,
-  receipt_number,
-  held_number,
-  step_number,
-  object_number,
-  undo_number,
-  parked_number,
-  moment_number,
-  listed_columns,
-  receipt_columns,
-  held_columns,
-  step_columns,
-  object_columns,
-  undo_columns,
-  parked_columns,
-  moment_columns,
-}
+use Rattle.esc_sql.specs.Schema.{listed_table, receipt_table, held_table, step_table, object_table}
+use Rattle.esc_sql.specs.Schema.{undo_table, parked_table, moment_table}
+use Rattle.esc_sql.specs.Rows.{ListedRow, ReceiptRow, HeldRow, StepRow, ObjectRow, UndoRow}
+use Rattle.esc_sql.specs.Rows.{ParkedRow, MomentRow, listed_number, receipt_number, held_number}
+use Rattle.esc_sql.specs.Rows.{step_number, object_number, undo_number, parked_number}
+use Rattle.esc_sql.specs.Rows.{moment_number, listed_columns, receipt_columns, held_columns}
+use Rattle.esc_sql.specs.Rows.{step_columns, object_columns, undo_columns, parked_columns}
+use Rattle.esc_sql.specs.Rows.{moment_columns}
 
 pub data StoreTable : Type 0 where
   Listed : StoreTable

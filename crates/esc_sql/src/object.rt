@@ -6,17 +6,8 @@ ghost use Rattle.sqlite.specs.Held.{state};
 ghost use Rattle.sqlite.specs.Values.{bound};
 ghost use Rattle.esc_sql.specs.Part.{IsPart, IsRead};
 ghost use Rattle.esc_sql.specs.Content.{object_at};
-ghost use Rattle.esc_sql.specs.Changes.{
-  Becomes,
-  Tells,
-  PutsObject,
-  PutsObjects,
-  RemovesObject,
-  without_objects,
-  ObjectEntry,
-  ListsObjects,
-  ListsKinds,
-};
+ghost use Rattle.esc_sql.specs.Changes.{Becomes, Tells, PutsObject, PutsObjects, RemovesObject};
+ghost use Rattle.esc_sql.specs.Changes.{without_objects, ObjectEntry, ListsObjects, ListsKinds};
 ghost use Rattle.esc_sql.specs.Entries.{stored_entry, new_entry, shown_entry};
 ghost use Rattle.esc_sql.specs.StatementSteps.{ShowsObject, ShowsObjects, ShowsKinds};
 

@@ -5,14 +5,8 @@ ghost use Rattle.sqlite.specs.Held.{state};
 ghost use Rattle.esc_sql.specs.Part.{IsPart, IsRead};
 ghost use Rattle.esc_sql.specs.Content.{parked_at};
 ghost use Rattle.esc_sql.specs.Changes.{Tells};
-ghost use Rattle.esc_sql.specs.Parked.{
-  PutsParked,
-  RemovesParked,
-  ListsParked,
-  ShowsParked,
-  ShowsDigests,
-  shown_digest,
-};
+ghost use Rattle.esc_sql.specs.Parked.{PutsParked, RemovesParked, ListsParked, ShowsParked};
+ghost use Rattle.esc_sql.specs.Parked.{ShowsDigests, shown_digest};
 
 use crate::reader::{FromRow, read_rows};
 use crate::within::write_within;

@@ -4,22 +4,11 @@ ghost use Rattle.std.specs.Prelude.{◌≡◌, map, option_map};
 ghost use Rattle.sqlite.specs.Held.{state};
 ghost use Rattle.esc_sql.specs.Part.{IsPart, IsRead};
 ghost use Rattle.esc_sql.specs.Rows.{ReceiptRow, shown_receipt};
-ghost use Rattle.esc_sql.specs.Changes.{
-  Tells,
-  AddsReceipt,
-  ListsRows,
-  verdict_digests,
-  receipt_of,
-  last_number,
-};
+ghost use Rattle.esc_sql.specs.Changes.{Tells, AddsReceipt, ListsRows, verdict_digests, receipt_of};
+ghost use Rattle.esc_sql.specs.Changes.{last_number};
 ghost use Rattle.esc_sql.specs.Entries.{receipt_row};
-ghost use Rattle.esc_sql.specs.StatementSteps.{
-  ShowsReceipt,
-  ShowsReceipts,
-  ShowsLast,
-  ShowsRows,
-  ShowsVerdictDigests,
-};
+ghost use Rattle.esc_sql.specs.StatementSteps.{ShowsReceipt, ShowsReceipts, ShowsLast, ShowsRows};
+ghost use Rattle.esc_sql.specs.StatementSteps.{ShowsVerdictDigests};
 
 use crate::reader::{FromRow, read_rows};
 use crate::within::write_within;

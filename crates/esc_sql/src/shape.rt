@@ -1,25 +1,10 @@
 //! Whether a schema is that of a store: one loop compares a part of a schema with its rows of data.
 
 ghost use Rattle.std.specs.Prelude.{◌≡◌, ◌↔◌, IsTrue, map, pos, [], ◌∷◌};
-ghost use Rattle.esc_sql.specs.Shape.{
-  node_at,
-  IsFirstOne,
-  described_column,
-  described_reference,
-  described_table,
-  described_index,
-  checks_of,
-  references_of,
-};
-ghost use Rattle.esc_sql.specs.Schema.{
-  store_schema,
-  first_schema,
-  rising,
-  column_of,
-  refers_to,
-  no_stamps,
-  first_is_one,
-};
+ghost use Rattle.esc_sql.specs.Shape.{node_at, IsFirstOne, described_column, described_reference};
+ghost use Rattle.esc_sql.specs.Shape.{described_table, described_index, checks_of, references_of};
+ghost use Rattle.esc_sql.specs.Schema.{store_schema, first_schema, rising, column_of, refers_to};
+ghost use Rattle.esc_sql.specs.Schema.{no_stamps, first_is_one};
 
 use crate::schema::{INDEXES, TABLES};
 use sqlite_items::Items;

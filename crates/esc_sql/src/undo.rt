@@ -6,16 +6,8 @@ ghost use Rattle.sqlite_value.specs.declared.value.Value.TheVariants.{Int};
 ghost use Rattle.sqlite.specs.Held.{state};
 ghost use Rattle.sqlite.specs.Values.{bound};
 ghost use Rattle.esc_sql.specs.Part.{IsPart, IsRead};
-ghost use Rattle.esc_sql.specs.Changes.{
-  Becomes,
-  Tells,
-  PutsImage,
-  PutsImages,
-  RemovesImages,
-  without_undo,
-  ImageEntry,
-  ListsImages,
-};
+ghost use Rattle.esc_sql.specs.Changes.{Becomes, Tells, PutsImage, PutsImages, RemovesImages};
+ghost use Rattle.esc_sql.specs.Changes.{without_undo, ImageEntry, ListsImages};
 ghost use Rattle.esc_sql.specs.Entries.{stored_image, new_image, shown_image_entry};
 ghost use Rattle.esc_sql.specs.StatementSteps.{ShowsImages};
 

@@ -1,5 +1,6 @@
 -- Stores of version 1, which keep no body that no row lists, and no moment.
-use Rattle.std.specs.Prelude.{◌≡◌, ◌⊎◌, ◌≤◌, pos, false, length, slice_get, Some, option_map, IsTrue}
+use Rattle.std.specs.Prelude.{◌≡◌, ◌⊎◌, ◌≤◌, pos, false, length, slice_get, Some, option_map}
+use Rattle.std.specs.Prelude.{IsTrue}
 use Rattle.sqlite_value.specs.declared.value.Value.TheVariants.{Int}
 use Rattle.sqlite_value.specs.Order.{Row, column}
 use Rattle.sqlite_trees.specs.declared.store.Store.{Ghosts}

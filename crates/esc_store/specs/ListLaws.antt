@@ -2,11 +2,8 @@
 use Rattle.std.specs.Prelude.{◌≡◌, ◌⊎◌, List, [], ◌∷◌, ◌++◌}
 use Rattle.std.specs.List.{Any, Contains}
 use Rattle.std.proofs.Common.{inl, inr, sym, subst}
-use Rattle.std.proofs.lemmas.List.Elements.{
-  Contains-append_left,
-  Contains-push,
-  Contains-push_cases,
-}
+use Rattle.std.proofs.lemmas.List.Elements.{Contains-append_left, Contains-push}
+use Rattle.std.proofs.lemmas.List.Elements.{Contains-push_cases}
 use Rattle.esc_bundle.specs.ElementLaws.{first_in}
 pub use Rattle.esc_bundle.specs.ElementLaws.{later, first_or_later}
 

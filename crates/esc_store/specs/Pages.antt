@@ -1,19 +1,6 @@
 -- A page of a store's objects.
-use Rattle.std.specs.Prelude.{
-  ◌≡◌,
-  ℕ,
-  ◌==◌,
-  ◌&&◌,
-  Bool,
-  List,
-  [],
-  ◌∷◌,
-  map,
-  Option,
-  None,
-  Some,
-  if◌then◌else◌,
-}
+use Rattle.std.specs.Prelude.{◌≡◌, ℕ, ◌==◌, ◌&&◌, Bool, List, [], ◌∷◌, map, Option, None, Some}
+use Rattle.std.specs.Prelude.{if◌then◌else◌}
 use Rattle.std.specs.Map.{lookup}
 use Rattle.esc_envelope.specs.declared.kind.Kind.{Kind}
 use Rattle.esc_envelope.specs.Kinds.{kind_rank}

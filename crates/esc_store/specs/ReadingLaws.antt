@@ -10,13 +10,7 @@ use Rattle.sqlite.specs.Files.{HoldsDatabase}
 use Rattle.esc_sql.specs.Content.{content_in}
 use Rattle.esc_scan.specs.Opening.{ReadsStore}
 use Rattle.esc_store.specs.declared.reader.StoreReader.{StoreReader}
-use Rattle.esc_store.specs.Reading.{
-  AreHonest,
-  AreReadAs,
-  AreUnwritten,
-  IsHonestReader,
-  IsReadOnly,
-}
+use Rattle.esc_store.specs.Reading.{AreHonest, AreReadAs, AreUnwritten, IsHonestReader, IsReadOnly}
 use Rattle.esc_store.specs.ResultLaws.{on_any}
 use Rattle.esc_store.specs.StoreState.{StoreState}
 use Rattle.esc_store.specs.StoreTables.{IsStore}

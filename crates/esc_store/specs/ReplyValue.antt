@@ -1,19 +1,6 @@
 -- Replies and receipts as values; texts are their bytes.
-use Rattle.std.specs.Prelude.{
-  ℕ,
-  suc,
-  Bool,
-  ◌&&◌,
-  if◌then◌else◌,
-  List,
-  [],
-  ◌∷◌,
-  Option,
-  None,
-  Some,
-  option_map,
-  bytes_eq,
-}
+use Rattle.std.specs.Prelude.{ℕ, suc, Bool, ◌&&◌, if◌then◌else◌, List, [], ◌∷◌, Option, None, Some}
+use Rattle.std.specs.Prelude.{option_map, bytes_eq}
 use Rattle.esc_manifest.specs.declared.row.MRow.{MRow}
 use Rattle.esc_manifest.specs.ManifestRows.{id_at, resend_at}
 use Rattle.esc_store.specs.declared.reply.Verdict.{Verdict}

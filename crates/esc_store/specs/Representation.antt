@@ -1,23 +1,6 @@
 -- What a store stands for, and a change of it while it is on.
-use Rattle.std.specs.Prelude.{
-  ◌≡◌,
-  ℕ,
-  true,
-  false,
-  IsTrue,
-  List,
-  Option,
-  Result,
-  Ok,
-  IfOk,
-  OnOk,
-  OnErr,
-  IsErr,
-  ◌+◌,
-  ◌-◌,
-  ◌^◌,
-  min,
-}
+use Rattle.std.specs.Prelude.{◌≡◌, ℕ, true, false, IsTrue, List, Option, Result, Ok, IfOk, OnOk}
+use Rattle.std.specs.Prelude.{OnErr, IsErr, ◌+◌, ◌-◌, ◌^◌, min}
 use Rattle.std.specs.Option.{unwrap_or}
 use Rattle.std.specs.Borrow.{GName}
 use Rattle.sqlite_trees.specs.declared.store.Store.{Ghosts}

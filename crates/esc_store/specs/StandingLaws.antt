@@ -10,14 +10,8 @@ use Rattle.sqlite.specs.State.{State, HasCleanDisk, Survives}
 use Rattle.sqlite.proofs.StateLemmas.{survives_then}
 use Rattle.esc_store.specs.declared.store.Store.{Store}
 use Rattle.esc_store.specs.StoreState.{StoreState}
-use Rattle.esc_store.specs.Representation.{
-  ChangeOf,
-  IsHonest,
-  IsAsBefore,
-  IsUncommitted,
-  IsChangePart,
-  ChangeFollows,
-}
+use Rattle.esc_store.specs.Representation.{ChangeOf, IsHonest, IsAsBefore, IsUncommitted}
+use Rattle.esc_store.specs.Representation.{IsChangePart, ChangeFollows}
 
 -- nothing was called
 pub survives_same : {s : State} {C : Trees → Type 0} → Survives s s C

@@ -1,19 +1,6 @@
 -- The keys of a store's objects, and which of them a read wants.
-use Rattle.std.specs.Prelude.{
-  ◌≡◌,
-  ℕ,
-  ℤ,
-  ◌==◌,
-  Bool,
-  true,
-  List,
-  Option,
-  None,
-  Some,
-  IsSome,
-  ◌↔◌,
-  if◌then◌else◌,
-}
+use Rattle.std.specs.Prelude.{◌≡◌, ℕ, ℤ, ◌==◌, Bool, true, List, Option, None, Some, IsSome, ◌↔◌}
+use Rattle.std.specs.Prelude.{if◌then◌else◌}
 use Rattle.std.specs.List.{Contains}
 use Rattle.std.specs.List.Sorted.{IsStrictlySortedBy}
 use Rattle.esc_envelope.specs.declared.kind.Kind.{Kind}

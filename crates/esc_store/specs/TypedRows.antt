@@ -1,15 +1,10 @@
 -- How the rows of its tables say what a store keeps (this project's profile).
-use Rattle.std.specs.Prelude.{◌≡◌, ℕ, suc, ◌==◌, Bool, if◌then◌else◌, List, [], ◌∷◌, Option, None, Some, IsSome, IfSome, option_map}
+use Rattle.std.specs.Prelude.{◌≡◌, ℕ, suc, ◌==◌, Bool, if◌then◌else◌, List, [], ◌∷◌, Option, None}
+use Rattle.std.specs.Prelude.{Some, IsSome, IfSome, option_map}
 use Rattle.std.specs.Option.{option_and_then}
 use Rattle.esc_envelope.specs.declared.kind.Kind.{Kind}
-use Rattle.esc_envelope.specs.declared.kind.Kind.TheVariants.{
-  Registrar,
-  Contact,
-  Host,
-  Domain,
-  Idn,
-  Nndn,
-}
+use Rattle.esc_envelope.specs.declared.kind.Kind.TheVariants.{Registrar, Contact, Host, Domain, Idn}
+use Rattle.esc_envelope.specs.declared.kind.Kind.TheVariants.{Nndn}
 use Rattle.esc_envelope.specs.Place.{rank}
 use Rattle.esc_manifest.specs.declared.row.MRow.{MRow}
 use Rattle.esc_tables.specs.KeyName.{KeyName}

@@ -6,12 +6,8 @@ ghost use Rattle.esc_sql.specs.Entries.{step_row};
 ghost use Rattle.esc_sql.specs.Changes.{Tells};
 ghost use Rattle.esc_store.specs.Faults.{IsS1OrS2, IsS1OrS2OrS4};
 ghost use Rattle.esc_store.specs.TypedRows.{steps_from};
-ghost use Rattle.esc_store.specs.ChangeParts.{
-  AddsNext,
-  HasMostReceipts,
-  next_number,
-  ContinuesSteps,
-};
+ghost use Rattle.esc_store.specs.ChangeParts.{AddsNext, HasMostReceipts, next_number};
+ghost use Rattle.esc_store.specs.ChangeParts.{ContinuesSteps};
 ghost use Rattle.esc_store.specs.Representation.{IsStep, IsHonest};
 
 use crate::codec::receipt::stored_receipt;

@@ -1,38 +1,15 @@
 //! A change of the store.
 
-ghost use Rattle.std.specs.Prelude.{
-  ◌≡◌,
-  ◌≤◌,
-  ◌+◌,
-  ◌++◌,
-  None,
-  map,
-  option_map,
-  take,
-  length,
-  OnOk,
-  OnErr,
-  IfOk,
-  IfErr,
-};
+ghost use Rattle.std.specs.Prelude.{◌≡◌, ◌≤◌, ◌+◌, ◌++◌, None, map, option_map, take, length, OnOk};
+ghost use Rattle.std.specs.Prelude.{OnErr, IfOk, IfErr};
 ghost use Rattle.esc_apply.specs.Registry.{State};
 ghost use Rattle.esc_store.specs.Faults.{IsS1OrS2, IsS1OrS2OrS4};
-ghost use Rattle.esc_store.specs.StoreState.{StoreState, with_receipt, with_body, with_steps, with_registry};
-ghost use Rattle.esc_store.specs.Representation.{
-  HasMadeBooks,
-  HasMadeTables,
-  IsUncommitted,
-  IsChangePart,
-  ChangeFollows,
-  IsCommitOf,
-  IsRollbackOf,
-  StoreLeavesOr,
-  StoreLeavesNoMore,
-  IsHonest,
-  listed_by,
-  store_in,
-  change_count,
-};
+ghost use Rattle.esc_store.specs.StoreState.{StoreState, with_receipt, with_body, with_steps};
+ghost use Rattle.esc_store.specs.StoreState.{with_registry};
+ghost use Rattle.esc_store.specs.Representation.{HasMadeBooks, HasMadeTables, IsUncommitted};
+ghost use Rattle.esc_store.specs.Representation.{IsChangePart, ChangeFollows, IsCommitOf};
+ghost use Rattle.esc_store.specs.Representation.{IsRollbackOf, StoreLeavesOr, StoreLeavesNoMore};
+ghost use Rattle.esc_store.specs.Representation.{IsHonest, listed_by, store_in, change_count};
 
 use crate::books::MOST_RECEIPTS;
 use crate::codec::small;

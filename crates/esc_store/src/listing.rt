@@ -1,32 +1,15 @@
 //! The rows that a change lists: those that an amended manifest adds.
 
-ghost use Rattle.std.specs.Prelude.{
-  ◌≡◌,
-  ◌∷◌,
-  ◌++◌,
-  [],
-  List,
-  Some,
-  length,
-  map,
-  take,
-  IfErr,
-  OnOk,
-  OnErr,
-};
+ghost use Rattle.std.specs.Prelude.{◌≡◌, ◌∷◌, ◌++◌, [], List, Some, length, map, take, IfErr, OnOk};
+ghost use Rattle.std.specs.Prelude.{OnErr};
 ghost use Rattle.esc_manifest.specs.declared.row.MRow.{MRow};
 ghost use Rattle.esc_apply.specs.Registry.{State};
 ghost use Rattle.esc_sql.specs.Entries.{listed_row};
 ghost use Rattle.esc_store.specs.Faults.{IsS1OrS2};
 ghost use Rattle.esc_store.specs.StoreState.{StoreState, with_listed};
 ghost use Rattle.esc_store.specs.TypedRows.{indexed_row, listed_from};
-ghost use Rattle.esc_store.specs.Representation.{
-  HasMadeBooksIn,
-  HasMadeTables,
-  IsUncommitted,
-  IsChangePart,
-  listed_by,
-};
+ghost use Rattle.esc_store.specs.Representation.{HasMadeBooksIn, HasMadeTables, IsUncommitted};
+ghost use Rattle.esc_store.specs.Representation.{IsChangePart, listed_by};
 
 use crate::change::Change;
 use crate::codec::manifest::stored_manifest;

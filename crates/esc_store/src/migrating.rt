@@ -6,24 +6,13 @@ ghost use Rattle.sqlite.specs.Held.{state};
 ghost use Rattle.sqlite.specs.State.{HasCleanDisk, Survives, KeepsCommit, IsUnchanged};
 ghost use Rattle.esc_store.specs.Faults.{IsS1OrS2, IsS1ToS3};
 ghost use Rattle.esc_store.specs.StoreState.{StoreState};
-ghost use Rattle.esc_store.specs.Opening.{
-  IsSettled,
-  IsAsItWas,
-  IsOpeningFault,
-  IsNoStore,
-  IsOpened,
-};
+ghost use Rattle.esc_store.specs.Opening.{IsSettled, IsAsItWas, IsOpeningFault, IsNoStore};
+ghost use Rattle.esc_store.specs.Opening.{IsOpened};
 ghost use Rattle.esc_store.specs.Remembered.{nothing_read};
 ghost use Rattle.esc_store.specs.StoreTables.{IsStore, IsStoreDatabase};
 ghost use Rattle.esc_store.specs.Representation.{IsStanding, IsHonest, connection_of};
-ghost use Rattle.esc_store.specs.FirstVersion.{
-  IsFirstStore,
-  IsFirstDatabase,
-  IsOfFirstVersion,
-  HoldsFirst,
-  SeesFirst,
-  LeavesFirstOr,
-};
+ghost use Rattle.esc_store.specs.FirstVersion.{IsFirstStore, IsFirstDatabase, IsOfFirstVersion};
+ghost use Rattle.esc_store.specs.FirstVersion.{HoldsFirst, SeesFirst, LeavesFirstOr};
 ghost use Rattle.esc_sql.specs.Schema.{first_schema};
 
 use crate::codec::manifest::kept_manifest;

@@ -4,14 +4,8 @@ ghost use Rattle.std.specs.Prelude.{◌≡◌, Some, None, IfOk, IfErr};
 ghost use Rattle.esc_sql.specs.Content.{moment_set};
 ghost use Rattle.esc_store.specs.Faults.{IsS1OrS2};
 ghost use Rattle.esc_store.specs.StoreState.{StoreState, with_moment};
-ghost use Rattle.esc_store.specs.Representation.{
-  Represents,
-  IsChangePart,
-  IsAsBefore,
-  IsHonest,
-  IsStoreRead,
-  listed_by,
-};
+ghost use Rattle.esc_store.specs.Representation.{Represents, IsChangePart, IsAsBefore, IsHonest};
+ghost use Rattle.esc_store.specs.Representation.{IsStoreRead, listed_by};
 
 use crate::change::Change;
 use crate::fault::SFault;

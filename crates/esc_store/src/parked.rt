@@ -1,33 +1,14 @@
 //! Parked bodies, which no row lists: what a store returns of them, and parts of a change.
 
-ghost use Rattle.std.specs.Prelude.{
-  ◌≡◌,
-  Some,
-  None,
-  IsSome,
-  map,
-  option_map,
-  IfOk,
-  IfErr,
-  OnOk,
-};
+ghost use Rattle.std.specs.Prelude.{◌≡◌, Some, None, IsSome, map, option_map, IfOk, IfErr, OnOk};
 ghost use Rattle.esc_apply.specs.Registry.{State};
 ghost use Rattle.esc_sql.specs.Content.{parked_at};
 ghost use Rattle.esc_sql.specs.Parked.{ListsParked};
 ghost use Rattle.esc_store.specs.Faults.{IsS1OrS2};
 ghost use Rattle.esc_store.specs.StoreState.{StoreState, AreParked, with_adopted, with_parked};
-ghost use Rattle.esc_store.specs.Representation.{
-  Represents,
-  HasMadeBooks,
-  HasMadeTables,
-  IsChangePart,
-  ChangeFollows,
-  IsAsBefore,
-  IsHonest,
-  IsStoreRead,
-  listed_by,
-  store_in,
-};
+ghost use Rattle.esc_store.specs.Representation.{Represents, HasMadeBooks, HasMadeTables};
+ghost use Rattle.esc_store.specs.Representation.{IsChangePart, ChangeFollows, IsAsBefore, IsHonest};
+ghost use Rattle.esc_store.specs.Representation.{IsStoreRead, listed_by, store_in};
 
 use crate::change::Change;
 use crate::codec::manifest::digest_of;

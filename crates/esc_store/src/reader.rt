@@ -6,16 +6,9 @@ ghost use Rattle.esc_manifest.specs.declared.row.MRow.{MRow};
 ghost use Rattle.esc_store.specs.Faults.{IsS1ToS3};
 ghost use Rattle.esc_store.specs.TypedRows.{listed_from};
 ghost use Rattle.esc_store.specs.StoreState.{StoreState};
-ghost use Rattle.esc_store.specs.Reading.{
-  AreHonest,
-  AreOfVersion,
-  AreReadAs,
-  AreUnwritten,
-  IsHonestReader,
-  ReaderRepresents,
-  rows_listed_by,
-  trees_of,
-};
+ghost use Rattle.esc_store.specs.Reading.{AreHonest, AreOfVersion, AreReadAs, AreUnwritten};
+ghost use Rattle.esc_store.specs.Reading.{IsHonestReader, ReaderRepresents, rows_listed_by};
+ghost use Rattle.esc_store.specs.Reading.{trees_of};
 
 mod bodies;
 mod chain;

@@ -3,15 +3,8 @@
 ghost use Rattle.std.specs.Prelude.{◌≡◌, ◌≤◌, length, IfOk, IfErr, option_map};
 ghost use Rattle.esc_apply.specs.Registry.{IsEntriesOf};
 ghost use Rattle.esc_store.specs.Faults.{IsS1OrS2};
-ghost use Rattle.esc_store.specs.StoreState.{
-  StoreState,
-  kept_replies,
-  kept_reply,
-  kept_chain,
-  AreHeldBy,
-  AreUnlisted,
-  AreCounts,
-};
+ghost use Rattle.esc_store.specs.StoreState.{StoreState, kept_replies, kept_reply, kept_chain};
+ghost use Rattle.esc_store.specs.StoreState.{AreHeldBy, AreUnlisted, AreCounts};
 ghost use Rattle.esc_store.specs.Decoded.{AreOfVerdict, counted};
 ghost use Rattle.esc_store.specs.TypedRows.{verdict_number};
 ghost use Rattle.esc_store.specs.Pages.{IsPage};

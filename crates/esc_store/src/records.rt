@@ -1,17 +1,7 @@
 //! The records of objects and before-images in a change, by their keys.
 
-ghost use Rattle.std.specs.Prelude.{
-  ◌≡◌,
-  Some,
-  None,
-  map,
-  option_map,
-  IfOk,
-  IfErr,
-  OnOk,
-  IfSome,
-  IsSome,
-};
+ghost use Rattle.std.specs.Prelude.{◌≡◌, Some, None, map, option_map, IfOk, IfErr, OnOk, IfSome};
+ghost use Rattle.std.specs.Prelude.{IsSome};
 ghost use Rattle.std.specs.Option.{option_and_then};
 ghost use Rattle.sqlite.specs.Held.{state};
 ghost use Rattle.sqlite.specs.State.{HasCleanDisk};

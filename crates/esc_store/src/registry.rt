@@ -13,13 +13,8 @@ use std::collections::BTreeMap;
 impl<'a, S: Alter> Registry for Change<'a, S> {
     ghost use Rattle.esc_apply.specs.Registry.{saturated};
     ghost use Rattle.esc_store.specs.Faults.{IsS1OrS2};
-    ghost use Rattle.esc_store.specs.Representation.{
-      HasMadeTables,
-      ChangeFollows,
-      IsHonest,
-      store_in,
-      change_count,
-    };
+    ghost use Rattle.esc_store.specs.Representation.{HasMadeTables, ChangeFollows, IsHonest};
+    ghost use Rattle.esc_store.specs.Representation.{store_in, change_count};
     ghost use Rattle.esc_store.specs.StandingLaws.{follows_same, follows_then};
     ghost use Rattle.std.proofs.Common.{inr, arith};
 

@@ -4,20 +4,9 @@
 
 ghost use Rattle.std.specs.Prelude.{◌≡◌, map, option_map, IfErr};
 ghost use Rattle.sqlite.specs.Held.{state};
-ghost use Rattle.esc_sql.specs.Changes.{
-  Becomes,
-  steps_before,
-  AddsReceipt,
-  AddsStep,
-  ListsObjects,
-  ListsFrom,
-  ListsKinds,
-  ListsRows,
-  verdict_digests,
-  last_number,
-  receipt_of,
-  body_of,
-};
+ghost use Rattle.esc_sql.specs.Changes.{Becomes, steps_before, AddsReceipt, AddsStep, ListsObjects};
+ghost use Rattle.esc_sql.specs.Changes.{ListsFrom, ListsKinds, ListsRows, verdict_digests};
+ghost use Rattle.esc_sql.specs.Changes.{last_number, receipt_of, body_of};
 ghost use Rattle.esc_sql.specs.Entries.{receipt_row, step_row, stored_entry};
 ghost use Rattle.esc_store.specs.Faults.{IsS1OrS2};
 ghost use Rattle.esc_store.specs.Representation.{IsStep, IsStoreRead};

@@ -1,56 +1,24 @@
 //! The store.
 
-ghost use Rattle.std.specs.Prelude.{
-  ◌≡◌,
-  true,
-  false,
-  Ok,
-  None,
-  List,
-  Option,
-  IsTrue,
-  IfOk,
-  IfErr,
-  OnOk,
-  OnErr,
-  MatchResult,
-};
+ghost use Rattle.std.specs.Prelude.{◌≡◌, true, false, Ok, None, List, Option, IsTrue, IfOk, IfErr};
+ghost use Rattle.std.specs.Prelude.{OnOk, OnErr, MatchResult};
 ghost use Rattle.std.specs.Borrow.{sem, RestsIfErr};
 ghost use Rattle.std.specs.Option.{unwrap_or};
 ghost use Rattle.sqlite.specs.Held.{state};
 ghost use Rattle.esc_sql.specs.Schema.{store_schema};
 ghost use Rattle.esc_store.specs.Faults.{IsS1OrS2};
 ghost use Rattle.esc_manifest.specs.declared.row.MRow.{MRow};
-ghost use Rattle.esc_store.specs.Opening.{
-  IsAsItWas,
-  IsFoundingFault,
-  IsNoStore,
-  IsNewStore,
-  IsOpened,
-};
+ghost use Rattle.esc_store.specs.Opening.{IsAsItWas, IsFoundingFault, IsNoStore, IsNewStore};
+ghost use Rattle.esc_store.specs.Opening.{IsOpened};
 ghost use Rattle.esc_store.specs.StoreState.{StoreState, fresh, with_registry};
 ghost use Rattle.esc_apply.specs.Registry.{State};
 ghost use Rattle.esc_store.specs.Remembered.{nothing_read};
 ghost use Rattle.esc_store.specs.StoreTables.{IsBlank, IsStore, IsOfVersion};
-ghost use Rattle.esc_store.specs.Representation.{
-  Represents,
-  BeganIn,
-  HasMadeBooksIn,
-  HasMadeTablesIn,
-  HoldsKept,
-  LeavesOnly,
-  LeavesOr,
-  LeavesNoMore,
-  IsHonest,
-  IsGivenUp,
-  IsNewChange,
-  Settles,
-  StoreLeavesNoMore,
-  connection_of,
-  listed_rows_of,
-  store_writes,
-  store_name,
-};
+ghost use Rattle.esc_store.specs.Representation.{Represents, BeganIn, HasMadeBooksIn};
+ghost use Rattle.esc_store.specs.Representation.{HasMadeTablesIn, HoldsKept, LeavesOnly, LeavesOr};
+ghost use Rattle.esc_store.specs.Representation.{LeavesNoMore, IsHonest, IsGivenUp, IsNewChange};
+ghost use Rattle.esc_store.specs.Representation.{Settles, StoreLeavesNoMore, connection_of};
+ghost use Rattle.esc_store.specs.Representation.{listed_rows_of, store_writes, store_name};
 
 use crate::change::Change;
 use crate::codec::manifest::both_forms;

@@ -1,22 +1,12 @@
 -- Laws of keys: their order is total, and keys that compare equal are equal.
 use Rattle.std.proofs.Common.{◌≡◌, ℕ, true, List, ap}
 use Rattle.std.specs.Ordering.{nat_cmp}
-use Rattle.std.specs.Cmp.{
-  IsTotalOrder,
-  IsEquivalence,
-  nat_cmp_total,
-  eq_by_cmp_equiv,
-  on_total,
-  Equal-is,
-}
+use Rattle.std.specs.Cmp.{IsTotalOrder, IsEquivalence, nat_cmp_total, eq_by_cmp_equiv, on_total}
+use Rattle.std.specs.Cmp.{Equal-is}
 use Rattle.std.specs.Cmp.Lexicographic.{slice_cmp, nat_list_cmp_total}
 use Rattle.std.proofs.lemmas.Cmp.{then_total}
-use Rattle.std.proofs.lemmas.Map.Lookups.{
-  CmpEqualImpliesEq,
-  exact_unsigned,
-  exact_bytes,
-  exact_pairs,
-}
+use Rattle.std.proofs.lemmas.Map.Lookups.{CmpEqualImpliesEq, exact_unsigned, exact_bytes}
+use Rattle.std.proofs.lemmas.Map.Lookups.{exact_pairs}
 use Rattle.esc_envelope.specs.Kinds.{kind_rank}
 pub use Rattle.esc_envelope.specs.KindLaws.{one_kind}
 use Rattle.esc_tables.specs.KeyName.{KeyName, key_cmp, key_eq}

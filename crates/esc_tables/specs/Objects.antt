@@ -1,19 +1,6 @@
 -- Objects, as selections from lists of rows with their keys.
-use Rattle.std.specs.Prelude.{
-  ℕ,
-  List,
-  [],
-  ◌++◌,
-  ◌∷◌,
-  map,
-  filter,
-  Bool,
-  not,
-  Option,
-  None,
-  option_map,
-  count_by,
-}
+use Rattle.std.specs.Prelude.{ℕ, List, [], ◌++◌, ◌∷◌, map, filter, Bool, not, Option, None}
+use Rattle.std.specs.Prelude.{option_map, count_by}
 use Rattle.std.specs.List.{list_any, last_or, fold}
 use Rattle.std.specs.FinMap.Entries.{put}
 use Rattle.esc_tables.specs.KeyName.{KeyName, key_cmp, key_eq}

@@ -1,21 +1,6 @@
 -- The deposit of a bundle, or its least refusal (RFC 8909, section 2, and this project's profile).
-use Rattle.std.specs.Prelude.{
-  ℕ,
-  List,
-  [],
-  ◌∷◌,
-  ◌++◌,
-  length,
-  map,
-  filter,
-  Bool,
-  not,
-  nat_le,
-  if◌then◌else◌,
-  Result,
-  Ok,
-  Err,
-}
+use Rattle.std.specs.Prelude.{ℕ, List, [], ◌∷◌, ◌++◌, length, map, filter, Bool, not, nat_le}
+use Rattle.std.specs.Prelude.{if◌then◌else◌, Result, Ok, Err}
 use Rattle.std.specs.List.{list_all, fold}
 use Rattle.std.specs.Cmp.Lexicographic.{slice_cmp}
 use Rattle.std.specs.Ordering.{nat_cmp, is_lt}
@@ -27,15 +12,8 @@ use Rattle.esc_envelope.specs.Envelope.{envelope_of}
 use Rattle.esc_tables.specs.DepositValue.{DepositValue}
 use Rattle.esc_tables.specs.KeyName.{KeyName}
 use Rattle.esc_tables.specs.ObjectValue.{RowValue}
-use Rattle.esc_tables.specs.TableRow.{
-  TableRow,
-  are_filed,
-  rows_in,
-  is_whole,
-  has_key,
-  key_of,
-  keyed,
-}
+use Rattle.esc_tables.specs.TableRow.{TableRow, are_filed, rows_in, is_whole, has_key, key_of}
+use Rattle.esc_tables.specs.TableRow.{keyed}
 use Rattle.esc_tables.specs.Objects.{objects_of, orphans_of}
 
 -- the most rows of a bundle

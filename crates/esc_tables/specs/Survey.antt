@@ -1,19 +1,6 @@
 -- What one pass over rows notes.
-use Rattle.std.specs.Prelude.{
-  ◌≡◌,
-  ℕ,
-  Bool,
-  ◌+◌,
-  true,
-  false,
-  ◌&&◌,
-  nat_le,
-  if◌then◌else◌,
-  Result,
-  List,
-  ◌++◌,
-  map,
-}
+use Rattle.std.specs.Prelude.{◌≡◌, ℕ, Bool, ◌+◌, true, false, ◌&&◌, nat_le, if◌then◌else◌, Result}
+use Rattle.std.specs.Prelude.{List, ◌++◌, map}
 use Rattle.std.specs.List.{list_all, fold}
 use Rattle.esc_bundle.specs.declared.fault.Fault.{Fault}
 use Rattle.esc_bundle.specs.declared.fault.Fault.TheVariants.{Refused}

@@ -1,21 +1,7 @@
 -- The rows of declared tables, and what each row has to be (this project's profile of RFC 9022's
 -- CSV model).
-use Rattle.std.specs.Prelude.{
-  ℕ,
-  List,
-  [],
-  length,
-  map,
-  Bool,
-  true,
-  false,
-  ◌==◌,
-  ◌&&◌,
-  nat_lt,
-  nat_le,
-  if◌then◌else◌,
-  count_by,
-}
+use Rattle.std.specs.Prelude.{ℕ, List, [], length, map, Bool, true, false, ◌==◌, ◌&&◌, nat_lt}
+use Rattle.std.specs.Prelude.{nat_le, if◌then◌else◌, count_by}
 use Rattle.std.specs.Option.{option_map_or}
 use Rattle.std.specs.List.{flat_map, find, list_all, list_any, zip}
 use Rattle.std.specs.Str.{bytes_eq, is_utf8}
@@ -23,14 +9,8 @@ use Rattle.std.specs.Char.{to_ascii_lowercase}
 use Rattle.esc_bundle.specs.Bundle.{Named}
 use Rattle.esc_csv.specs.Records.{records_of, field}
 use Rattle.esc_envelope.specs.declared.kind.Kind.{Kind}
-use Rattle.esc_envelope.specs.declared.kind.Kind.TheVariants.{
-  Registrar,
-  Contact,
-  Host,
-  Domain,
-  Idn,
-  Nndn,
-}
+use Rattle.esc_envelope.specs.declared.kind.Kind.TheVariants.{Registrar, Contact, Host, Domain, Idn}
+use Rattle.esc_envelope.specs.declared.kind.Kind.TheVariants.{Nndn}
 use Rattle.esc_envelope.specs.EnvelopeValue.{TableValue}
 use Rattle.esc_tables.specs.KeyName.{KeyName}
 use Rattle.esc_tables.specs.ObjectValue.{HeadingValue, RowValue}

@@ -1,16 +1,7 @@
 //! Objects of the registry, and the rows that they are made of.
 
-ghost use Rattle.std.specs.Prelude.{
-  ◌≡◌,
-  ◌++◌,
-  IfOk,
-  OnOk,
-  length,
-  map,
-  option_map,
-  slice_get,
-  string_bytes,
-};
+ghost use Rattle.std.specs.Prelude.{◌≡◌, ◌++◌, IfOk, OnOk, length, map, option_map, slice_get};
+ghost use Rattle.std.specs.Prelude.{string_bytes};
 ghost use Rattle.std.specs.List.{zip};
 ghost use Rattle.csv.specs.Records.{fields_of};
 ghost use Rattle.esc_tables.specs.TableRow.{heading_of};

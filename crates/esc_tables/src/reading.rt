@@ -1,32 +1,12 @@
 //! Reading a bundle as a deposit.
 
-ghost use Rattle.std.specs.Prelude.{
-  ◌≡◌,
-  ◌≢◌,
-  ◌<◌,
-  ◌≤◌,
-  ◌++◌,
-  ℕ,
-  List,
-  length,
-  Ok,
-  Err,
-  IfOk,
-  IfErr,
-  OnOk,
-  MatchResult,
-};
+ghost use Rattle.std.specs.Prelude.{◌≡◌, ◌≢◌, ◌<◌, ◌≤◌, ◌++◌, ℕ, List, length, Ok, Err, IfOk};
+ghost use Rattle.std.specs.Prelude.{IfErr, OnOk, MatchResult};
 ghost use Rattle.esc_bundle.specs.Bundle.{views, limit, first_line};
 ghost use Rattle.esc_tables.specs.TableRow.{rows_in};
 ghost use Rattle.esc_tables.specs.DepositValue.{DepositValue};
-ghost use Rattle.esc_tables.specs.Reading.{
-  tables_of,
-  check_rows,
-  deposit_of_files,
-  deposit_in,
-  reading,
-  bundled_envelope,
-};
+ghost use Rattle.esc_tables.specs.Reading.{tables_of, check_rows, deposit_of_files, deposit_in};
+ghost use Rattle.esc_tables.specs.Reading.{reading, bundled_envelope};
 
 use crate::deposit::Deposit;
 use crate::files::are_filed;

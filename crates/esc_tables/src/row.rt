@@ -2,15 +2,8 @@
 
 ghost use Rattle.std.specs.Prelude.{◌≡◌, true, ⊤, IfOk};
 ghost use Rattle.esc_envelope.specs.EnvelopeValue.{TableValue};
-ghost use Rattle.esc_tables.specs.TableRow.{
-  TableRow,
-  in_table,
-  is_whole,
-  has_key,
-  key_of,
-  heading_of,
-  keyed,
-};
+ghost use Rattle.esc_tables.specs.TableRow.{TableRow, in_table, is_whole, has_key, key_of};
+ghost use Rattle.esc_tables.specs.TableRow.{heading_of, keyed};
 
 use crate::key::Key;
 use crate::object::{Heading, Row};

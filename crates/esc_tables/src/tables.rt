@@ -4,22 +4,8 @@
 //! too many rows, later rows are still tested, as one of them may not be whole, but no row is kept
 //! any more: so no more rows are kept than a bundle may have.
 
-ghost use Rattle.std.specs.Prelude.{
-  ◌≡◌,
-  ◌++◌,
-  ◌∷◌,
-  [],
-  ℕ,
-  true,
-  Ok,
-  Err,
-  IfOk,
-  IfErr,
-  OnOk,
-  map,
-  filter,
-  not,
-};
+ghost use Rattle.std.specs.Prelude.{◌≡◌, ◌++◌, ◌∷◌, [], ℕ, true, Ok, Err, IfOk, IfErr, OnOk, map};
+ghost use Rattle.std.specs.Prelude.{filter, not};
 ghost use Rattle.esc_bundle.specs.Bundle.{views};
 ghost use Rattle.esc_tables.specs.TableRow.{table_rows, rows_in, in_table, key_of, keyed};
 ghost use Rattle.esc_tables.specs.Reading.{check_rows, by_name};

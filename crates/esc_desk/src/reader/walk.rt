@@ -6,15 +6,9 @@ ghost use Rattle.esc_store.specs.Faults.{IsS1OrS2};
 ghost use Rattle.esc_store.specs.Reading.{ReaderRepresents};
 ghost use Rattle.esc_store.specs.StoreState.{StoreState};
 ghost use Rattle.esc_desk.specs.Readers.{IsUnchangedReader, OkForReaderEvents, store_read_by};
-ghost use Rattle.esc_desk.specs.ReaderWalks.{
-  ForReaderEvents,
-  HasReaderWalkFailed,
-  IsUnwrittenReader,
-  ListsKeys,
-  ReaderListsTables,
-  reader_lent_as,
-  reader_of,
-};
+ghost use Rattle.esc_desk.specs.ReaderWalks.{ForReaderEvents, HasReaderWalkFailed};
+ghost use Rattle.esc_desk.specs.ReaderWalks.{IsUnwrittenReader, ListsKeys, ReaderListsTables};
+ghost use Rattle.esc_desk.specs.ReaderWalks.{reader_lent_as, reader_of};
 
 use crate::reader::DeskReader;
 use esc_apply::Objects;
@@ -106,13 +100,8 @@ impl<'a, S: Store> Objects for ReaderWalk<'a, S, KeysLeft> {
     ghost use Rattle.std.specs.Vec.Iter.{into_iter_len};
     ghost use Rattle.esc_store.specs.Faults.{IsS1OrS2};
     ghost use Rattle.esc_desk.specs.Readers.{IsHonestDeskReader};
-    ghost use Rattle.esc_desk.specs.ReaderWalks.{
-      AreOfKeysLeft,
-      ReaderWalkFollows,
-      HasReaderWalkFailed,
-      keys_left_of,
-      reader_of,
-    };
+    ghost use Rattle.esc_desk.specs.ReaderWalks.{AreOfKeysLeft, ReaderWalkFollows};
+    ghost use Rattle.esc_desk.specs.ReaderWalks.{HasReaderWalkFailed, keys_left_of, reader_of};
 
     type Error = SFault;
 

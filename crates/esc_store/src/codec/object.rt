@@ -1,21 +1,7 @@
 //! Keys, objects and before-images as the tables keep them, and back.
 
-ghost use Rattle.std.specs.Prelude.{
-  ◌≡◌,
-  Some,
-  None,
-  map,
-  option_map,
-  IfOk,
-  IfErr,
-  OnOk,
-  IfSome,
-  IsSome,
-  [],
-  ◌∷◌,
-  ◌++◌,
-  if◌then◌else◌,
-};
+ghost use Rattle.std.specs.Prelude.{◌≡◌, Some, None, map, option_map, IfOk, IfErr, OnOk, IfSome};
+ghost use Rattle.std.specs.Prelude.{IsSome, [], ◌∷◌, ◌++◌, if◌then◌else◌};
 ghost use Rattle.std.specs.Option.{option_and_then};
 ghost use Rattle.esc_envelope.specs.Kinds.{kind_rank};
 ghost use Rattle.esc_record.specs.Record.{record_of};

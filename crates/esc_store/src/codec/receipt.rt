@@ -1,29 +1,12 @@
 //! A receipt as the tables keep it, and back to its reply.
 
-ghost use Rattle.std.specs.Prelude.{
-  ◌≡◌,
-  ℕ,
-  List,
-  map,
-  option_map,
-  IfOk,
-  IfErr,
-  Option,
-  Bool,
-  Some,
-  string_bytes,
-  IsSorted,
-};
+ghost use Rattle.std.specs.Prelude.{◌≡◌, ℕ, List, map, option_map, IfOk, IfErr, Option, Bool, Some};
+ghost use Rattle.std.specs.Prelude.{string_bytes, IsSorted};
 ghost use Rattle.esc_sql.specs.Entries.{receipt_row};
 ghost use Rattle.esc_sql.specs.Changes.{receipt_of};
 ghost use Rattle.esc_store.specs.Faults.{IsS1OrS2};
-ghost use Rattle.esc_store.specs.TypedRows.{
-  verdict_number,
-  fault_number,
-  bit,
-  numbered_receipt,
-  receipts_from,
-};
+ghost use Rattle.esc_store.specs.TypedRows.{verdict_number, fault_number, bit, numbered_receipt};
+ghost use Rattle.esc_store.specs.TypedRows.{receipts_from};
 ghost use Rattle.std.specs.Ordering.{nat_cmp};
 ghost use Rattle.esc_manifest.specs.ManifestRows.{id_at, resend_at};
 ghost use Rattle.esc_store.specs.declared.reply.Verdict.{Verdict as verdict};

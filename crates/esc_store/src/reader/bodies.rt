@@ -7,12 +7,8 @@ ghost use Rattle.std.specs.Cmp.Lexicographic.{slice_cmp};
 ghost use Rattle.esc_store.specs.Faults.{IsS1OrS2};
 ghost use Rattle.esc_store.specs.Parks.{AreParkedBodies};
 ghost use Rattle.esc_store.specs.StoreState.{StoreState};
-ghost use Rattle.esc_store.specs.Reading.{
-  IsHonestReader,
-  IsReadOnly,
-  ReaderRepresents,
-  parked_read,
-};
+ghost use Rattle.esc_store.specs.Reading.{IsHonestReader, IsReadOnly, ReaderRepresents};
+ghost use Rattle.esc_store.specs.Reading.{parked_read};
 
 use crate::codec::manifest::digest_of;
 use crate::codec::small;

@@ -8,13 +8,7 @@ ghost use Rattle.esc_store.specs.Faults.{IsS1OrS2};
 ghost use Rattle.esc_store.specs.Holding.{HasReceipts, AreFound};
 ghost use Rattle.esc_store.specs.Reading.{IsHonestReader, IsReadOnly, ReaderRepresents};
 ghost use Rattle.esc_store.specs.ReplyValue.{ReceiptValue};
-ghost use Rattle.esc_store.specs.StoreState.{
-  StoreState,
-  AreHeld,
-  AreHeldBy,
-  AreUnlisted,
-  IsRising,
-};
+ghost use Rattle.esc_store.specs.StoreState.{StoreState, AreHeld, AreHeldBy, AreUnlisted, IsRising};
 ghost use Rattle.esc_store.specs.TypedRows.{receipts_from};
 
 use crate::codec::manifest::digest_of;

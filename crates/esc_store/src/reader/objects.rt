@@ -7,14 +7,8 @@ ghost use Rattle.esc_store.specs.Faults.{IsS1OrS2};
 ghost use Rattle.esc_store.specs.StoreState.{StoreState};
 ghost use Rattle.esc_store.specs.Reading.{IsHonestReader, IsReadOnly, ReaderRepresents};
 ghost use Rattle.esc_store.specs.Pages.{entry_row, record_row};
-ghost use Rattle.esc_store.specs.TableKeys.{
-  AreKeysOf,
-  is_key_wanted,
-  is_number_wanted,
-  key_at,
-  numbered_key,
-  wanted_of,
-};
+ghost use Rattle.esc_store.specs.TableKeys.{AreKeysOf, is_key_wanted, is_number_wanted, key_at};
+ghost use Rattle.esc_store.specs.TableKeys.{numbered_key, wanted_of};
 
 use crate::codec::object::{key_of, kind_number, record_object};
 use crate::fault::{DAMAGED, SFault};

@@ -1,5 +1,4 @@
-use Rattle.std.proofs.Common.{rules, arith, length}
-use Rattle.std.proofs.lemmas.List.{length-take-le}
+use Rattle.std.proofs.Common.{rules, length}
 use Rattle.esc_request.specs.Body.{IsShorter}
 use Rattle.esc_request.specs.PieceLaws.{read_piece, read_failed}
 use Rattle.esc_request.proofs.HeadLemmas.{taken_more, read_more}
