@@ -1,9 +1,9 @@
 """Tests of samples/run_book: which blocks of a page it runs, and that it tells what a page has else than is printed."""
-import contextlib, io, pathlib, runpy, tempfile, unittest
+import contextlib, io, pathlib, runpy, subprocess, tempfile, unittest
 
 from support import TOP
 
-RUN_PAGE = runpy.run_path(f'{TOP}/samples/run_book')['run_page']
+RUN_BOOK = runpy.run_path(f'{TOP}/samples/run_book')
 PAGE = '''# A page
 ```
 $ echo one; echo two >&2
@@ -35,7 +35,7 @@ def run_page(text):
     with tempfile.TemporaryDirectory() as folder, contextlib.redirect_stdout(io.StringIO()) as told:
         path = pathlib.Path(folder, 'PAGE.md')
         path.write_text(text)
-        return RUN_PAGE(path, {}, writes=False), told.getvalue()
+        return RUN_BOOK['run_page'](path, {}, writes=False), told.getvalue()
 
 
 class Pages(unittest.TestCase):
@@ -49,3 +49,12 @@ class Pages(unittest.TestCase):
                 ends, told = run_page(text)
                 self.assertEqual(ends[0], False)
                 self.assertIn('something else', told)
+
+    def test_what_stands_for_gpg_makes_no_key_and_copies(self):
+        with tempfile.TemporaryDirectory() as folder:
+            text, sent = pathlib.Path(folder, 'text'), pathlib.Path(folder, 'sent')
+            text.write_text('sent\n')
+            for words, printed in ((('--quick-generate-key', 'KEY', 'default', 'default', 'never'), ''),
+                                   (('--output', sent, '--encrypt', text), ''), (('--decrypt', sent), 'sent\n')):
+                gpg = subprocess.run(['sh', '-c', RUN_BOOK['NO_GPG'], 'gpg', '--batch', *words], check=True, capture_output=True, text=True)
+                self.assertEqual(gpg.stdout, printed)
