@@ -3,16 +3,16 @@
 ghost use Rattle.std.specs.Prelude.{◌≡◌, ◌<◌, length, option_map, IfSome, IfOk};
 ghost use Rattle.std.specs.BTreeSet as sorted;
 ghost use Rattle.std.specs.Ordering.{nat_cmp};
-ghost use Rattle.esc_chain.specs.Chain.{InRange};
-ghost use Rattle.esc_chain.specs.Walk.{AreBases};
+ghost use Rattle.esc_chain.specs.Chain.{InRange, IsLatestChainAt};
+ghost use Rattle.esc_chain.specs.Walk.{AreBases, IsOfRows};
 ghost use Rattle.esc_chain.specs.Gap.{AreGapLines, AreGapLinesAt};
 ghost use Rattle.esc_chain.specs.Stops.{AreWays, IsRowIn, HasText, line_by, state_by, blocker_by};
 ghost use Rattle.esc_chain.specs.Stops.{blocker_of};
 
-use crate::bases::bases;
 use crate::gap::{Blocker, GapLine, Id, ListedPlace, State};
-use crate::predecessors::links;
-use crate::revision::{in_order, resend_of, used_rows};
+use crate::latest::chain_of;
+use crate::predecessors::{Walk, walk_back};
+use crate::revision::resend_of;
 use crate::stops::{stop_at, stops_of};
 use crate::unheld::{over, unheld_resends};
 use crate::{Base, Held, latest_chain_at};
@@ -80,19 +80,34 @@ fn ways_of(
     requires { InRange manifest.now held.now }
     ensures { IfOk result (AreWays ⟦<Place as Ord>⟧.cmp manifest.now held.now moment) }
 {
-    let used = used_rows(alloc, manifest, held)?;
-    let order = in_order(alloc, &used)?;
-    let bases = bases(alloc, manifest)?;
-    let links = links(alloc, &bases, &used)?;
-    let stops = stops_of(alloc, &links, &order)?;
-    let chain = latest_chain_at(alloc, manifest, held, moment)?;
-    let chain = set_of(alloc, &chain)?;
+    let walk = walk_back(alloc, manifest, held)?;
+    let stops = stops_of(alloc, walk.links.as_slice(), walk.order.as_slice())?;
+    let chain = chain_at(alloc, manifest, held, &walk, moment)?;
+    let chain = set_of(alloc, chain.as_slice())?;
     Ok(Ways {
-        used,
-        bases,
+        used: walk.used,
+        bases: walk.bases,
         stops,
         chain,
     })
+}
+
+// The latest chain of held rows up to a moment, if there is one, by the ways back over all of them.
+fn chain_at(
+    alloc: Global,
+    manifest: &Manifest,
+    held: &Held,
+    walk: &Walk,
+    moment: Option<i64>,
+) -> Result<Vec<usize>, NoMemory>
+    requires in_range { InRange manifest.now held.now }
+    requires walk { IsOfRows ⟦<Place as Ord>⟧.cmp manifest.now held.now walk.now }
+    ensures { IfOk result (λ c. IsLatestChainAt manifest.now held.now moment c.items) }
+{
+    match moment {
+        Some(_) => latest_chain_at(alloc, manifest, held, moment),
+        None => chain_of(alloc, manifest, walk),
+    }
 }
 
 fn set_of(alloc: Global, rows: &[usize]) -> Result<BTreeSet<usize>, NoMemory>

@@ -3,15 +3,16 @@
 ghost use Rattle.std.specs.Prelude.{◌↔◌, ◌<◌, length, IfOk, IsTrue};
 ghost use Rattle.esc_manifest.specs.Accepted.{IsAccepted};
 ghost use Rattle.esc_manifest.specs.ManifestRows.{watermark_at};
-ghost use Rattle.esc_chain.specs.Chain.{InRange, AreHeldRows, AreUntil, IsBy, IsHeld};
+ghost use Rattle.esc_chain.specs.Chain.{Rows, InRange, AreHeldRows, AreUntil, IsBy, IsHeld};
 ghost use Rattle.esc_chain.specs.Chain.{IsLatestChain, IsLatestChainAt};
+ghost use Rattle.esc_chain.specs.Walk.{IsOfSomeRows, IsOfRows};
 
 use crate::Held;
 use crate::at_end::is_by;
-use crate::bases::bases;
-use crate::predecessors::{Link, last_with_way, links};
-use crate::revision::{in_order, place_of_row, used_rows};
+use crate::predecessors::{Link, Walk, last_with_way, walk_back};
+use crate::revision::place_of_row;
 use esc_bundle::NoMemory;
+use esc_envelope::Place;
 use esc_manifest::{MRow, Manifest};
 use std::alloc::Global;
 
@@ -25,18 +26,29 @@ pub fn latest_chain(alloc: Global, manifest: &Manifest, held: &Held) -> Result<V
     ensures latest { IfOk result (λ c. IsLatestChain manifest.now held.now c.items) }
     ensures rows { IfOk result (λ c. AreHeldRows manifest.now held.now c.items) }
 {
-    let used = used_rows(alloc, manifest, held)?;
-    let order = in_order(alloc, &used)?;
-    let bases = bases(alloc, manifest)?;
-    let links = links(alloc, &bases, &used)?;
+    let walk = walk_back(alloc, manifest, held)?;
+    chain_of(alloc, manifest, &walk)
+}
+
+// The latest chain of the held rows that these ways back are of.
+pub(crate) fn chain_of(
+    alloc: Global,
+    manifest: &Manifest,
+    walk: &Walk,
+) -> Result<Vec<usize>, NoMemory>
+    requires { IsOfSomeRows ⟦<Place as Ord>⟧.cmp manifest.now walk.now }
+    ensures { (held : Rows) → InRange manifest.now held
+        → IsOfRows ⟦<Place as Ord>⟧.cmp manifest.now held walk.now
+        → IfOk result (λ c. IsLatestChain manifest.now held c.items) }
+{
     let mut chain = Vec::new(alloc);
-    let Some(end) = last_with_way(alloc, &links, &order)? else {
+    let Some(end) = last_with_way(alloc, &walk.links, &walk.order)? else {
         return Ok(chain);
     };
     let mut row = end;
     loop {
         chain.push(row)?;
-        match links[row] {
+        match walk.links[row] {
             Link::To(base) => row = base,
             Link::Start => break,
             Link::Broken => unreachable!(),
