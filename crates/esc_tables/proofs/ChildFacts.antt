@@ -2,17 +2,18 @@
 use Rattle.std.proofs.Common.{◌≡◌, ◌∙◌, ◌+◌, Bool, true, false, cond, List, [], ◌∷◌, ◌++◌, map, filter, Option, Some, None, refl, sym, ap, inl, inr}
 use Rattle.std.specs.Prelude.{option_map, is_some, not, ◌||◌}
 use Rattle.std.specs.List.{last_or}
-use Rattle.std.specs.BTreeMap.{BTreeMap, get, insert_entry, UpdatesBy, IsOrdered}
-use Rattle.std.specs.FinMap.Entries.{find, put}
+use Rattle.std.specs.BTreeMap.{BTreeMap, get, IsFromIterResult, UpdatesBy, IsOrdered}
+use Rattle.std.specs.Map.{update, update_all}
+use Rattle.std.specs.FinMap.Entries.{put}
 use Rattle.std.proofs.lemmas.Bool.{cases_Bool}
-use Rattle.std.proofs.lemmas.List.{map-append, map_push, append-nil}
+use Rattle.std.proofs.lemmas.List.{map-append, append-nil}
 use Rattle.std.proofs.lemmas.List.Elements.{filter-append}
-use Rattle.std.proofs.lemmas.List.Sums.{sum_by_push, fold_push}
+use Rattle.std.proofs.lemmas.List.Sums.{sum_by_push}
 use Rattle.esc_tables.specs.KeyName.{KeyName, key_cmp, key_eq}
 use Rattle.esc_tables.specs.ObjectValue.{RowValue, ObjectValue}
-use Rattle.esc_tables.specs.Objects.{at_key, has_pair, with_children, with_child, alone, object_of, last_by_key, objects_of, orphans_of}
+use Rattle.esc_tables.specs.Objects.{at_key, has_pair, with_children, with_child, alone, object_of, objects_of, orphans_of}
 use Rattle.esc_tables.specs.KeyLaws.{keys_alike, one_key}
-use Rattle.esc_tables.proofs.ObjectFacts.{putting, put_is, found_is, sorted_from, same_objects, last_by_key_found, objects_found, objects_sorted}
+use Rattle.esc_tables.proofs.ObjectFacts.{found_is, sorted_from, same_objects, last_at, objects_found, objects_sorted}
 
 -- ---- one step of the map
 
@@ -88,18 +89,17 @@ at_key_alone : (k : KeyName) (ps : List (KeyName × RowValue)) → at_key k (map
 at_key_alone k [] = refl
 at_key_alone k (p ∷ ps) = elim (cases_Bool (key_eq k p.0)) [ inl e ↦ rw e (ap (λ (os : List ObjectValue). with_children [] p.1 ∷ os) (at_key_alone k ps)) | inr e ↦ rw e (at_key_alone k ps) ]
 
+-- pairs inserted one after another: of a key the last value is found
+updated : {X : Type 0} (k : KeyName) (ps : List (KeyName × X)) (f : KeyName → Option X) → update_all key_eq f ps k ≡ last_or (f k) (at_key k ps)
+updated k [] f = refl
+updated {X = X} k (p ∷ ps) f =
+    updated k ps (update key_eq f p.0 (Some p.1)) ∙ ap (λ (b : Bool). last_or (cond b (Some p.1) (f k)) (at_key k ps)) (keys_alike.symm p.0 k) ∙ sym (last_at k p ps (f k))
+
 -- parent rows alone, before any child row
-pub parents_found : (parents : List (KeyName × RowValue)) (m : BTreeMap KeyName ObjectValue) → m.entries ≡ last_by_key (map alone parents) → (k : KeyName) → get key_cmp m k ≡ object_of parents [] k
-parents_found parents m is k =
-    sym (found_is k m.entries) ∙ ap (find key_cmp k) is ∙ last_by_key_found k (map alone parents) ∙ ap (last_or None) (at_key_alone k parents) ∙ last_mapped (with_children []) (at_key k parents) None
+pub parents_found : (parents : List (KeyName × RowValue)) (m : BTreeMap KeyName ObjectValue) → IsFromIterResult key_cmp (map alone parents) m → (k : KeyName) → get key_cmp m k ≡ object_of parents [] k
+parents_found parents m made k = made.0 k ∙ updated k (map alone parents) (λ _. None) ∙ ap (last_or None) (at_key_alone k parents) ∙ last_mapped (with_children []) (at_key k parents) None
 
 -- a map that has for each key its object has these entries
 pub entries_are : (parents children : List (KeyName × RowValue)) (m : BTreeMap KeyName ObjectValue) → IsOrdered key_cmp m → ((k : KeyName) → get key_cmp m k ≡ object_of parents children k) → m.entries ≡ objects_of parents children
 entries_are parents children m ordered has =
     same_objects m.entries (objects_of parents children) (sorted_from m.entries ordered) (objects_sorted parents children) (λ k. found_is k m.entries ∙ has k ∙ sym (objects_found parents children k))
-
--- a parent row put at its key
-pub parent_more : (ps : List (KeyName × RowValue)) (p : KeyName × RowValue) (old new : List (KeyName × ObjectValue)) → old ≡ last_by_key (map alone ps) → new ≡ insert_entry key_cmp old p.0 (with_children [] p.1) → new ≡ last_by_key (map alone (ps ++ (p ∷ [])))
-parent_more ps p old new before put_there =
-    put_there ∙ sym (put_is old p.0 (with_children [] p.1)) ∙ ap (λ (es : List (KeyName × ObjectValue)). put key_cmp p.0 (with_children [] p.1) es) before
-    ∙ sym (fold_push putting [] (map alone ps) (alone p)) ∙ ap last_by_key (sym (map_push alone ps p))

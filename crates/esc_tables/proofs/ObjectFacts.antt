@@ -4,11 +4,11 @@ use Rattle.std.specs.Prelude.{option_map, T, ◌&&◌}
 use Rattle.std.specs.List.{last_or, fold, AllByRecursion}
 use Rattle.std.specs.List.Sorted.{IsStrictlySortedBy}
 use Rattle.std.specs.Map.{lookup, keys_of}
-use Rattle.std.specs.BTreeMap.{is_at, insert_entry}
-use Rattle.std.specs.FinMap.Entries.{put, find, is_sorted, below_all, find-put, is_sorted-put, same_entries, by_order}
-use Rattle.std.specs.Ordering.{match_ordering, is_lt}
+use Rattle.std.specs.BTreeMap.{is_at}
+use Rattle.std.specs.FinMap.Entries.{put, find, is_sorted, below_all, find-put, is_sorted-put, same_entries}
+use Rattle.std.specs.Ordering.{is_lt}
 use Rattle.std.specs.declared.cmp.Ordering.{Ordering}
-use Rattle.std.specs.declared.cmp.Ordering.TheVariants.{Less, Equal, Greater}
+use Rattle.std.specs.declared.cmp.Ordering.TheVariants.{Less}
 use Rattle.std.proofs.lemmas.Bool.{cases_Bool}
 use Rattle.esc_tables.specs.KeyName.{KeyName, key_cmp, key_eq}
 use Rattle.esc_tables.specs.ObjectValue.{RowValue, ObjectValue}
@@ -20,15 +20,6 @@ use Rattle.esc_tables.specs.KeyLaws.{keys_total, keys_exact, one_key}
 pub found_is : {X : Type 0} (k : KeyName) (es : List (KeyName × X)) → find key_cmp k es ≡ lookup (is_at (key_cmp k)) es
 found_is k [] = refl
 found_is {X = X} k (e ∷ es) = ap (λ (o : Option X). cond (key_eq k e.0) (Some e.1) o) (found_is k es)
-
-put_by : {X : Type 0} (r : Ordering) (k : KeyName) (v : X) (e : KeyName × X) (es fs gs : List (KeyName × X)) → fs ≡ gs → by_order r ((k, v) ∷ e ∷ es) ((e.0, v) ∷ es) (e ∷ fs) ≡ match_ordering r ((k, v) ∷ e ∷ es) ((e.0, v) ∷ es) (e ∷ gs)
-put_by Less k v e es fs gs same = refl
-put_by Equal k v e es fs gs same = refl
-put_by {X = X} Greater k v e es fs gs same = ap (λ (l : List (KeyName × X)). e ∷ l) same
-
-pub put_is : {X : Type 0} (es : List (KeyName × X)) (k : KeyName) (v : X) → put key_cmp k v es ≡ insert_entry key_cmp es k v
-put_is [] k v = refl
-put_is (e ∷ es) k v = put_by (key_cmp k e.0) k v e es (put key_cmp k v es) (insert_entry key_cmp es k v) (put_is es k v)
 
 both_hold : (a b : Bool) → T a → T b → T (a && b)
 both_hold true b p q = q
@@ -49,7 +40,7 @@ same_objects es fs first then same = same_entries key_cmp keys_total keys_exact 
 
 -- ---- each key once, with its last value
 
-last_at : {X : Type 0} (k : KeyName) (p : KeyName × X) (ps : List (KeyName × X)) (o : Option X) → last_or o (at_key k (p ∷ ps)) ≡ last_or (cond (key_eq k p.0) (Some p.1) o) (at_key k ps)
+pub last_at : {X : Type 0} (k : KeyName) (p : KeyName × X) (ps : List (KeyName × X)) (o : Option X) → last_or o (at_key k (p ∷ ps)) ≡ last_or (cond (key_eq k p.0) (Some p.1) o) (at_key k ps)
 last_at k p ps o = elim (cases_Bool (key_eq k p.0)) [ inl e ↦ rw e refl | inr e ↦ rw e refl ]
 
 abbrev pub putting : {X : Type 0} → List (KeyName × X) → KeyName × X → List (KeyName × X)

@@ -1,9 +1,9 @@
 //! Objects gathered from rows.
 
 ghost use Rattle.std.specs.Prelude.{◌≡◌, IfOk, OnOk, is_some, map, option_map, if◌then◌else◌};
-ghost use Rattle.std.specs.BTreeMap.{get, insert_entry, IsOrdered};
+ghost use Rattle.std.specs.BTreeMap.{get, IsFromIterResult, IsOrdered};
 ghost use Rattle.esc_tables.specs.KeyName.{KeyName, key_cmp, key_eq};
-ghost use Rattle.esc_tables.specs.Objects.{alone, with_child, last_by_key, objects_of, orphans_of};
+ghost use Rattle.esc_tables.specs.Objects.{alone, with_child, objects_of, orphans_of};
 
 use crate::key::Key;
 use crate::object::{Object, Row};
@@ -18,29 +18,25 @@ pub struct Gathered {
     pub orphans: u64,
 }
 
-fn put(objects: &mut BTreeMap<Key, Object>, key: Key, object: Object) -> Result<(), NoMemory>
-    ensures entries { OnOk result
-        (objects.new.entries ≡ insert_entry key_cmp objects.old.entries key object) }
-    ensures ordered { OnOk result (IsOrdered key_cmp objects.new) }
+// The object of a parent row, with no child row yet.
+fn alone(alloc: Global, row: (Key, Row)) -> (Key, Object)
+    ensures { result ≡ alone row }
 {
-    objects.insert(key, object)?;
-    Ok(())
+    let (key, parent) = row;
+    let children = Vec::new(alloc);
+    (key, Object { parent, children })
 }
 
-// Each key's last parent row, with no child row yet.
+// Each key's last parent row, with no child row yet. All rows are sorted at once, which takes fewer
+// comparisons of keys than to insert one by one.
 fn with_parents(alloc: Global, rows: Vec<(Key, Row)>) -> Result<BTreeMap<Key, Object>, NoMemory>
-    ensures entries { IfOk result (λ m. m.entries ≡ last_by_key (map alone rows.items)) }
-    ensures ordered { IfOk result (λ m. IsOrdered key_cmp m) }
+    ensures { IfOk result (IsFromIterResult key_cmp (map alone rows.items)) }
 {
-    let mut objects = BTreeMap::new(alloc);
-    for (key, parent) in rows {
-        let object = Object {
-            parent,
-            children: Vec::new(alloc),
-        };
-        put(&mut objects, key, object)?;
-    }
-    Ok(objects)
+    Ok(
+        rows.into_iter()
+            .map(|row| alone(alloc, row))
+            .collect(alloc)?,
+    )
 }
 
 fn push_child(object: &mut Object, row: Row) -> Result<(), NoMemory>

@@ -11,8 +11,8 @@ use Rattle.esc_tables.proofs.gather.gather.Goals.{then-not-branch, else-not-bran
 
 pub loop-key-init : goal.loop-key-init
 loop-key-init c = record {
-  gathered = parents_found c.args.parents.items c.in_ok-objects.objects c.in_ok-objects.ensures.entries;
-  ordered = c.in_ok-objects.ensures.ordered;
+  gathered = parents_found c.args.parents.items c.in_ok-objects.objects c.in_ok-objects.ensures;
+  ordered = c.in_ok-objects.ensures.1;
   counted = refl;
   few = omega arith;
   whole = search rules;
