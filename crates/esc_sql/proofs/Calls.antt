@@ -8,7 +8,7 @@ pub use Rattle.esc_sql.proofs.CreateLemmas.{adds_next, adds_table, builds, AddsB
 pub use Rattle.esc_sql.proofs.DecodeLemmas.{reads_back, reads_each, reads_numbers, numbers_are, one_more}
 pub use Rattle.esc_sql.proofs.EndLemmas.{rollback_ends, rollback_keeps, rollback_undoes, rollback_commits_none, begin_ends, begin_shows, begin_keeps, begin_commits_none, commit_shows, commit_leaves, commit_ends, fails_keeps}
 pub use Rattle.esc_sql.proofs.Forms.{opens_first, opens_store}
-pub use Rattle.esc_sql.proofs.ObjectLemmas.{finds_object, clears_objects, removes_object, inserts_objects, update_part, inserts_object, puts_set, puts_new, put_entry}
+pub use Rattle.esc_sql.proofs.ObjectLemmas.{finds_object, clears_objects, removes_object, inserts_objects, update_part, adds_object, puts_set, puts_new}
 pub use Rattle.esc_sql.proofs.ObjectLists.{lists_objects, shows_kinds, shows_objects, lists_kinds, shows_from, lists_from}
 pub use Rattle.esc_sql.proofs.ParkedLemmas.{finds_moment, clears_moment, moment_is, sets_moment, shows_digests, finds_parked, removes_parked, puts_parked, lists_parked}
 pub use Rattle.esc_sql.proofs.PartLemmas.{parts, part_as, then_part, tells, makes, read_part, read_then, refused}

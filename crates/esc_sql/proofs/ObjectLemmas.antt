@@ -8,7 +8,7 @@ use Rattle.std.specs.Prelude.{unwrap_or}
 use Rattle.std.proofs.lemmas.List.{nil_from_length}
 use Rattle.sqlite.specs.Held.{Held}
 use Rattle.esc_sql.specs.StatementSteps.{with_bytes, UpdatesObject, shown_bytes, ShowsObject}
-use Rattle.esc_sql.specs.Changes.{PutsObject, RemovesObject, without_objects}
+use Rattle.esc_sql.specs.Changes.{AddsObject, PutsObject, RemovesObject, without_objects}
 use Rattle.esc_sql.proofs.Compiled.{object_tests, object_sets, program_of, IsWrite, new_object_terms, write_is, query_is}
 use Rattle.esc_sql.proofs.ManyRows.{column_behind, rows_given, gains}
 use Rattle.esc_sql.proofs.PartLemmas.{Counted, count_part, IsAsking, IsWriting, writing_as}
@@ -51,8 +51,11 @@ adds_objects es it given =
     (λ k. is_object_at k.0 k.1) (λ k. is_entry_at k.0 k.1) (λ k n e. refl) (few object_keys (λ _. true)) es it given)
     (λ old new put c h. let it = put c h in (it.0, it.1, record { fresh = λ k q. (it.2 (k, q)).0; same = λ k q. (it.2 (k, q)).1 }))
 
-pub inserts_object : (e : ObjectEntry) → IsWriting insert_object_text (shown_entry e) (PutsObjects (e ∷ []))
-inserts_object e = adds_objects (e ∷ []) (write_is refl) refl
+pub adds_object : (kind : ℕ) (key bytes : List ℕ) → IsWriting insert_object_text (object_params kind key bytes) (AddsObject kind key bytes)
+adds_object kind key bytes =
+    writing_as (adds_objects (record { kind = kind; key = key; bytes = bytes } ∷ []) (write_is refl) refl) (λ old new put c h.
+    let it = put c h in
+    (it.0, it.1, it.2.fresh kind key (rw (object_keys.laws.refl (kind, key)) refl), λ k q. grind (arith, it.2.same k q)))
 
 pub inserts_objects : (es : List ObjectEntry) → length es ≡ ROWS_AT_ONCE → IsWriting insert_objects_text (flat_map shown_entry es) (PutsObjects es)
 inserts_objects es long =
@@ -127,14 +130,11 @@ module _ (kind : ℕ) (key bytes : List ℕ) where
     λ k q. grind (arith, keys_are kind key k q, is_set c.objects (λ none. some (counted c h ∙ none)), stays_at k q c.objects),
   )
 
-  abbrev pub put_entry : ObjectEntry
-  put_entry = record { kind = kind; key = key; bytes = bytes }
-
-  pub puts_new : (count : ℕ) (old mid new : Database) → UpdatesObject kind key bytes old mid → CountsObject kind key count old → count ≡ 0 → PutsObjects (put_entry ∷ []) mid new → PutsObject kind key bytes old new
+  pub puts_new : (count : ℕ) (old mid new : Database) → UpdatesObject kind key bytes old mid → CountsObject kind key count old → count ≡ 0 → AddsObject kind key bytes mid new → PutsObject kind key bytes old new
   puts_new count old mid new updated counted is inserted c h =
       let same = set_rows c.objects [] (nil_from_length _ (sym (counted c h) ∙ is)) (h.store.ordered Objects) in
       let put = inserted c (subst (λ os. HoldsContent mid (record c { objects = os })) (sym same) (updated c h)) in
-      (put.0, put.1, λ k q. grind (arith, put.2.same k q))
+      (put.0, put.1, put.3)
 
 -- ---- delete
 

@@ -36,6 +36,16 @@ PutsObject kind key bytes old new =
     → object_at k q os
     ≡ (if is_same_key kind key k q then Some bytes else object_at k q c.objects))
 
+-- the record is put at the key, which had none, and each other key keeps its record
+abbrev pub AddsObject : ℕ → List ℕ → List ℕ → Database → Database → Type 0
+AddsObject kind key bytes old new =
+    (c : Content) → HoldsContent old c
+    → (os : List ObjectRow) × HoldsContent new (record c { objects = os })
+    × (object_at kind key c.objects ≡ None)
+    × ((k : ℕ) (q : List ℕ)
+    → object_at k q os
+    ≡ (if is_same_key kind key k q then Some bytes else object_at k q c.objects))
+
 -- there is no record at the key, and each other key keeps its record
 abbrev pub RemovesObject : ℕ → List ℕ → Database → Database → Type 0
 RemovesObject kind key old new =

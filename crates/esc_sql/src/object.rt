@@ -6,8 +6,9 @@ ghost use Rattle.sqlite.specs.Held.{state};
 ghost use Rattle.sqlite.specs.Values.{bound};
 ghost use Rattle.esc_sql.specs.Part.{IsPart, IsRead};
 ghost use Rattle.esc_sql.specs.Content.{object_at};
-ghost use Rattle.esc_sql.specs.Changes.{Becomes, Tells, PutsObject, PutsObjects, RemovesObject};
-ghost use Rattle.esc_sql.specs.Changes.{without_objects, ObjectEntry, ListsObjects, ListsKinds};
+ghost use Rattle.esc_sql.specs.Changes.{Becomes, Tells, AddsObject, PutsObject, PutsObjects};
+ghost use Rattle.esc_sql.specs.Changes.{RemovesObject, without_objects, ObjectEntry, ListsObjects};
+ghost use Rattle.esc_sql.specs.Changes.{ListsKinds};
 ghost use Rattle.esc_sql.specs.Entries.{stored_entry, new_entry, shown_entry};
 ghost use Rattle.esc_sql.specs.StatementSteps.{ShowsObject, ShowsObjects, ShowsKinds};
 
@@ -36,6 +37,23 @@ pub struct NewObject<'a> {
     pub record: Vec<u8>,
 }
 
+/// Adds an object at a key that has none. If the key has one already, it is an error.
+pub fn insert_object<S: Alter>(
+    conn: &mut Connection<S>,
+    kind: u32,
+    key: &[u8],
+    bytes: &[u8],
+) -> Result<(), Error>
+    ensures part { IsPart (state S.Store conn.old) (state S.Store conn.new)
+        (AddsObject kind key.now bytes.now) result }
+{
+    write_within(
+        conn,
+        "INSERT INTO object (kind, key, record) VALUES (?1, ?2, ?3)",
+        params![kind, key, bytes],
+    )
+}
+
 /// Writes the record of the key, in place of an earlier one.
 // Most keys that are put are there already, so the update comes first.
 pub fn put_object<S: Alter>(
@@ -53,11 +71,7 @@ pub fn put_object<S: Alter>(
         params![kind, key, bytes],
     )?;
     if updated == 0 {
-        write_within(
-            conn,
-            "INSERT INTO object (kind, key, record) VALUES (?1, ?2, ?3)",
-            params![kind, key, bytes],
-        )?;
+        insert_object(conn, kind, key, bytes)?;
     }
     Ok(())
 }
