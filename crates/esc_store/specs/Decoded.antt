@@ -14,6 +14,7 @@ use Rattle.esc_apply.specs.Registry.{State}
 use Rattle.esc_sql.specs.Changes.{ObjectEntry, ImageEntry, entry_at, image_entry_at}
 use Rattle.esc_sql.specs.Rows.{ReceiptRow}
 use Rattle.esc_store.specs.declared.counts.KindCounts.{KindCounts}
+use Rattle.esc_store.specs.declared.reply.Verdict.TheVariants.{A1, A2, A5}
 use Rattle.esc_store.specs.StoreState.{IsRising}
 use Rattle.esc_store.specs.ReplyValue.{ReceiptValue}
 use Rattle.esc_store.specs.TypedRows.{image_kept, verdict_number}
@@ -52,11 +53,12 @@ AreOfVerdict verdict receipts digests =
 
 -- the row of a receipt that says that its deposit is held
 abbrev pub row_if_held : ReceiptRow → Option ℕ
-row_if_held r = cond (r.verdict == 1) r.row None
+row_if_held r = cond (r.verdict == verdict_number A1) r.row None
 
 -- the digest of a receipt of a body that no row listed
 abbrev pub digest_if_unlisted : ReceiptRow → Option (List ℕ)
-digest_if_unlisted r = cond ((r.verdict == 2) || (r.verdict == 5)) (Some r.digest) None
+digest_if_unlisted r = cond
+    ((r.verdict == verdict_number A2) || (r.verdict == verdict_number A5)) (Some r.digest) None
 
 -- how often the number of a kind occurs among these
 abbrev pub times : Kind → List ℕ → ℕ
