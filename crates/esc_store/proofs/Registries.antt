@@ -10,7 +10,7 @@ use Rattle.esc_apply.specs.Registry.{nothing, with_key, taken, ObjectsByKey}
 use Rattle.esc_tables.specs.KeyLaws.{key_itself, one_key as same_key}
 use Rattle.esc_sql.specs.Content.{is_same_key, is_same_image, rows_of, with_rows}
 use Rattle.esc_sql.specs.StoreTable.{StoreTable, RowOf, Objects}
-use Rattle.esc_sql.specs.Changes.{PutsImage}
+use Rattle.esc_sql.specs.Changes.{AddsObject, PutsImage}
 use Rattle.esc_sql.specs.Rows.{UndoRow}
 use Rattle.esc_store.specs.TypedRows.{at_stored_key}
 pub use Rattle.esc_store.proofs.Following.{moved, follows_step, holds_step, holds_all, become_turns}
@@ -135,6 +135,9 @@ images_then {s} f {us} {c} only none some it = subst (λ x. IsRegistry x (record
 -- at this key the objects have these bytes, or none, and the others stay
 abbrev pub SetsAt : ℕ → List ℕ → Option (List ℕ) → List ObjectRow → List ObjectRow → Type 0
 SetsAt kind key w before after = (n : ℕ) (text : List ℕ) → object_at n text after ≡ (if is_same_key kind key n text then w else object_at n text before)
+
+pub adding : (kind : ℕ) (key bytes : List ℕ) (old new : Database) → AddsObject kind key bytes old new → Turns (Replaces Objects (SetsAt kind key (Some bytes))) old new
+adding kind key bytes old new made = replacing Objects (SetsAt kind key (Some bytes)) old new (λ c holds. let m = made c holds in (m.0, m.1, m.3))
 
 pub set_registry : {s : State} (k : KeyName) (o : Option ObjectValue) {kind : ℕ} {key : List ℕ} {w : Option (List ℕ)} {c c' : Content} → kind ≡ kind_rank k.kind → key ≡ k.text → option_and_then record_of o ≡ w → IfSome o (λ x. IsSome (record_of x))
     → Replaces Objects (SetsAt kind key w) c c' → IsRegistry c s → IsRegistry c' (written s k o)

@@ -1,10 +1,14 @@
 -- Objects that are put many at a time, after what their keys had is noted.
-use Rattle.std.specs.Prelude.{◌≡◌, ℕ, List, None, map, All}
+use Rattle.std.specs.Prelude.{◌≡◌, ℕ, List, None, Some, map, All}
 use Rattle.sqlite_trees.specs.declared.store.Store.{Ghosts}
+use Rattle.esc_envelope.specs.Kinds.{kind_rank}
+use Rattle.esc_tables.specs.KeyName.{KeyName}
+use Rattle.esc_tables.specs.ObjectValue.{ObjectValue}
+use Rattle.esc_record.specs.Record.{record_of}
 use Rattle.esc_apply.specs.declared.registry.Keys.{Keys}
 use Rattle.esc_apply.specs.declared.registry.Keys.TheVariants.{Vacant}
 use Rattle.esc_apply.specs.ObjectStreams.{Entry}
-use Rattle.esc_apply.specs.Registry.{State}
+use Rattle.esc_apply.specs.Registry.{State, written}
 use Rattle.esc_apply.specs.Changes.{with_object, changed_by, CanBePut}
 use Rattle.esc_sql.specs.Changes.{ObjectEntry, ImageEntry}
 use Rattle.esc_store.specs.Pages.{AreRowsOf}
@@ -18,6 +22,13 @@ after_filling s step es = changed_by s step (map with_object es)
 -- what the keys of these objects had is noted for the step, and the objects are to be put
 abbrev pub after_noting : State → ℕ → List Entry → State
 after_noting s step es = record { content = s.content; undo = (after_filling s step es).undo }
+
+-- a change has put the object whose record is these bytes, at the key of this kind and text
+abbrev pub PutsRecord : {S : Type 0} → Ghosts S → ℕ → List ℕ → List ℕ → ChangeOf S → ChangeOf S
+    → Type 0
+PutsRecord g kind text bytes old new = (s : State) (k : KeyName) (o : ObjectValue)
+    → kind ≡ kind_rank k.kind → text ≡ k.text → record_of o ≡ Some bytes
+    → HasMadeTables g old s → HasMadeTables g new (written s k (Some o))
 
 -- the before-image that says what the row's key has in this state
 abbrev pub image_now : State → ObjectEntry → ImageEntry

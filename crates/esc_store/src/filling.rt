@@ -6,7 +6,8 @@ ghost use Rattle.esc_apply.specs.Changes.{with_object, CanBePut};
 ghost use Rattle.esc_apply.specs.declared.registry.Keys.TheVariants.{Vacant};
 ghost use Rattle.esc_sql.specs.Entries.{new_entry, new_image};
 ghost use Rattle.esc_store.specs.Faults.{IsS1OrS2};
-ghost use Rattle.esc_store.specs.Filling.{after_filling, AreImagesNow, FillsRows, PutsRows};
+ghost use Rattle.esc_store.specs.Filling.{after_filling, AreImagesNow, FillsRows, PutsRecord};
+ghost use Rattle.esc_store.specs.Filling.{PutsRows};
 ghost use Rattle.esc_store.specs.Pages.{entry_row, record_row};
 ghost use Rattle.esc_store.specs.Representation.{HasMadeTables, ChangeFollows, IsHonest, store_in};
 ghost use Rattle.esc_store.specs.TypedRows.{record_at_key};
@@ -88,7 +89,7 @@ impl<'a, S: Alter> Change<'a, S> {
                 let done = insert_objects(alloc, &mut self.store.conn, rows);
                 self.store.settle(done)
             }
-            Keys::Unknown => self.put_each(rows),
+            Keys::Unknown => self.put_each(rows, images.as_slice()),
         }
     }
 
@@ -138,8 +139,9 @@ impl<'a, S: Alter> Change<'a, S> {
         }
     }
 
-    // Puts the objects of these rows one by one: it is noted what their keys had.
-    fn put_each(&mut self, rows: &[NewObject<'_>]) -> Result<(), SFault>
+    // Puts the objects of these rows one by one, by what is noted that their keys had.
+    fn put_each(&mut self, rows: &[NewObject<'_>], images: &[NewImage<'_>]) -> Result<(), SFault>
+        requires { length images.now ≡ length rows.now }
         ensures count { self.new.count ≡ self.old.count }
         ensures follows { ChangeFollows S.Store self.old self.new }
         ensures put { OnOk result (PutsRows S.Store (map new_entry rows.now) self.old self.new) }
@@ -147,9 +149,24 @@ impl<'a, S: Alter> Change<'a, S> {
     {
         for at in 0..rows.len() {
             let row = &rows[at];
-            self.put_stored(row.kind, row.key, row.record.as_slice())?;
+            self.put_row(row, images[at].record.is_some())?;
         }
         Ok(())
+    }
+
+    // Puts the object of a row, whose key is known to have one or none.
+    fn put_row(&mut self, row: &NewObject<'_>, has_one: bool) -> Result<(), SFault>
+        ensures count { self.new.count ≡ self.old.count }
+        ensures follows { ChangeFollows S.Store self.old self.new }
+        ensures written { OnOk result (PutsRecord S.Store row.now.kind row.now.key.now
+            row.now.record.items self.old self.new) }
+        ensures cause { IfErr result IsS1OrS2 }
+    {
+        if has_one {
+            self.put_stored(row.kind, row.key, row.record.as_slice())
+        } else {
+            self.add_stored(row.kind, row.key, row.record.as_slice())
+        }
     }
 
     // Puts the objects of these rows one by one, each after its before-image.
@@ -164,7 +181,7 @@ impl<'a, S: Alter> Change<'a, S> {
             let row = &rows[at];
             let before = self.find_before(targets, row)?;
             self.note_stored(step, row.kind, row.key, before.as_deref())?;
-            self.put_stored(row.kind, row.key, row.record.as_slice())?;
+            self.put_row(row, before.is_some())?;
         }
         Ok(())
     }

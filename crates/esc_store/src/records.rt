@@ -1,24 +1,24 @@
 //! The records of objects and before-images in a change, by their keys.
 
-ghost use Rattle.std.specs.Prelude.{◌≡◌, Some, None, map, option_map, IfOk, IfErr, OnOk, IfSome};
+ghost use Rattle.std.specs.Prelude.{◌≡◌, None, map, option_map, IfOk, IfErr, OnOk, IfSome};
 ghost use Rattle.std.specs.Prelude.{IsSome};
 ghost use Rattle.std.specs.Option.{option_and_then};
 ghost use Rattle.sqlite.specs.Held.{state};
 ghost use Rattle.sqlite.specs.State.{HasCleanDisk};
 ghost use Rattle.esc_envelope.specs.Kinds.{kind_rank};
 ghost use Rattle.esc_tables.specs.KeyName.{KeyName};
-ghost use Rattle.esc_tables.specs.ObjectValue.{ObjectValue};
 ghost use Rattle.esc_record.specs.Record.{record_of};
 ghost use Rattle.esc_apply.specs.Registry.{State, empty, written, noted, taken};
 ghost use Rattle.esc_sql.specs.Entries.{stored_image};
 ghost use Rattle.esc_store.specs.Decoded.{AreNotes};
 ghost use Rattle.esc_store.specs.Faults.{IsS1OrS2};
+ghost use Rattle.esc_store.specs.Filling.{PutsRecord};
 ghost use Rattle.esc_store.specs.Representation.{HasMadeTables, ChangeFollows};
 ghost use Rattle.esc_store.specs.TypedRows.{record_at_key};
 
 use crate::change::Change;
 use crate::fault::SFault;
-use esc_sql::object::{clear_objects, delete_object, find_object, put_object};
+use esc_sql::object::{clear_objects, delete_object, find_object, insert_object, put_object};
 use esc_sql::undo::{StoredImage, clear_undo, delete_undo, insert_undo, select_undo};
 use sqlite::Alter;
 use std::alloc::Global;
@@ -42,13 +42,24 @@ impl<'a, S: Alter> Change<'a, S> {
     pub(crate) fn put_stored(&mut self, kind: u32, text: &[u8], bytes: &[u8]) -> Result<(), SFault>
         ensures count { self.new.count ≡ self.old.count }
         ensures follows { ChangeFollows S.Store self.old self.new }
-        ensures written { OnOk result ((s : State) (k : KeyName) (o : ObjectValue)
-            → kind ≡ kind_rank k.kind → text.now ≡ k.text → record_of o ≡ Some bytes.now
-            → HasMadeTables S.Store self.old s
-            → HasMadeTables S.Store self.new (written s k (Some o))) }
+        ensures written { OnOk result (PutsRecord S.Store kind text.now bytes.now
+            self.old self.new) }
         ensures cause { IfErr result IsS1OrS2 }
     {
         let done = put_object(&mut self.store.conn, kind, text, bytes);
+        self.store.settle(done)
+    }
+
+    // Writes a record at such a key, which has none: it takes one statement, where `put_stored`
+    // would take two. `S1` if the key has one.
+    pub(crate) fn add_stored(&mut self, kind: u32, text: &[u8], bytes: &[u8]) -> Result<(), SFault>
+        ensures count { self.new.count ≡ self.old.count }
+        ensures follows { ChangeFollows S.Store self.old self.new }
+        ensures written { OnOk result (PutsRecord S.Store kind text.now bytes.now
+            self.old self.new) }
+        ensures cause { IfErr result IsS1OrS2 }
+    {
+        let done = insert_object(&mut self.store.conn, kind, text, bytes);
         self.store.settle(done)
     }
 

@@ -1,4 +1,4 @@
-use Rattle.esc_store.proofs.Common.{◌∙◌, [], map, refl, ap, sym, arith, drop_all, Some, with_object, after_noting, written, HasMadeTables}
+use Rattle.esc_store.proofs.Common.{◌∙◌, [], map, refl, arith, drop_all, Some, with_object, after_noting, written, HasMadeTables}
 use Rattle.esc_store.proofs.Filled.{written_by-noted, returns_last, parts, follows_then, pending_rows, pending_next, pending_last, follows_same}
 use Rattle.esc_store.proofs.filling.Change+S.put_each.Goals as goal
 
@@ -11,11 +11,11 @@ loop-at-init g c = record {
 
 pub loop-at-preserved : goal.loop-at-preserved
 loop-at-preserved g c = record {
-  follows = follows_then c.loop-at.invariant.follows c.put_stored.ensures.follows;
-  count = c.put_stored.ensures.count ∙ c.loop-at.invariant.count;
+  follows = follows_then c.loop-at.invariant.follows c.put_row.ensures.follows;
+  count = c.put_row.ensures.count ∙ c.loop-at.invariant.count;
   writing = λ s step es are held. pending_next c.args.rows.now c.loop-at-test.true c.index-rows-at.is (c.loop-at.invariant.writing s step es are held) (λ e es same left.
       let (kinds, texts, bytes) = parts e _ same in
-      record { now = written left.now e.0 (Some e.1); held = c.in_ok-put_stored.ensures.written left.now e.0 e.1 kinds texts (bytes ∙ ap Some (sym c.as_slice.ensures.value)) left.held; leads = left.leads });
+      record { now = written left.now e.0 (Some e.1); held = c.in_ok-put_row.ensures.written left.now e.0 e.1 kinds texts bytes left.held; leads = left.leads });
 }
 
 pub returns-clause-put : goal.returns-clause-put
