@@ -1,25 +1,26 @@
-"""A registry that looks real, made from a seed, and the bundles of its objects: for make_large, and for tests, trials and benchmarks."""
+"""A registry that looks real, made from a seed, and the bundles of its objects: for make_large, and for tests, trials and benchmarks. Its
+objects are valid by RFC 9022, but for the links and statuses that break a rule, and its fields have the names that unpack_rde writes."""
 import csv, datetime, io, json, random
 
 FIRST = datetime.date(2024, 3, 3)
-NUMBERS = {'registrar': 40, 'contact': 8_000, 'host': 4_000, 'domain': 20_000, 'idn': 6, 'nndn': 200}
+NUMBERS = {'registrar': 40, 'contact': 4_000, 'host': 4_000, 'domain': 20_000, 'idn': 6, 'nndn': 200}
 # The order in which they are made: links lead to what is there.
 ORDER = ('registrar', 'idn', 'contact', 'host', 'domain', 'nndn')
 # Of each table: kind, role and fields, of which the first is the key.
 TABLES = {name: (kind, role, fields.split()) for name, kind, role, fields in (
-    ('registrar', 'registrar', 'parent', 'id name gurid status street1 city cc voice email url crDate upDate'),
+    ('registrar', 'registrar', 'parent', 'id name gurid status street.0 city cc voice email url crDate upDate'),
     ('contact', 'contact', 'parent', 'id roid voice fax email clID crRr crDate upRr upDate'),
-    ('contactPostal', 'contact', 'child', 'id type name org street1 city sp pc cc'),
+    ('contactPostal', 'contact', 'child', 'id postalType name org street.0 city sp pc cc'),
     ('contactStatuses', 'contact', 'child', 'id status'),
     ('host', 'host', 'parent', 'name roid clID crRr crDate upRr upDate'),
-    ('hostAddresses', 'host', 'child', 'name address ip'),
-    ('hostStatuses', 'host', 'child', 'name status reason'),
-    ('domain', 'domain', 'parent', 'name roid uName idnTableId originalName registrant clID crRr crDate exDate upRr upDate note'),
-    ('domainContacts', 'domain', 'child', 'name type contactId'),
+    ('hostAddresses', 'host', 'child', 'name addr addrVersion'),
+    ('hostStatuses', 'host', 'child', 'name status'),
+    ('domain', 'domain', 'parent', 'name roid uName idnTableId originalName registrant clID crRr crDate exDate upRr upDate custom.note'),
+    ('domainContacts', 'domain', 'child', 'name contactType contactId'),
     ('domainNs', 'domain', 'child', 'name hostName'),
-    ('domainStatuses', 'domain', 'child', 'name status rgpStatus reason'),
-    ('secDNS', 'domain', 'child', 'name keyTag alg digestType digest'),
-    ('idn', 'idn', 'parent', 'id url'),
+    ('domainStatuses', 'domain', 'child', 'name status rgpStatus statusDescription'),
+    ('secDNS', 'domain', 'child', 'name keyTag dsAlg digestType digest'),
+    ('idn', 'idn', 'parent', 'idnTableId url urlPolicy'),
     ('nndn', 'nndn', 'parent', 'aName uName idnTableId originalName nameState crDate'),
 )}
 WORDS = ('alder amber birch brook cedar clover coral delta ember fern flint garnet grove harbor hazel heron iris ivory juniper kelp larch '
@@ -81,19 +82,19 @@ class Registry:
     def contact(self, key, created, updated):
         sponsor = self.some('registrar')
         mail = self.phone(), self.phone(), f'{self.words(2, ".")}.{self.digits(5)}@mail.{self.words(2, "-")}.example'
-        yield 'contact', [key, f'{key}-ROID', *mail, sponsor, sponsor, created, sponsor if updated else '', updated]
+        yield 'contact', [key, f'{key.replace("-", "_")}-ROID', *mail, sponsor, sponsor, created, sponsor if updated else '', updated]
         name, company = f'{self.words(2).title()} Jänsen', f'{self.words(2).title()}, {self.words(1).title()} & Sons B.V.'
         street = self.street()
         city = f'{self.words(1).title()} upon {self.words(1).title()}'
-        yield 'contactPostal', [key, 'int', name, company, street, city, 'Noord-Holland', f'{self.digits(4)} AB', 'NL']
+        yield 'contactPostal', [key, 'loc', name, company, street, city, 'Noord-Holland', f'{self.digits(4)} AB', 'NL']
+        yield 'contactStatuses', [key, 'ok']
 
     def host(self, key, created, updated):
         sponsor = self.some('registrar')
         yield 'host', [key, f'H{self.digits(8)}-EX', sponsor, sponsor, created, sponsor if updated else '', updated]
         address = self.random.randint(0, 65_535)
         yield 'hostAddresses', [key, f'192.0.{address >> 8}.{address & 255}', 'v4']
-        if self.random.random() < 0.4:
-            yield 'hostStatuses', [key, self.random.choice(['ok', 'linked']), '']
+        yield 'hostStatuses', [key, self.random.choice(['ok', 'linked'])]
 
     def note(self):
         if not self.words_of_note:
@@ -118,7 +119,7 @@ class Registry:
             yield 'secDNS', [key, self.digits(4), '13', '2', '%064X' % self.random.getrandbits(256)]
 
     def idn(self, key, created, updated):
-        yield 'idn', [key, f'https://www.iana.example/domains/idn-tables/tables/{key}.html']
+        yield 'idn', [key, *(f'https://www.iana.example/domains/idn-tables/{it}/{key}.html' for it in ('tables', 'policies'))]
 
     def nndn(self, key, created, updated):
         yield 'nndn', [key, key, self.some('idn'), '', 'blocked', created]

@@ -1,67 +1,112 @@
 #!/usr/bin/env python3
-"""unpack_rde: writes a registry escrow deposit (RFC 8909, with the objects of RFC 9022) as a folder for `pack bundle`: the description
-envelope.json, and a CSV file for each table. What the deposit has and the folder has not goes to standard error, a line each."""
-import argparse, os, sqlite3, sys
+"""unpack_rde: writes a registry escrow deposit (RFC 8909, with the objects of RFC 9022) as a folder
+for `pack bundle`: the description envelope.json, and a CSV file for each table. What the deposit
+has and the folder has not goes to standard error, a line each.
 
+A deposit that is larger than one bundle becomes a series: the folder then has a folder part-001,
+part-002 and so on for each bundle, of which the first has the deposit's type, each other one is a
+Differential on the one before, and the last one has the deposit's id."""
+import argparse
+import os
+import sqlite3
+import sys
+
+from deposit import Asked
 from deposit import Deposit
-from faults import Notes, Refusal
-from names import Names
+from faults import Notes
+from faults import Refusal
+from faults import printable
+from folder import LIMITS
+from folder import MOST_ROWS
+from folder import Part
+from progress import Progress
+from writing import Limits
 
 DONE, REFUSED, STOPPED = 0, 1, 3
-# What a bundle takes.
-MOST_ROWS, MOST_BYTES = 100_000, 16_777_216
+EXAMPLE = """Example, of a Full and a Differential on it:
+
+  unpack_rde full/example_2024-03-03_full_S1_R0.xml F1
+  unpack_rde --strict --known F1 diff/example_2024-03-04_diff_S1_R0.xml D2
+  pack bundle --envelope F1/envelope.json F1 bundles/F1
+  pack bundle --envelope D2/envelope.json D2 bundles/D2
+
+Status: 0 done; 1 the deposit is refused; 2 invalid usage; 3 a file cannot be read or written."""
 
 
-def words_of(given):
-    parser = argparse.ArgumentParser(prog='unpack_rde', description=__doc__, epilog='Status: 0 done; 1 the deposit is refused; 2 invalid usage; '
-                                     '3 a file cannot be read or written.')
-    parser.add_argument('deposit', metavar='DEPOSIT', help='the XML document of the deposit')
-    parser.add_argument('folder', metavar='OUT', help='the folder that is written; nothing may be there')
-    parser.add_argument('--files', metavar='DIR', help='where the CSV files are that the document names (the folder of DEPOSIT)')
-    parser.add_argument('--known', metavar='FOLDER', action='append', default=[],
-                        help='a folder that was written of an earlier deposit, by which ROIDs and GURIDs are known; may be given again')
-    parser.add_argument('--map', metavar='FILE', help='lines of the table of names that take the place of its own (names.csv)')
-    parser.add_argument('--strict', action='store_true', help='refuse a deposit that has anything unknown')
-    return parser.parse_args(given)
+def number(most: int) -> 'argparse._ActionType':
+    def read(text: str) -> int:
+        if not text.isdecimal() or not 1 <= int(text) <= most:
+            raise argparse.ArgumentTypeError(f'no number from 1 to {most}: {text}')
+        return int(text)
+
+    return read
 
 
-def tell(*lines):
+def arguments() -> argparse.ArgumentParser:
+    parser = argparse.ArgumentParser(prog='unpack_rde', description=__doc__, epilog=EXAMPLE,
+                                     formatter_class=argparse.RawDescriptionHelpFormatter)
+    add = parser.add_argument
+    add('deposit', metavar='DEPOSIT', help='the XML document of the deposit')
+    add('folder', metavar='OUT', help='the folder that is written; nothing may be there')
+    add('--files', metavar='DIR',
+        help='where the CSV files are that the document names (the folder of DEPOSIT)')
+    add('--known', metavar='FOLDER', action='append', default=[],
+        help='a folder that was written of an earlier deposit, by which ROIDs and GURIDs are '
+        'known, and Fulls that are series; may be given again')
+    add('--map', metavar='FILE',
+        help='lines of the table of names that take the place of its own (names.csv)')
+    add('--strict', action='store_true', help='refuse a deposit that has anything unknown')
+    add('--series', action='store_true',
+        help='write a series, of two bundles at least, also of a deposit that fits into one')
+    add('--part-rows', metavar='N', type=number(MOST_ROWS), default=LIMITS.rows,
+        help='at most N rows in a bundle, for tests')
+    add('--part-bytes', metavar='N', type=number(LIMITS.size), default=LIMITS.size,
+        help='at most N bytes of rows in a bundle, for tests')
+    add('--progress', action='store_true',
+        help='tell on standard error how much is read, as on a terminal')
+    return parser
+
+
+def tell(*lines: str) -> None:
     for line in lines:
-        print(line, file=sys.stderr)
+        print(printable(line), file=sys.stderr)
 
 
-def unpacked(words, notes):
-    """Reads the deposit into its folder, and puts it at its place. Its files."""
+def asked_in(given: list[str] | None) -> tuple[Asked, bool]:
+    """What the command's words ask for, and whether to tell how far it is."""
+    words = arguments().parse_args(given)
     files = os.path.dirname(os.path.abspath(words.deposit)) if words.files is None else words.files
-    deposit = Deposit(words.deposit, files, words.folder, Names(words.map), notes)
-    try:
-        for folder in words.known:
-            deposit.know(folder)
-        deposit.read()
-        if words.strict and any(word == 'unknown' for word, _ in notes.counts):
-            raise Refusal(words.deposit, 'it has what is unknown, and --strict was given')
-        return deposit.finish()
-    except BaseException:
-        deposit.give_up()
-        raise
+    asked = Asked(words.deposit, files, words.folder, words.known, words.map, words.strict,
+                  words.series, Limits(words.part_rows, words.part_bytes))
+    return asked, words.progress or sys.stderr.isatty()
 
 
-def main(given=None):
-    words, notes = words_of(given), Notes()
+def told_series(parts: list[Part]) -> str:
+    rows, size = sum(it.rows for it in parts), sum(it.size for it in parts)
+    names = f'{parts[0].name} to {parts[-1].name}'
+    return f'unpack_rde: {rows} rows and {size} bytes: a series of {len(parts)} bundles, {names}'
+
+
+def main(given: list[str] | None = None) -> int:
+    asked, is_told = asked_in(given)
+    notes, progress = Notes(), Progress(is_told)
     try:
-        files = unpacked(words, notes)
+        parts = Deposit(asked, notes, progress).take()
     except Refusal as refusal:
+        progress.end()
         tell(*notes.lines(), f'unpack_rde: {refusal}')
         return REFUSED
     except (OSError, sqlite3.Error) as error:
+        progress.end()
         tell(f'unpack_rde: {error}')
         return STOPPED
+    progress.end()
     tell(*notes.lines())
-    for it in files:
-        print(f'{it.name} {it.rows}')
-    rows, size = sum(it.rows for it in files), sum(os.path.getsize(os.path.join(words.folder, it.name)) for it in files)
-    if rows > MOST_ROWS or size > MOST_BYTES:
-        tell(f'unpack_rde: {rows} rows and {size} bytes: a bundle has at most {MOST_ROWS} rows and {MOST_BYTES} bytes')
+    for part in parts:
+        for file in part.files:
+            print(printable(os.path.join(part.name, file.name)), file.rows)
+    if len(parts) > 1:
+        tell(told_series(parts))
     return DONE
 
 

@@ -1,74 +1,197 @@
 """From what a deposit's document and files have to the rows of the desk's tables."""
-import csv, functools, os, re
+import csv
+import functools
+import os
+import re
+from collections.abc import Iterator
+from typing import NamedTuple
 
-from csv_files import rows_of
+from csv_files import CsvFiles
+from cutting import Cutting
+from cutting import too_large
+from faults import Notes
 from faults import Refusal
+from faults import printable
+from folder import LIMITS
+from folder import SECONDS
+from folder import Folder
+from folder import Part
 from keys import Keys
 from names import Field
+from names import Names
+from names import Table
+from progress import Progress
+from reading import Definition
 from reading import DepositReader
-from writing import DESCRIPTION, Folder
+from reading import Row
+from series import Header
+from series import Known
+from series import Series
+from series import in_order
+from series import known_in
+from writing import Limits
+from writing import Portions
+from writing import row_text
 
 ID = re.compile(r'[A-Za-z0-9._-]{1,64}', re.ASCII)
 NUMBER = re.compile(r'\d{1,6}', re.ASCII)
 TYPES = ('FULL', 'INCR', 'DIFF')
 MOST_KEY, MOST_FIELDS = 255, 64
-TRUE = ('true', '1')
+TRUE, FALSE = ('true', '1'), ('false', '0')
+CUSTOM = 'rdeCsv:fCustom'
+# What a field's name cannot have.
+NO_NAME = re.compile(r'[^A-Za-z0-9._-]')
+# Kinds of which a deposit may have several objects of one key, which differ in the other field by
+# which they are named.
+WITH_SECOND = ('host', )
+# What a cell can have in the CSV model alone, and a terminal may obey. (A tab and line ends are
+# ordinary.)
+CONTROLS = re.compile('[\x00-\x08\x0b\x0c\x0e-\x1f\x7f-\x9f]')
+
+
+class Asked(NamedTuple):
+    """What is asked for: the document, where its files are, where the folder is to be, and how."""
+    document: str
+    files: str
+    target: str
+    known: list[str]
+    map: str | None
+    is_strict: bool
+    is_series: bool
+    limits: Limits = LIMITS
 
 
 class Deposit:
     """Takes what is read of a deposit, and writes it into a folder."""
 
-    def __init__(self, path, files, target, names, notes):
-        self.path, self.files, self.names, self.notes = path, files, names, notes
-        self.envelope, self.counts, self.definitions, self.models = {}, {}, [], {}
-        self.columns, self.fields_of = functools.cache(names.columns), functools.cache(self.named_fields)
-        self.folder = Folder(target)
+    def __init__(self, asked: Asked, notes: Notes, progress: Progress) -> None:
+        self.asked, self.notes, self.progress = asked, notes, progress
+        self.path, self.names = asked.document, Names(asked.map)
+        self.tables = self.names.tables
+        self.envelope: Header = {}
+        self.counts: dict[str, int] = {}
+        self.counts_of_names: list[tuple[str, int, str, str]] = []
+        self.definitions: list[Definition] = []
+        self.models: dict[tuple[str, bool], str] = {}
+        self.known: list[Known] = []
+        self.columns = functools.cache(self.names.columns)
+        self.columns_in_xml = functools.cache(self.xml_columns)
+        self.fields_of = functools.cache(self.named_fields)
+        self.files = CsvFiles(self.path, asked.files, progress)
+        self.folder = Folder(asked.target, list(self.tables))
+        self.rest = self.folder.rest
         self.keys = Keys(self.folder.path)
+        self.reader = DepositReader(self.path, self.names, notes, self, progress)
+        self.place: tuple[str, int] | None = None
+        self.portions = {(kind, is_of_deletes): self.portions_of(kind, is_of_deletes)
+                         for is_of_deletes in (True, False)
+                         for kind in dict.fromkeys(it.kind for it in self.tables.values())}
 
-    def refused(self, what):
-        return Refusal(self.path, what)
+    def portions_of(self, kind: str, is_of_deletes: bool) -> Portions:
+        tables = {name: it for name, it in self.tables.items() if it.kind == kind}
+        columns = (lambda table: [self.tables[table].key]) if is_of_deletes else self.columns
+        return Portions(kind, is_of_deletes, self.asked.limits, self.folder.new_portion, columns,
+                        tables)
 
-    def know(self, folder):
-        """Reads the keys of hosts and registrars in a folder that was written before."""
-        if not os.path.exists(os.path.join(folder, DESCRIPTION)):
-            raise Refusal(folder, f'it has no {DESCRIPTION}')
-        for table in self.names.tables.values():
-            path = os.path.join(folder, f'{table.name}.csv')
-            if table.alias is None or not os.path.exists(path):
-                continue
-            try:
-                with open(path, encoding='utf-8', newline='') as file:
-                    for row in csv.DictReader(file, strict=True):
-                        if row.get(table.alias) and row.get(table.key):
-                            self.keys.name(f'{table.name}.{table.alias}', row[table.alias], row[table.key])
-            except (UnicodeDecodeError, csv.Error) as error:
-                raise Refusal(path, f'it cannot be read: {error}') from None
+    def refused(self, what: str) -> Refusal:
+        """A refusal at the place that is read."""
+        return self.reader.refused(what) if self.place is None else Refusal(
+            f'{self.place[0]}:{self.place[1]}', what)
 
-    def read(self):
-        DepositReader(self.path, self.names, self.notes, self).read()
-        order = list(self.names.tables)
-        self.definitions.sort(key=lambda it: (it.is_of_deletes, order.index(it.table)))
-        for definition in self.definitions:
-            self.take_files(definition)
+    # ---- all of it
 
-    def finish(self):
-        self.keys.close()
+    def take(self) -> list[Part]:
+        """Reads the deposit, and puts the folder at its place. Its bundles' files."""
+        try:
+            self.know()
+            self.progress.add([self.path])
+            self.reader.read()
+            self.take_definitions()
+            self.place = None
+            self.count_names()
+            self.tell_unnamed()
+            return self.finish()
+        except BaseException:
+            self.folder.give_up()
+            raise
+        finally:
+            self.keys.close()
+            self.rest.close()
+            for it in self.portions.values():
+                it.close()
+
+    def know(self) -> None:
+        """Reads the keys of hosts and registrars in folders that were written before, the earliest
+        first."""
+        self.known = in_order(map(known_in, self.asked.known))
+        for known in self.known:
+            self.keys.deposits += 1
+            for folder in known.folders:
+                for table in self.tables.values():
+                    if table.alias is not None:
+                        for row in rows_known(os.path.join(folder, f'{table.name}.csv')):
+                            self.know_key(f'{table.name}.{table.alias}', row.get(table.alias),
+                                          row.get(table.key))
+                for row in rows_known(os.path.join(folder, SECONDS)):
+                    self.know_key(row['field'], row['value'], row['key'])
+                    self.keys.add_second(row['field'], row['value'])
+
+    def know_key(self, field: str, value: str | None, key: str | None) -> None:
+        if value and key:
+            self.keys.name(field, value, key, is_own=False)
+
+    def finish(self) -> list[Part]:
+        series = Series(self.path, self.envelope, self.known)
+        if self.envelope['type'] == 'INCR':
+            series = self.based(series)
+        if self.asked.is_strict and self.notes.has('unknown'):
+            raise Refusal(self.path, 'it has what is unknown, and --strict was given')
+        is_series = self.asked.is_series or any(it.is_series for it in series.revisions())
+        portions = [it for its in self.portions.values() for it in its.all]
+        parts = self.folder.arrange(portions, self.asked.limits, is_series)
+        series.check(len(parts))
+        headers = list(series.headers(len(parts)))
         if self.counts:
-            self.envelope['counts'] = self.counts
-        return self.folder.finish(self.envelope, list(self.names.tables))
-
-    def give_up(self):
+            headers[-1]['counts'] = self.counts
+        if lines := self.notes.for_envelope():
+            headers[-1]['notes'] = lines
+        for part, header in zip(parts, headers, strict=True):
+            self.folder.describe(part, header)
+        self.folder.keep_seconds(parts[-1], self.keys.seconds())
         self.keys.close()
-        self.folder.give_up()
+        self.folder.finish()
+        return parts
 
-    def begin(self, said):
+    def based(self, series: Series) -> Series:
+        """An Incremental is based on the last Full's first bundle; on a series of them as a
+        Differential on the whole Full."""
+        full = series.full()
+        if full is None:
+            self.notes.add(
+                'given',
+                'as an Incremental, whose Full is in no folder of --known: if that is a series, '
+                'name it'
+            )
+            return series
+        if not full.is_series:
+            return series
+        self.notes.add('given', f'as a Differential on {full.id}, since this Full is a series')
+        self.envelope = {**self.envelope, 'type': 'DIFF', 'prevId': full.id}
+        return Series(self.path, self.envelope, self.known)
+
+    # ---- the document's front
+
+    def begin(self, said: dict[str, str]) -> None:
         """The attributes of the deposit."""
         for name in ('id', 'type'):
             if name not in said:
                 raise self.refused(f'the deposit has no {name}')
         for name in ('id', 'prevId'):
             if name in said and not ID.fullmatch(said[name]):
-                raise self.refused(f'{name} is not 1 to 64 letters, digits, dots, dashes and underscores of ASCII: {said[name]!r}')
+                raise self.refused(
+                    f'{name} is not 1 to 64 letters, digits, dots, dashes and underscores of '
+                    f'ASCII: {said[name]!r}'
+                )
         if said['type'] not in TYPES:
             raise self.refused(f'type is not FULL, INCR or DIFF: {said["type"]!r}')
         if not NUMBER.fullmatch(said.get('resend', '0')):
@@ -79,131 +202,284 @@ class Deposit:
         if int(said.get('resend', '0')):
             self.envelope['resend'] = int(said['resend'])
 
-    def watermark(self, text):
+    def watermark(self, text: str) -> None:
         self.envelope['watermark'] = text
 
-    def header(self, refused, name, text):
+    def header(self, name: str, text: str) -> None:
         if name in self.envelope:
-            raise refused(f'{name} is there twice')
+            raise self.refused(f'{name} is there twice')
         self.envelope[name] = text
 
-    def count(self, refused, kind, number):
-        if self.counts.setdefault(kind, number) != number:
-            raise refused(f'objects of kind {kind} are counted twice: {self.counts[kind]} and {number}')
+    def count(self, kind: str, number: int, of_name: str | None, told: str) -> None:
+        if of_name is not None:
+            self.counts_of_names.append((kind, number, of_name, told))
+        elif self.counts.setdefault(kind, number) != number:
+            raise self.refused(
+                f'objects of kind {kind} are counted twice: {self.counts[kind]} and {number}')
 
-    # A table comes in one model.
-    def only_in(self, refused, model, table, is_of_deletes):
+    def count_names(self) -> None:
+        """A count of the objects below the deposit's own domain is one of all, where there is no
+        other."""
+        plain, tld = set(self.counts), str(self.envelope.get('tld', '')).lower()
+        for kind, number, name, told in self.counts_of_names:
+            if kind in plain or not tld or name.lower() != tld:
+                self.notes.add('left out', told)
+            elif self.counts.setdefault(kind, number) != number:
+                raise self.reader.refused(
+                    f'objects of kind {kind} are counted twice: {self.counts[kind]} and {number}')
+
+    # ---- objects
+
+    def only_in(self, model: str, table: str, is_of_deletes: bool) -> None:
+        """A table comes in one model."""
         if self.models.setdefault((table, is_of_deletes), model) != model:
-            raise refused(f'{table} comes both in the XML and in the CSV model')
+            raise self.refused(f'{table} comes both in the XML and in the CSV model')
 
-    def object(self, refused, table, cells, children):
+    def xml_columns(self, table: str) -> list[str]:
+        """The columns of a table that comes in the XML model."""
+        self.only_in('XML', table, False)
+        return self.columns(table)
+
+    def object(self, row: Row) -> None:
         """An object of the XML model, with the rows of its child tables."""
-        declared = self.names.tables[table]
-        key = self.take_key(refused, declared, cells.get(declared.key, ''), cells)
-        self.write_row(refused, declared, cells)
-        for child, its in children:
-            self.write_row(refused, self.names.tables[child], {**its, self.names.tables[child].key: key})
+        table, cells = self.tables[row.table], row.cells
+        key = cells.get(table.key, '')
+        if not self.take_key(table, key, cells):
+            return
+        lines = [(table.name,
+                  row_text([cells.get(it, '') for it in self.columns_in_xml(table.name)]))]
+        for name, its in row.children():
+            _, *others = self.columns_in_xml(name)
+            lines.append((name, row_text([key, *[its.get(it, '') for it in others]])))
+        if not self.portions[table.kind, False].put(lines):
+            raise self.refused(too_large(table.kind, key))
+        self.progress.objects += 1
 
-    def write_row(self, refused, table, cells):
-        self.only_in(refused, 'XML', table.name, False)
-        columns = self.columns(table.name)
-        self.folder.table(table, False, columns).write([cells.get(it, '') for it in columns])
-
-    # Takes the key of an object of contents, which is there once.
-    def take_key(self, refused, table, key, cells):
-        self.check_key(refused, table, key)
+    def take_key(self, table: Table, key: str, cells: dict[str, str]) -> bool:
+        """Takes the key of an object of contents, which is there once. Whether it is not a second
+        object of this key."""
+        self.check_key(table, key)
+        value = cells.get(table.alias) if table.alias is not None else None
+        field = f'{table.name}.{table.alias}'
         if not self.keys.add(table.kind, key):
-            raise refused(f'the {table.kind} {key} is there twice')
-        if table.alias is not None and cells.get(table.alias):
-            self.keys.name(f'{table.name}.{table.alias}', cells[table.alias], key)
-        return key
+            if table.kind not in WITH_SECOND or not value or self.keys.owned(field,
+                                                                             value) is not None:
+                raise self.refused(f'the {table.kind} {key} is there twice')
+            self.notes.add('left out', f'{table.kind} of a name that another one has')
+            self.keys.name(field, value, key)
+            self.keys.add_second(field, value)
+            return False
+        if value:
+            before = self.keys.known(field, value)
+            if before is not None and before != key:
+                self.notes.add(
+                    'renamed',
+                    f'{table.kind} that had another {table.key} under its {table.alias} in an '
+                    'earlier deposit'
+                )
+            self.keys.name(field, value, key)
+        return True
 
-    @staticmethod
-    def check_key(refused, table, key):
+    def check_key(self, table: Table, key: str) -> None:
         if not key:
-            raise refused(f'a {table.kind} without {table.key}')
+            raise self.refused(f'a {table.kind} without {table.key}')
         if len(key.encode()) > MOST_KEY:
-            raise refused(f'the {table.key} of a {table.kind} is longer than {MOST_KEY} bytes')
+            raise self.refused(f'the {table.key} of a {table.kind} is longer than {MOST_KEY} bytes')
 
-    def deleted(self, refused, table, field, value):
+    def deleted(self, table: str, field: str, value: str) -> None:
         """A deleted object of the XML model."""
-        declared = self.names.tables[table]
-        self.only_in(refused, 'XML', table, True)
-        key = value if field == declared.key else self.key_of(refused, table, field, value)
-        self.check_key(refused, declared, key)
-        self.folder.table(declared, True, [declared.key]).write([key])
+        self.only_in('XML', table, True)
+        self.delete(self.tables[table], None if field == self.tables[table].key else field, value)
 
-    # The key of the object that has this value in another field.
-    def key_of(self, refused, table, field, value):
+    def delete(self, table: Table, field: str | None, value: str) -> None:
+        """A deleted object, by its key or by the value of another field. Of a Full, whose deletes
+        count for nothing, an unknown one is left out."""
+        if field is not None and self.keys.is_second(f'{table.name}.{field}', value):
+            self.notes.add('left out', f'delete of a {table.kind} that is left out')
+            return
+        key = value if field is None else self.keys.named(f'{table.name}.{field}', value,
+                                                          is_own_first=False)
+        if key is None and self.envelope['type'] == 'FULL':
+            self.notes.add('left out',
+                           f'delete in a Full of a {table.kind} whose {field} is not known')
+            return
+        key = self.key_of(table.name, field, value) if key is None else key
+        self.check_key(table, key)
+        self.portions[table.kind, True].put([(table.name, row_text([key]))])
+
+    def key_of(self, table: str, field: str, value: str) -> str:
+        """The key of the object that has this value in another field."""
         key = self.keys.named(f'{table}.{field}', value)
         if key is None:
-            raise refused(f'no {table} is known, or more than one, that has {field} {value}: name the folders of earlier deposits by --known')
+            raise self.refused(
+                f'no {table} is known, or more than one, that has {field} {value}: name the '
+                'folders of earlier deposits by --known')
         return key
 
-    def take_files(self, definition):
-        """The rows of the files of a definition."""
-        table, where = self.names.tables[definition.table], f'{self.path}:{definition.line}'
-        self.only_in(lambda what: Refusal(where, what), 'CSV', table.name, definition.is_of_deletes)
-        if len(definition.separator) != 1 or definition.separator in '"\r\n':
-            raise Refusal(where, f'the separator is not one character: {definition.separator!r}')
-        fields = self.fields_of(table, definition)
-        # The columns are the fields of all definitions of the table, in their order.
-        alike = [it for it in self.definitions if (it.table, it.is_of_deletes) == (table.name, definition.is_of_deletes)]
-        columns = list(dict.fromkeys(field.name for it in alike for field in self.fields_of(table, it)))
-        if len(columns) > MOST_FIELDS:
-            raise self.refused(f'{table.name} has {len(columns)} fields, and a table of the desk has at most {MOST_FIELDS}')
-        file = self.folder.table(table, definition.is_of_deletes, columns)
-        for place, row in rows_of(self.path, self.files, definition):
-            file.write(self.taken(table, definition, place, fields, columns, row))
+    # ---- CSV files
 
-    # The row of a table that a row of a CSV file is.
-    def taken(self, table, definition, place, fields, columns, row):
-        refused = lambda what: Refusal(place, what)
+    def take_definitions(self) -> None:
+        """The files of all definitions, what others refer to first; then each object goes whole
+        into one portion."""
+        order = list(self.tables)
+        self.definitions.sort(key=lambda it: (it.is_of_deletes, order.index(it.table)))
+        self.progress.add(
+            os.path.join(self.asked.files, name)
+            for it in self.definitions
+            for _, name, _ in it.files)
+        for definition in self.definitions:
+            self.place = self.path, definition.line
+            self.take_files(definition)
+        for portions in self.portions.values():
+            if portions.is_to_cut():
+                Cutting(portions, self.keys, self.path).cut()
+
+    def tell_unnamed(self) -> None:
+        here = os.path.realpath(self.asked.files)
+        ours = {
+            os.path.basename(it)
+            for it in (self.path, self.asked.map or self.path)
+            if os.path.dirname(os.path.realpath(it)) == here
+        }
+        for name in self.files.unnamed(self.definitions, ours):
+            self.notes.add('unknown', f'file {name} beside the document, which does not name it')
+
+    def take_files(self, definition: Definition) -> None:
+        """The rows of the files of a definition."""
+        table = self.tables[definition.table]
+        self.only_in('CSV', table.name, definition.is_of_deletes)
+        if len(definition.separator) != 1 or definition.separator in '"\r\n':
+            raise self.refused(f'the separator is not one character: {definition.separator!r}')
+        fields = self.fields_of(table, definition)
+        if definition.is_of_deletes:
+            self.take_deletes(table, definition, fields)
+            return
+        columns = self.columns_of(table, definition)
+        write = self.portions[table.kind, False].staged(table.name, columns)
+        next(write)
+        for path, number, row in self.files.rows(definition):
+            self.place = path, number
+            cells = self.taken(table, definition, fields, row)
+            if cells is not None:
+                write.send(row_text([cells.get(it, '') for it in columns]))
+
+    def columns_of(self, table: Table, definition: Definition) -> list[str]:
+        """The columns of a table: those that it has in any case, and what else its definitions
+        have."""
+        alike = [
+            it for it in self.definitions
+            if (it.table, it.is_of_deletes) == (table.name, definition.is_of_deletes)
+        ]
+        own = [field.name for it in alike for field in self.fields_of(table, it)]
+        columns = list(dict.fromkeys([*self.columns(table.name), *own]))
+        if len(columns) > MOST_FIELDS:
+            raise Refusal(
+                self.path,
+                f'{table.name} has {len(columns)} fields, and a table of the desk has at most '
+                f'{MOST_FIELDS}'
+            )
+        return columns
+
+    def take_deletes(self, table: Table, definition: Definition, fields: list[Field]) -> None:
+        at = next(at for at, it in enumerate(fields) if it.name == table.key)
+        field = fields[at].alias[1] if fields[at].alias else None
+        for path, number, row in self.files.rows(definition):
+            self.place = path, number
+            self.delete(table, field if row[at] else None, row[at])
+
+    def taken(self, table: Table, definition: Definition, fields: list[Field],
+              row: list[str]) -> dict[str, str] | None:
+        """The cells of a row of a CSV file, if it is a row of the table."""
         cells = {}
         for field, value in zip(fields, row):
             if field.is_required and not value:
                 self.notes.add('empty', f'{table.name}.{field.name}, which the document requires')
-            cells[field.name] = self.key_of(refused, *field.alias, value) if field.alias and value else value
+            if not value.isprintable() and CONTROLS.search(value):
+                self.notes.add(
+                    'control',
+                    f'cell of {table.name}.{field.name} with control characters, as they are')
+            cells[field.name] = self.key_of(*field.alias, value) if field.alias and value else value
+            if field.alias and field.name == table.key and self.keys.is_second(
+                    '.'.join(field.alias), value):
+                self.notes.add('left out',
+                               f'row of {table.name} of a {table.kind} that is left out')
+                return None
         key = cells[table.key]
-        if table.is_parent and not definition.is_of_deletes:
-            self.take_key(refused, table, key, {**cells, table.alias: key} if definition.is_by_alias else cells)
-        else:
-            self.check_key(refused, table, key)
-            if not definition.is_of_deletes and not self.keys.has(table.kind, key):
-                self.notes.add('orphan', f'row of {table.name} of a {table.kind} that is not in the deposit')
-        return [cells.get(it, '') for it in columns]
+        self.progress.objects += table.is_parent
+        self.progress.tell()
+        if table.is_parent:
+            return cells if self.take_key(table, key, {**cells, table.alias: key}
+                                          if definition.is_by_alias else cells) else None
+        self.check_key(table, key)
+        if not self.keys.has(table.kind, key):
+            self.notes.add('orphan',
+                           f'row of {table.name} of a {table.kind} that is not in the deposit')
+        return cells
 
-    # The fields of a definition by the desk's names, each once, with the key among them.
-    def named_fields(self, table, definition):
+    def named_fields(self, table: Table, definition: Definition) -> list[Field]:
+        """The fields of a definition by the desk's names, each once, with the key among them."""
         fields = [self.named_field(table, *it) for it in definition.fields]
         # A field that another one says outright is not looked up.
         outright = {it.name for it in fields if it.alias is None}
-        fields = [it._replace(name=it.alias[1], alias=None) if it.alias and it.name in outright else it for it in fields]
+        fields = [
+            it._replace(name=it.alias[1], alias=None) if it.alias and it.name in outright else it
+            for it in fields
+        ]
         # Where there is no key, the other field by which objects are named is the key.
         if table.key not in {it.name for it in fields}:
             definition.is_by_alias = True
             looked_up = (table.name, table.alias) if definition.is_of_deletes else None
-            fields = [it._replace(name=table.key, alias=looked_up) if it.name == table.alias else it for it in fields]
-        where, found = f'{self.path}:{definition.line}', [it.name for it in fields]
+            fields = [
+                it._replace(name=table.key, alias=looked_up) if it.name == table.alias else it
+                for it in fields
+            ]
+        found = [it.name for it in fields]
         if table.key not in found:
-            raise Refusal(where, f'no field of {table.name} is its {table.key}')
+            raise self.refused(f'no field of {table.name} is its {table.key}')
         for at, name in enumerate(found):
             if name in found[:at]:
-                raise Refusal(where, f'two fields of {table.name} are its {name}')
+                raise self.refused(f'two fields of {table.name} are its {name}')
             if not ID.fullmatch(name):
-                raise Refusal(where, f'no name of a field: {name!r}')
+                raise self.refused(f'no name of a field: {name!r}')
         return fields
 
-    def named_field(self, table, line, element, said):
-        field = self.names.field(table.name, element)
+    def named_field(self, table: Table, _line: int, element: str, said: dict[str, str]) -> Field:
+        custom = f'{element}[{said.get("name", "")}]' if element == CUSTOM else None
+        field = self.names.field(table.name, custom) if custom else None
+        if field is None:
+            field = self.names.field(table.name, element)
+            name = custom_name(said.get('name', ''), table.name,
+                               self.notes) if custom else field.name if field else None
+        else:
+            name = field.name
         if field is None:
             self.notes.add('unknown', f'field {element} of {table.name}')
-            field = Field(element.rpartition(':')[2].rpartition('}')[2], None, False)
-        name = field.name
-        if element == 'rdeCsv:fCustom':
-            name = f'custom.{said.get("name", "")}'
+            name = NO_NAME.sub('_', element.rpartition(':')[2].rpartition('}')[2])
+            field = Field(name, None, False)
         if said.get('isLoc', '').strip() in TRUE:
             name = f'loc.{name}'
         if 'index' in said:
             name = f'{name}.{said["index"].strip()}'
-        return field._replace(name=name, is_required=said.get('isRequired', '').strip() in TRUE)
+        word = said.get('isRequired', '').strip()
+        return field._replace(name=name, is_required=word in TRUE
+                              or field.is_required and word not in FALSE)
+
+
+def rows_known(path: str) -> Iterator[dict[str, str]]:
+    """The rows of a file that was written before, if there is one."""
+    if not os.path.exists(path):
+        return
+    try:
+        with open(path, encoding='utf-8', newline='') as file:
+            yield from csv.DictReader(file, strict=True)
+    except (UnicodeDecodeError, csv.Error) as error:
+        raise Refusal(path, f'it cannot be read: {error}') from None
+
+
+def custom_name(name: str, table: str, notes: Notes) -> str:
+    """The name of a registry's own field. What a name cannot have is there as `_` and two digits
+    for each byte."""
+    found = NO_NAME.sub(lambda it: ''.join(f'_{byte:02x}' for byte in it[0].encode()), name.strip())
+    if found != name.strip():
+        notes.add('renamed', f'field {printable(name.strip())} of {table}, to custom.{found}')
+    return f'custom.{found}'

@@ -1,31 +1,51 @@
-"""Reads the XML document of a deposit, piece by piece, and hands on what is in it as soon as it is whole: nothing of the document is kept.
+"""Reads the XML document of a deposit, piece by piece, and hands on what is in it as soon as it is
+whole: nothing of the document is kept.
 
-It is read by the parser that `xml.etree` stands on, without a tree: a tree's elements don't know their lines, and its parser reads a document
-type, whose entities can grow without end, before it can be refused."""
+It is read by the parser that `xml.etree` stands on, without a tree: a tree's elements don't know
+their lines, and its parser reads a document type, whose entities can grow without end, before it
+can be refused."""
 import re
-from datetime import datetime, timedelta
+from collections.abc import Iterator
+from datetime import datetime
+from datetime import timedelta
+from typing import NoReturn
+from typing import Protocol
 from xml.parsers import expat
 
+from faults import Notes
 from faults import Refusal
+from names import Cell
+from names import Names
+from progress import Progress
+from rest import Rest
+from rest import Scope
+from tree import XSI
+from tree import Does
+from tree import Node
+from tree import Tree
 
-# Until the root element is there few bytes are read at a time, so that a document type is refused before what follows it is read.
+# Until the root element is there few bytes are read at a time, so that a document type is refused
+# before what follows it is read.
 FIRST_PIECE, PIECE = 64, 1 << 16
 # No element of a deposit is nested deeper, and no text of a bundle is longer.
 MOST_DEPTH, MOST_TEXT = 64, 1 << 24
 WHITE = ' \t\r\n'
-WATERMARK = re.compile(r'(\d{4}-\d\d-\d\dT\d\d:\d\d:\d\d)(\.\d{1,9})?(?:(Z)|([+-])(\d\d):([0-5]\d))?', re.ASCII)
+WATERMARK = re.compile(
+    r'(\d{4}-\d\d-\d\dT\d\d:\d\d:\d\d)(\.\d{1,9})?(?:(Z)|([+-])(\d\d):([0-5]\d))?', re.ASCII)
 YEARS = range(1970, 2262)
-# The header's elements that say whose deposit it is, or tag it, and the attributes of a count that is of a part of the objects alone.
-HEADER_TEXTS = ('rdeHeader:tld', 'rdeHeader:registrar', 'rdeHeader:ppsp', 'rdeHeader:reseller', 'rdeHeader:contentTag')
-PART_OF_COUNT = ('rcdn', 'registrarId')
-FIELD_ATTRIBUTES = ('type', 'isRequired', 'parent', 'isLoc', 'index', 'name')
-FILE_ATTRIBUTES = ('compression', 'encoding', 'cksum', 'cksumAlg')
-# The elements whose text is read; of all others it is only told that they have one.
-WITH_TEXT = ('watermark', 'version', 'objURI', 'header text', 'count', 'left count', 'file', 'row', 'part')
+# The attributes of a count that is of a part of the objects alone.
+OF_A_NAME, OF_A_REGISTRAR = 'rcdn', 'registrarId'
+OF_DEPOSIT = ('id', 'type', 'prevId', 'resend')
+OF_FIELD = ('type', 'isRequired', 'parent', 'isLoc', 'index', 'name')
+OF_FILE = ('compression', 'encoding', 'cksum', 'cksumAlg')
+Words = dict[str, str]
+# What stands for an element that is skipped.
+SKIPPED = Node('', Does.UNKNOWN)
 
 
-def in_utc(word):
-    """A watermark in UTC, in the form that the desk takes: with a fraction only if it has one, without zeros at its end."""
+def in_utc(word: str) -> str:
+    """A watermark in UTC, in the form that the desk takes: with a fraction only if it has one,
+    without zeros at its end."""
     found = WATERMARK.fullmatch(word)
     if found is None:
         raise ValueError('no date and time of the form 2024-03-03T00:00:00Z')
@@ -41,280 +61,423 @@ def in_utc(word):
     return f'{moment:%Y-%m-%dT%H:%M:%S}{(fraction or "").rstrip("0").rstrip(".")}Z'
 
 
-class Element:
-    """An open element: its name, what it is for, its attributes, its text, and the row that its texts belong to."""
-
-    def __init__(self, name, path, does, attributes, row):
-        self.name, self.path, self.does, self.attributes, self.row = name, path, does, attributes, row
-        self.pieces, self.length = [], 0
-
-    def text(self):
-        """Its text, without white space around it."""
-        return ''.join(self.pieces).strip(WHITE)
-
-
 class Row:
     """A row that is being read: its cells, and the rows that stand in it."""
+    __slots__ = ('table', 'cells', 'rows', 'repeated')
 
-    def __init__(self, table):
+    def __init__(self, table: str) -> None:
         self.table, self.cells, self.rows, self.repeated = table, {}, [], {}
 
-    def children(self):
+    def children(self) -> Iterator[tuple[str, Words]]:
         for row in self.rows:
-            yield from row.flat({})
+            if row.rows:
+                yield from row.flat({})
+            elif row.cells:
+                yield row.table, row.cells
 
-    # This row and those in it. A row in one of the same table has the cells of both, and the outer one is then no row of its own.
-    def flat(self, outer):
+    def flat(self, outer: Words) -> Iterator[tuple[str, Words]]:
+        """This row and those in it. A row in one of the same table has the cells of both, and the
+        outer one is then no row of its own."""
         cells = {**outer, **self.cells}
         if cells and all(it.table != self.table for it in self.rows):
             yield self.table, cells
         for row in self.rows:
             yield from row.flat(cells if row.table == self.table else {})
 
+    def is_empty(self) -> bool:
+        return not any(map(len, self.cells.values())) and all(it.is_empty() for it in self.rows)
+
 
 class Definition:
-    """The CSV files of a table, as a deposit defines them."""
+    """The CSV files of a table, as a deposit defines them: the elements of its fields, and the
+    names of its files, each with its line and its attributes."""
 
-    def __init__(self, line, table, is_of_deletes, separator):
-        self.line, self.table, self.is_of_deletes, self.separator = line, table, is_of_deletes, separator
-        # Each with its line, its name and its attributes; and whether the field that is the key is the other one by which objects are named.
-        self.fields, self.files, self.is_by_alias = [], [], False
+    def __init__(self, line: int, table: str, is_of_deletes: bool, separator: str) -> None:
+        self.line, self.table = line, table
+        self.is_of_deletes, self.separator = is_of_deletes, separator
+        self.fields: list[tuple[int, str, Words]] = []
+        self.files: list[tuple[int, str, Words]] = []
+        # Whether the field that is the key is the other one by which objects are named.
+        self.is_by_alias = False
+
+
+class Taker(Protocol):
+    """Who takes what a document has. A refusal is made at the place that the reader is at."""
+    rest: Rest
+    definitions: list[Definition]
+
+    def begin(self, said: Words) -> None:
+        ...
+
+    def watermark(self, text: str) -> None:
+        ...
+
+    def header(self, name: str, text: str) -> None:
+        ...
+
+    def count(self, kind: str, number: int, of_name: str | None, told: str) -> None:
+        ...
+
+    def columns(self, table: str) -> list[str]:
+        ...
+
+    def object(self, row: Row) -> None:
+        ...
+
+    def deleted(self, table: str, field: str, value: str) -> None:
+        ...
 
 
 class DepositReader:
-    """Reads one document. `taker` takes what it has: `begin(attributes)`, `watermark(text)`, `header(refused, name, text)`,
-    `count(refused, kind, number)`, `object(refused, table, cells, children)`, `deleted(refused, table, field, value)`, where
-    `refused(what)` is a refusal at this place, and `definitions`; and knows the `columns(table)`."""
+    """Reads one document."""
 
-    def __init__(self, path, names, notes, taker):
-        self.path, self.names, self.notes, self.taker = path, names, notes, taker
-        self.open, self.skipped, self.once = [], 0, set()
-        self.section = self.definition = None
-        self.parser = expat.ParserCreate(namespace_separator='}')
-        self.parser.buffer_text = True
-        self.parser.ordered_attributes = True
-        self.parser.StartDoctypeDeclHandler = self.refuse_doctype
-        self.parser.StartElementHandler = self.start
-        self.parser.EndElementHandler = self.end
-        self.parser.CharacterDataHandler = self.characters
+    def __init__(self, path: str, names: Names, notes: Notes, taker: Taker,
+                 progress: Progress) -> None:
+        self.path, self.names, self.notes = path, names, notes
+        self.taker, self.progress = taker, progress
+        tree = Tree(names)
+        self.contents, self.deletes = tree.contents, tree.deletes
+        # The innermost open element: what it is, the row that its texts belong to, and its text.
+        # `open` has all around it.
+        self.node, self.row, self.pieces = tree.root, None, []
+        self.open: list[tuple[Node, Row | None, list[str]]] = []
+        self.skipped, self.is_kept, self.once = 0, False, set()
+        self.definition: Definition | None = None
+        self.counted: tuple[str, str | None, str] | None = None
+        self.file: tuple[int, Words] | None = None
+        self.spaces: list[tuple[str | None, str | None]] = []
+        self.fresh: Scope = {}
+        self.begins = {
+            Does.DEPOSIT: self.begin_deposit, Does.WATERMARK: self.begin_once,
+            Does.MENU: self.begin_once, Does.COUNT: self.begin_count, Does.CSV: self.begin_csv,
+            Does.FIELD: self.begin_field, Does.FILE: self.begin_file
+        }
+        self.ends = {
+            Does.WATERMARK: self.end_watermark, Does.VERSION: self.end_version,
+            Does.NAMESPACE: self.end_namespace, Does.HEADER_TEXT: self.end_header_text,
+            Does.COUNT: self.end_count, Does.CSV: self.end_csv, Does.FILE: self.end_file,
+            Does.DELETE: self.end_delete, Does.ROW: self.end_plain, Does.TEXT: self.end_plain,
+            Does.GROUP: self.end_plain
+        }
+        self.parser = self.new_parser()
 
-    def read(self):
+    def new_parser(self) -> 'expat.XMLParserType':
+        parser = expat.ParserCreate(namespace_separator='}')
+        parser.buffer_text = True
+        parser.buffer_size = PIECE
+        parser.ordered_attributes = True
+        parser.StartDoctypeDeclHandler = self.refuse_doctype
+        parser.StartNamespaceDeclHandler = self.declare
+        parser.EndNamespaceDeclHandler = self.forget
+        parser.StartElementHandler = self.start
+        parser.EndElementHandler = self.end
+        parser.CharacterDataHandler = self.characters
+        return parser
+
+    def read(self) -> None:
         try:
-            with open(self.path, 'rb') as file:
+            with self.progress.opened(self.path) as file:
                 while piece := file.read(PIECE if self.once else FIRST_PIECE):
                     self.parser.Parse(piece, False)
+                    self.check_text()
+                    self.progress.tell()
             self.parser.Parse(b'', True)
         except expat.ExpatError as error:
-            raise Refusal(f'{self.path}:{error.lineno}:{error.offset + 1}', expat.ErrorString(error.code)) from None
+            raise Refusal(f'{self.path}:{error.lineno}:{error.offset + 1}',
+                          expat.ErrorString(error.code)) from None
         except (ValueError, LookupError) as error:
             raise Refusal(self.path, f'its encoding cannot be read: {error}') from None
-        if 'watermark' not in self.once:
+        if 'rde:watermark' not in self.once:
             raise Refusal(self.path, 'no rde:watermark in the deposit')
 
-    def refused(self, what):
-        return Refusal(f'{self.path}:{self.parser.CurrentLineNumber}:{self.parser.CurrentColumnNumber + 1}', what)
+    def refused(self, what: str) -> Refusal:
+        return Refusal(
+            f'{self.path}:{self.parser.CurrentLineNumber}:{self.parser.CurrentColumnNumber + 1}',
+            what)
 
-    def refuse_doctype(self, *_words):
+    def refuse_doctype(self, *_words: object) -> NoReturn:
         raise self.refused('a document type (DOCTYPE) is not read')
 
-    # The path of an element, from the root, as it is told.
-    def told(self, name):
-        return '/'.join([*(it.name for it in self.open), name])
+    def check_text(self) -> None:
+        """A text that grows from piece to piece has its most."""
+        if len(self.pieces) > 1 and sum(map(len, self.pieces)) > MOST_TEXT:
+            raise self.refused(
+                f'the text of {self.node.name} is longer than {MOST_TEXT} characters')
 
-    def start(self, name, attributes):
-        if len(self.open) + self.skipped >= MOST_DEPTH:
-            raise self.refused(f'elements are nested deeper than {MOST_DEPTH}')
+    def told(self, *names: str) -> str:
+        """The path of the innermost open element, or of one in it, from the root, as it is told."""
+        return '/'.join([
+            *(it.name for it, _, _ in self.open[1:]), *([self.node.name] if self.open else []),
+            *names
+        ])
+
+    def declare(self, prefix: str | None, uri: str | None) -> None:
+        self.spaces.append((prefix, uri))
+        self.fresh[prefix] = uri
+
+    def forget(self, _prefix: str | None) -> None:
+        self.spaces.pop()
+
+    # ---- the beginning of an element
+
+    def start(self, raw: str, attributes: list[str]) -> None:
+        # (In what is skipped nothing is known.)
+        node = self.node.children.get(raw)
+        if node is None or not node.is_plain:
+            self.start_other(node, raw, attributes)
+            return
+        row = self.row
+        self.open.append((self.node, row, self.pieces))
+        self.node, self.pieces = node, []
+        if node.table is not None:
+            self.row = Row(node.table)
+            if row is not None:
+                row.rows.append(self.row)
+        if attributes:
+            self.take_attributes(node, attributes)
+
+    def start_other(self, node: Node | None, raw: str, attributes: list[str]) -> None:
+        """The beginning of an element that is none of an object, or that has forms."""
         if self.skipped:
-            self.skipped += 1
+            self.skip(raw, attributes)
             return
-        name = self.names.spelled(name)
-        given = {self.names.spelled(it): value for it, value in zip(attributes[::2], attributes[1::2])}
-        element = self.opened(name, given)
-        if element is None:
-            self.skipped = 1
-            return
-        for attribute, value in element.attributes.items():
-            if element.row is not None and (cell := self.names.cells.get(f'{element.path}/@{attribute}')):
-                self.set_cell(self.row_of(cell.table, element.row), cell, value.strip(WHITE), f'{element.name}/@{attribute}')
-            elif not attribute.startswith('xsi:'):
-                self.notes.add('unknown', f'attribute {self.told(name)}/@{attribute}')
-        self.open.append(element)
-
-    # The element that begins, with the attributes that are not taken yet; None for one that is left out.
-    def opened(self, name, attributes):
-        depth = len(self.open)
-        if depth == 0:
-            if name != 'rde:deposit':
-                raise self.refused(f'no rde:deposit, but {name}')
-            self.once.add('deposit')
-            self.taker.begin({it: attributes.pop(it) for it in ('id', 'type', 'prevId', 'resend') if it in attributes})
-            return Element(name, '', 'deposit', attributes, None)
-        if depth == 1:
-            prefix, _, section = name.partition(':')
-            if prefix != 'rde' or section not in ('watermark', 'rdeMenu', 'deletes', 'contents'):
-                return self.unknown(name)
-            if section in self.once and section in ('watermark', 'rdeMenu'):
-                raise self.refused(f'{name} is there twice')
-            self.once.add(section)
-            self.section = section
-            return Element(name, '', section, attributes, None)
-        if self.definition is not None or self.open[-1].does == 'files':
-            return self.open_in_files(name, attributes)
-        if self.section == 'rdeMenu':
-            return self.open_listed(name, attributes, {'rde:version': 'version', 'rde:objURI': 'objURI'})
-        if self.open[-1].does == 'header' and name == 'rdeHeader:count':
-            return self.open_count(name, attributes)
-        if self.open[-1].does == 'header':
-            return self.open_listed(name, attributes, dict.fromkeys(HEADER_TEXTS, 'header text'))
-        if self.section in ('contents', 'deletes'):
-            return self.open_in_object(name, attributes)
-        return self.unknown(name)
-
-    def unknown(self, name):
-        self.notes.add('unknown', f'element {self.told(name)}')
-        return None
-
-    def open_listed(self, name, attributes, known):
-        return Element(name, '', known[name], attributes, None) if name in known else self.unknown(name)
-
-    def open_count(self, name, attributes):
-        uri = attributes.pop('uri', '').strip(WHITE)
-        prefix = self.names.prefixes.get(uri, uri)
-        counted = self.names.lines['count'].get(prefix)
-        parts = [it for it in PART_OF_COUNT if attributes.pop(it, None) is not None]
-        if counted is None and prefix not in self.names.lines['leave']:
-            self.notes.add('unknown', f'{self.told(name)} of {uri or "no namespace"}')
-        elif counted is None or parts:
-            self.notes.add('left out', f'{self.told(name)} of {prefix}' + ''.join(f' by @{it}' for it in parts))
+        node = node or self.node.others
+        if not self.open and (node is None or node.does is not Does.DEPOSIT):
+            raise self.refused(f'no rde:deposit, but {self.names.spelled(raw)}')
+        if node is not None and node.split in attributes[::2]:
+            at = attributes.index(node.split)
+            node, attributes = node.variants.get(
+                attributes[at + 1]), attributes[:at] + attributes[at + 2:]
+        if node is None or node.does in (Does.UNKNOWN, Does.LEFT):
+            told = self.told(self.names.spelled(raw))
+            is_left = node is not None and node.does is Does.LEFT
+            self.notes.add(*(('left out', told) if is_left else ('unknown', f'element {told}')))
+            self.skip(raw, attributes)
+        elif node.does in (Does.ROW, Does.TEXT, Does.GROUP, Does.MARK):
+            self.start_form(node, attributes)
         else:
-            return Element(name, counted, 'count', attributes, None)
-        return Element(name, '', 'left count', attributes, None)
+            self.start_outer(node, raw, attributes)
 
-    def open_in_object(self, name, attributes):
-        above, lines = self.open[-1], self.names.lines
-        if above.does in ('contents', 'deletes') and name == 'rdeHeader:header':
-            return Element(name, '', 'header', attributes, None)
-        path = f'{above.path}/{name}' if above.path else name
-        if path in lines['split'] and lines['split'][path] in attributes:
-            path += f'[{attributes.pop(lines["split"][path])}]'
-        if self.section == 'contents' and path in lines['row']:
-            row = Row(lines['row'][path])
-            if above.row is not None:
-                above.row.rows.append(row)
-            return Element(name, path, 'row', attributes, row)
-        if self.section == 'contents' and path in self.names.marks:
-            self.set_cell(self.row_of(self.names.marks[path].table, above.row), self.names.marks[path], '1', name)
-            return Element(name, path, 'mark', attributes, above.row)
-        if self.section == 'contents' and path in lines['group'] or above.row is not None and path in self.names.cells or (
-                self.section == 'deletes' and path in lines['delete']):
-            return Element(name, path, 'part', attributes, above.row)
-        # An element holds CSV files, of this section.
-        if path.endswith(f':{self.section}') and any(it.startswith(f'{path}/') for it in lines['csv']):
-            return Element(name, path, 'files', attributes, None)
-        if path in lines['leave']:
-            self.notes.add('left out', self.told(name))
-            return None
-        return self.unknown(name)
+    def start_form(self, node: Node, attributes: list[str]) -> None:
+        """The beginning of a form of an element of an object, or of one that is a cell by being
+        there."""
+        self.open.append((self.node, self.row, self.pieces))
+        self.node, self.pieces = node, []
+        if node.table is not None:
+            self.row = Row(node.table)
+            self.open[-1][1].rows.append(self.row)
+        if node.does is Does.MARK:
+            self.set_cell(node.cell, '1')
+        self.take_attributes(node, attributes)
 
-    def open_in_files(self, name, attributes):
-        does = self.open[-1].does
-        if does == 'files' and name == 'rdeCsv:csv':
-            purpose = attributes.pop('name', '').strip(WHITE)
-            table = self.names.lines['csv'].get(f'{self.open[-1].path}/{purpose}')
-            if table is None:
-                self.notes.add('unknown', f'{self.told(name)} of {purpose or "no name"}')
-                return None
-            self.definition = Definition(self.parser.CurrentLineNumber, table, self.section == 'deletes', attributes.pop('sep', ','))
-            return Element(name, '', 'csv', attributes, None)
-        if does == 'csv' and name in ('rdeCsv:fields', 'rdeCsv:files'):
-            return Element(name, '', name, attributes, None)
-        if does == 'rdeCsv:fields':
-            said = {it: attributes.pop(it) for it in FIELD_ATTRIBUTES if it in attributes}
-            self.definition.fields.append((self.parser.CurrentLineNumber, name, said))
-            return Element(name, '', 'field', attributes, None)
-        if does == 'rdeCsv:files' and name == 'rdeCsv:file':
-            said = {it: attributes.pop(it) for it in FILE_ATTRIBUTES if it in attributes}
-            self.definition.files.append([self.parser.CurrentLineNumber, '', said])
-            return Element(name, '', 'file', attributes, None)
-        return self.unknown(name)
+    def start_outer(self, node: Node, raw: str, attributes: list[str]) -> None:
+        """The beginning of an element that is of no object."""
+        # A field of CSV files has any name.
+        node = node if node.name else Node(self.names.spelled(raw), node.does)
+        given = {
+            self.names.spelled(it): value
+            for it, value in zip(attributes[::2], attributes[1::2])
+        }
+        begin = self.begins.get(node.does)
+        if begin is not None and not begin(node, given):
+            self.skip(raw, attributes)
+            return
+        self.open.append((self.node, self.row, self.pieces))
+        self.node, self.pieces = node, []
+        for attribute in given:
+            self.tell_attribute(attribute)
 
-    # The innermost open row of a table.
-    def row_of(self, table, row):
-        if row is not None and row.table == table:
-            return row
-        for element in reversed(self.open):
-            if element.row is not None and element.row.table == table:
-                return element.row
-        raise self.refused(f'there is no row of {table} here: the table of names is wrong')
+    def take_attributes(self, node: Node, attributes: list[str]) -> None:
+        """The attributes of an element of an object."""
+        for raw, value in zip(attributes[::2], attributes[1::2]):
+            cell = node.attributes.get(raw)
+            if cell is not None:
+                self.set_cell(cell, value.strip(WHITE), raw)
+            elif not raw.startswith(XSI):
+                self.tell_attribute(self.names.spelled(raw))
 
-    def set_cell(self, row, cell, value, name):
+    def tell_attribute(self, name: str) -> None:
+        if not name.startswith('xsi:'):
+            self.notes.add('unknown', f'attribute {self.told()}/@{name}')
+
+    def skip(self, raw: str, attributes: list[str]) -> None:
+        """Skips an element with all that is in it. One that stands among the objects of contents is
+        kept as it is."""
+        if not self.skipped:
+            self.open.append((self.node, self.row, self.pieces))
+            self.is_kept, self.fresh = self.node is self.contents, {}
+            self.node, self.pieces = SKIPPED, []
+        if len(self.open) + self.skipped > MOST_DEPTH:
+            raise self.refused(f'elements are nested deeper than {MOST_DEPTH}')
+        self.skipped += 1
+        if self.is_kept:
+            self.taker.rest.start(raw, attributes, dict(self.spaces), self.fresh)
+            self.fresh = {}
+
+    # Each takes from the attributes what is known, and says whether the element is read.
+
+    def begin_deposit(self, _node: Node, given: Words) -> bool:
+        self.once.add('deposit')
+        self.taker.begin({it: given.pop(it) for it in OF_DEPOSIT if it in given})
+        return True
+
+    def begin_once(self, node: Node, _given: Words) -> bool:
+        if node.name in self.once:
+            raise self.refused(f'{node.name} is there twice')
+        self.once.add(node.name)
+        return True
+
+    def begin_count(self, node: Node, given: Words) -> bool:
+        uri, name = given.pop('uri', '').strip(WHITE), given.pop(OF_A_NAME, None)
+        prefix = self.names.prefixes.get(uri, uri)
+        kind, is_of_part = self.names.lines['count'].get(prefix), given.pop(OF_A_REGISTRAR,
+                                                                            None) is not None
+        self.counted = None
+        if kind is None and prefix not in self.names.lines['leave']:
+            self.notes.add('unknown', f'{self.told(node.name)} of {uri or "no namespace"}')
+        elif kind is None or is_of_part:
+            self.notes.add(
+                'left out',
+                f'{self.told(node.name)} of {prefix}'
+                f'{f" by @{OF_A_REGISTRAR}" if is_of_part else ""}'
+            )
+        else:
+            of_name = None if name is None else name.strip(WHITE)
+            self.counted = kind, of_name, f'{self.told(node.name)} of {prefix} by @{OF_A_NAME}'
+        return True
+
+    def begin_csv(self, node: Node, given: Words) -> bool:
+        purpose = given.pop('name', '').strip(WHITE)
+        known = node.variants.get(purpose)
+        if known is None:
+            self.notes.add('unknown', f'{self.told(node.name)} of {purpose or "no name"}')
+            return False
+        is_of_deletes = self.open[-1][0] is self.deletes
+        self.definition = Definition(self.parser.CurrentLineNumber, known.name, is_of_deletes,
+                                     given.pop('sep', ','))
+        return True
+
+    def begin_field(self, node: Node, given: Words) -> bool:
+        said = {it: given.pop(it) for it in OF_FIELD if it in given}
+        self.definition.fields.append((self.parser.CurrentLineNumber, node.name, said))
+        return True
+
+    def begin_file(self, _node: Node, given: Words) -> bool:
+        self.file = self.parser.CurrentLineNumber, {
+            it: given.pop(it)
+            for it in OF_FILE
+            if it in given
+        }
+        return True
+
+    # ---- what is in it
+
+    def set_cell(self, cell: Cell, value: str, attribute: str | None = None) -> None:
+        """Puts a value into the innermost open row of its table."""
+        row = self.row if self.row.table == cell.table else self.row_of(cell.table)
         field = cell.field
         if '#' in field:
             at = row.repeated[field] = row.repeated.get(field, -1) + 1
             field = field.replace('#', str(at))
             if field not in self.taker.columns(row.table):
-                self.notes.add('unknown', f'element {self.told(name)} number {at + 1}')
+                self.notes.add('unknown', f'element {self.told()} number {at + 1}')
                 return
         if field in row.cells:
-            raise self.refused(f'{self.told(name)} is there twice')
+            told = self.told(
+            ) if attribute is None else f'{self.told()}/@{self.names.spelled(attribute)}'
+            raise self.refused(f'{told} is there twice')
         row.cells[field] = value
 
-    def characters(self, text):
-        if not self.skipped and self.open:
-            element = self.open[-1]
-            if element.does not in WITH_TEXT:
-                if text.strip(WHITE):
-                    element.pieces = [text]
+    def row_of(self, table: str) -> Row:
+        for _, row, _ in reversed(self.open):
+            if row is not None and row.table == table:
+                return row
+        raise self.refused(f'there is no row of {table} here: the table of names is wrong')
+
+    def characters(self, text: str) -> None:
+        if self.node.has_text:
+            self.pieces.append(text)
+        elif self.skipped:
+            if self.is_kept:
+                self.taker.rest.text(text)
+        elif text.strip(WHITE):
+            self.pieces = [text]
+
+    # ---- the end of an element
+
+    def end(self, _raw: str) -> None:
+        node = self.node
+        if node.field is not None and node.field not in self.row.cells:
+            self.row.cells[node.field] = ''.join(self.pieces).strip(WHITE)
+        elif node.is_plain:
+            self.end_plain(node, ''.join(self.pieces).strip(WHITE))
+        elif self.skipped:
+            self.end_skipped()
+            if self.skipped:
                 return
-            element.pieces.append(text)
-            element.length += len(text)
-            if element.length > MOST_TEXT:
-                raise self.refused(f'the text of {element.name} is longer than {MOST_TEXT} characters')
+        else:
+            word, end = ''.join(self.pieces).strip(WHITE), self.ends.get(node.does)
+            if end is not None:
+                end(node, word)
+            elif word:
+                self.notes.add('unknown', f'text in {self.told()}')
+        self.node, self.row, self.pieces = self.open.pop()
 
-    def end(self, _name):
-        if self.skipped:
-            self.skipped -= 1
-            return
-        element = self.open.pop()
-        self.closed(element, element.text())
+    def end_plain(self, node: Node, word: str) -> None:
+        """The end of an element of an object."""
+        if node.cell is not None:
+            # A row without a text has no such cell.
+            if word or node.table is None:
+                self.set_cell(node.cell, word)
+        elif word:
+            self.notes.add('unknown', f'text in {self.told()}')
+        if node.table is not None:
+            if self.open[-1][0] is self.contents:
+                self.taker.object(self.row)
+            elif not any(self.row.cells.values()) and self.row.is_empty():
+                self.notes.add('empty', f'element {self.told()}')
 
-    def closed(self, element, word):
-        does = element.does
-        if does == 'watermark':
-            try:
-                self.taker.watermark(in_utc(word))
-            except (ValueError, OverflowError) as error:
-                raise self.refused(f'rde:watermark {word}: {error}') from None
-        elif does == 'version':
-            if word != '1.0':
-                self.notes.add('unknown', f'{self.told(element.name)} {word}')
-        elif does == 'objURI':
-            if word not in self.names.prefixes:
-                self.notes.add('unknown', f'namespace {word}')
-        elif does == 'header text':
-            self.taker.header(self.refused, element.name.partition(':')[2], word)
-        elif does == 'count':
+    def end_skipped(self) -> None:
+        self.skipped -= 1
+        if self.is_kept:
+            self.taker.rest.end()
+
+    def end_delete(self, node: Node, word: str) -> None:
+        if node.cell is not None:
+            self.taker.deleted(*node.cell, word)
+        elif word:
+            self.notes.add('unknown', f'text in {self.told()}')
+
+    def end_watermark(self, _node: Node, word: str) -> None:
+        try:
+            self.taker.watermark(in_utc(word))
+        except (ValueError, OverflowError) as error:
+            raise self.refused(f'rde:watermark {word}: {error}') from None
+
+    def end_version(self, _node: Node, word: str) -> None:
+        if word != '1.0':
+            self.notes.add('unknown', f'{self.told()} {word}')
+
+    def end_namespace(self, _node: Node, word: str) -> None:
+        if word not in self.names.prefixes:
+            self.notes.add('unknown', f'namespace {word}')
+
+    def end_header_text(self, node: Node, word: str) -> None:
+        self.taker.header(node.name.partition(':')[2], word)
+
+    def end_count(self, _node: Node, word: str) -> None:
+        if self.counted is not None:
             if not re.fullmatch(r'\d{1,20}', word, re.ASCII) or int(word) >= 1 << 64:
                 raise self.refused(f'no number of objects: {word}')
-            self.taker.count(self.refused, element.path, int(word))
-        elif does == 'file':
-            self.definition.files[-1][1] = word
-        elif does == 'csv':
-            self.taker.definitions.append(self.definition)
-            self.definition = None
-        elif does != 'left count':
-            self.close_part(element, word)
+            kind, of_name, told = self.counted
+            self.taker.count(kind, int(word), of_name, told)
 
-    # The end of a row, or of a part of one: what its text is, and what is in it where it is an object.
-    def close_part(self, element, word):
-        cell = self.names.cells.get(element.path) if self.section == 'contents' else None
-        if cell is not None and element.row is not None:
-            if word or element.does != 'row':
-                self.set_cell(self.row_of(cell.table, element.row), cell, word, element.name)
-        elif element.does == 'part' and self.section == 'deletes' and self.names.lines['delete'][element.path]:
-            table, field = self.names.lines['delete'][element.path].split('.', 1)
-            self.taker.deleted(self.refused, table, field, word)
-        elif word:
-            self.notes.add('unknown', f'text in {self.told(element.name)}')
-        if element.does == 'row' and self.open[-1].does == 'contents':
-            self.taker.object(self.refused, element.row.table, element.row.cells, element.row.children())
+    def end_file(self, _node: Node, word: str) -> None:
+        line, said = self.file
+        self.definition.files.append((line, word, said))
+
+    def end_csv(self, _node: Node, word: str) -> None:
+        if word:
+            self.notes.add('unknown', f'text in {self.told()}')
+        self.taker.definitions.append(self.definition)
+        self.definition = None

@@ -1,0 +1,181 @@
+"""The headers of a series: of a deposit that is given as several bundles, each of which builds on
+the one before.
+
+The last one has the deposit's own id and watermark, so that what builds on the deposit builds on
+the whole of it. Those before it have the deposit's type (the first one) or are Differentials, have
+its id with their number behind it, and come a nanosecond after each other. A resend has places of
+its own, so that nothing of an earlier revision is between its bundles."""
+import json
+import os
+from collections.abc import Iterable
+from collections.abc import Iterator
+from datetime import datetime
+from datetime import timedelta
+from typing import NamedTuple
+
+from faults import Refusal
+from writing import DESCRIPTION
+
+EPOCH = datetime(1970, 1, 1)
+SECOND = 1_000_000_000
+# A store lists no more rows; the places of one revision are below this many nanoseconds.
+MOST_PARTS = 4_096
+MOST_ID = 64
+Header = dict[str, object]
+
+
+def nanoseconds(watermark: str) -> int:
+    """A watermark of the desk's form as a number."""
+    seconds, _, fraction = watermark.removesuffix('Z').partition('.')
+    return (datetime.fromisoformat(seconds) - EPOCH) // timedelta(seconds=1) * SECOND + int(
+        fraction.ljust(9, '0'))
+
+
+def watermark_text(moment: int) -> str:
+    seconds, fraction = divmod(moment, SECOND)
+    point = f'.{fraction:09}'.rstrip('0') if fraction else ''
+    return f'{EPOCH + timedelta(seconds=seconds):%Y-%m-%dT%H:%M:%S}{point}Z'
+
+
+class Place(NamedTuple):
+    """Where a bundle stands among others."""
+    moment: int
+    type: str
+
+
+class Known(NamedTuple):
+    """A deposit that was unpacked before: in one folder, or in parts."""
+    id: str
+    type: str
+    moment: int
+    resend: int
+    folder: str
+    folders: list[str]
+    places: list[Place]
+
+    @property
+    def is_series(self) -> bool:
+        return len(self.folders) > 1
+
+
+def is_folder(path: str) -> bool:
+    return os.path.exists(os.path.join(path, DESCRIPTION))
+
+
+def known_in(folder: str) -> Known:
+    """The deposit in a folder that was written before."""
+    parts = [
+        os.path.join(folder, it) for it in sorted(os.listdir(folder)) if it.startswith('part-')
+    ] if os.path.isdir(folder) else []
+    folders = [folder] if is_folder(folder) else [it for it in parts if is_folder(it)]
+    if not folders:
+        raise Refusal(folder, f'it has no {DESCRIPTION}')
+    try:
+        headers = [header_in(it) for it in folders]
+    except (ValueError, KeyError, TypeError, AttributeError):
+        raise Refusal(folder, f'its {DESCRIPTION} is none that unpack_rde wrote') from None
+    last = headers[-1]
+    return Known(last['id'], headers[0]['type'], nanoseconds(last['watermark']),
+                 last.get('resend', 0), folder, folders,
+                 [Place(nanoseconds(it['watermark']), it['type']) for it in headers])
+
+
+def header_in(folder: str) -> Header:
+    with open(os.path.join(folder, DESCRIPTION), encoding='utf-8') as file:
+        return json.load(file)
+
+
+def in_order(known: Iterable[Known]) -> list[Known]:
+    """From the earliest to the latest."""
+    return sorted(known, key=lambda it: (it.moment, it.resend))
+
+
+class Series:
+    """The headers of the bundles of a deposit, by its own header and by what is known of earlier
+    ones."""
+
+    def __init__(self, path: str, header: Header, known: list[Known]) -> None:
+        self.path, self.header, self.known = path, header, known
+        self.id, self.moment, self.resend = str(header['id']), nanoseconds(str(
+            header['watermark'])), int(header.get('resend', 0))
+
+    def refused(self, what: str) -> Refusal:
+        return Refusal(self.path, what)
+
+    def full(self) -> Known | None:
+        """The last known Full before an Incremental."""
+        fulls = [it for it in self.known if it.type == 'FULL' and it.moment < self.moment]
+        return fulls[-1] if fulls else None
+
+    def revisions(self) -> list[Known]:
+        """The known revisions of the deposit itself, which may have other ids."""
+        return [
+            it for it in self.known if (it.moment, it.type) == (self.moment, self.header['type'])
+        ]
+
+    def part_id(self, part: int, of: int) -> str:
+        if part == of:
+            return self.id
+        found = f'{self.id}{f".r{self.resend}" if self.resend else ""}.{part}of{of}'
+        if len(found) > MOST_ID:
+            raise self.refused(
+                f'the id of a part of its series is longer than {MOST_ID} characters: {found}')
+        return found
+
+    def place(self, part: int, of: int) -> Place:
+        moment = self.moment if part == of else self.moment - self.resend * MOST_PARTS - (of - part)
+        if moment < 0:
+            raise self.refused(
+                'there is no room for the watermarks of its series, which would be before 1970')
+        return Place(moment, str(self.header['type']) if part == 1 else 'DIFF')
+
+    def headers(self, of: int) -> Iterator[Header]:
+        """The header of each bundle; of one that has the whole deposit, the deposit's own."""
+        if of == 1:
+            yield self.header
+            return
+        front = {
+            it: value
+            for it, value in self.header.items()
+            if it not in ('id', 'type', 'watermark', 'prevId', 'resend')
+        }
+        for part in range(1, of + 1):
+            place = self.place(part, of)
+            header = {
+                'id': self.part_id(part, of), 'type': place.type,
+                'watermark': watermark_text(place.moment)
+            }
+            if part > 1:
+                header['prevId'] = self.part_id(part - 1, of)
+            elif 'prevId' in self.header:
+                header['prevId'] = self.header['prevId']
+            if part == of and self.resend:
+                header['resend'] = self.resend
+            yield {**header, **front, 'series': {'deposit': self.id, 'part': part, 'of': of}}
+
+    def check(self, of: int) -> None:
+        """Refuses a deposit whose bundles can't be listed beside those that are known."""
+        if of > MOST_PARTS:
+            raise self.refused(f'it needs {of} bundles, and a store lists at most {MOST_PARTS}')
+        places = [self.place(1, of), self.place(of, of)]
+        revisions = self.revisions()
+        for known in self.known:
+            if known in revisions:
+                self.check_revision(known, places[1], of)
+                continue
+            taken = next((it for it in known.places
+                          if places[0].moment <= it.moment < self.moment or it == places[1]), None)
+            if taken is not None:
+                what = 'it' if of == 1 else f'its series of {of}'
+                raise self.refused(
+                    f'there is no room for {what}: {known.id} in {known.folder} has the place '
+                    f'{watermark_text(taken.moment)} {taken.type}')
+
+    def check_revision(self, known: Known, last: Place, of: int) -> None:
+        if known.places[-1] != last:
+            before, now = ('a series' if it else 'one bundle' for it in (known.is_series, of > 1))
+            raise self.refused(
+                f'{known.id} in {known.folder} is {before}, and this is {now}: one deposit has one '
+                'place. Unpack both with --series, or list the latest revision alone in a new store')
+        if known.resend == self.resend and known.id != self.id:
+            raise self.refused(f'{known.id} in {known.folder} has its watermark, type and resend')

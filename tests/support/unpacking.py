@@ -1,0 +1,161 @@
+"""Runs `unpack_rde` on documents that are put together of elements, and reads the folders that it
+writes."""
+import contextlib
+import hashlib
+import io
+import os
+import runpy
+import tempfile
+import unittest
+
+from support import TOP
+from support.bundles import HEADING
+from support.bundles import sealed
+from support.documents import URIS
+from support.documents import element
+from support.escrow import description_in
+from support.escrow import folders_in
+from support.escrow import rows_in
+from support.files import read
+from support.files import write
+from support.formats import envelope_in
+from support.model import Desk
+
+PROGRAM = f'{TOP}/packaging/unpack_rde'
+# The program is run in this process: to start another one for each case would take ten times as
+# long.
+MAIN = runpy.run_path(PROGRAM)['main']
+SPACES = {f'xmlns:{it}': uri for it, uri in URIS.items()}
+HEADER = {'type': 'FULL', 'id': 'F1'}
+DIFF = {'type': 'DIFF', 'id': 'D2', 'prevId': 'F1'}
+MENU = element('rde:rdeMenu',
+               within=element('rde:version', '1.0') + element('rde:objURI', URIS['rdeDomain']))
+WATERMARK = element('rde:watermark', '2024-03-03T00:00:00Z')
+
+
+def deposit(contents='', deletes='', watermark=WATERMARK, menu=MENU, header=HEADER):
+    """A document with each section on a line of its own: the watermark on line 2, the menu on 3,
+    the deletes on 4, the contents on 5."""
+    sections = element('rde:deletes', within=deletes), element('rde:contents', within=contents)
+    within = '\n'.join(['', watermark, menu, *sections, ''])
+    return ('<?xml version="1.0"?>' +
+            element('rde:deposit', within=within, **header, **SPACES)).encode()
+
+
+def registrar(more='', id='R1'):
+    return element(
+        'rdeRegistrar:registrar',
+        within=element('rdeRegistrar:id', id) + element('rdeRegistrar:name', 'One') + more)
+
+
+def domain(name, more=''):
+    return element('rdeDomain:domain', within=element('rdeDomain:name', name) + more)
+
+
+def counted(number, kind='Domain', **more):
+    return element('rdeHeader:header', within=element('rdeHeader:count', number,
+                                                      uri=URIS[f'rde{kind}'], **more))
+
+
+def csv_definition(name, fields, *files, **more):
+    within = element('rdeCsv:fields', within=''.join(f'<{it}/>' for it in fields))
+    return element('rdeCsv:csv', within=within + element('rdeCsv:files', within=''.join(files)),
+                   name=name, **more)
+
+
+def file_of(name, **more):
+    return element('rdeCsv:file', name, **more)
+
+
+def in_files(prefix, *definitions, word='contents'):
+    return element(f'{prefix}:{word}', within=''.join(definitions))
+
+
+def idns(file=file_of('i.csv'), fields=('rdeCsv:fIdnTableId', 'rdeCsv:fUrl'), **more):
+    """The contents of a deposit with one definition, of a file of two fields."""
+    return in_files('csvIDN', csv_definition('idnLanguage', fields, file, **more))
+
+
+HOST = csv_definition('host', ['csvHost:fName', 'rdeCsv:fRoid'], file_of('h.csv'))
+ADDRESSES = csv_definition('hostAddresses',
+                           ['rdeCsv:fRoid parent="true"', 'csvHost:fAddr', 'csvHost:fAddrVersion'],
+                           file_of('a.csv'))
+DELETED_HOST = csv_definition('host', ['rdeCsv:fRoid'], file_of('g.csv'))
+
+
+class Unpacked:
+    """What the program does with a document and the files beside it, in a folder of its own."""
+
+    def __init__(self, folder, text, files=None, words=()):
+        self.folder, self.out = folder, os.path.join(folder, 'out')
+        self.status, self.lines, self.printed = None, [], ''
+        for name, data in {'d.xml': text, **(files or {})}.items():
+            write(os.path.join(folder, name), data)
+        self.run(words)
+
+    def run(self, words):
+        before, out, err = os.getcwd(), io.StringIO(), io.StringIO()
+        os.chdir(self.folder)
+        try:
+            with contextlib.redirect_stdout(out), contextlib.redirect_stderr(err):
+                self.status = MAIN([*words, 'd.xml', 'out'])
+        except SystemExit as ended:
+            self.status = ended.code
+        finally:
+            os.chdir(before)
+        self.lines, self.printed = err.getvalue().splitlines(), out.getvalue()
+
+    def bundles(self):
+        """The bundles of what was written."""
+        return [bundle_in(it) for it in folders_in(self.out)]
+
+
+def bundle_in(folder):
+    """The bundle of a folder for `pack bundle`: its description, and the rows of each table without
+    their heading."""
+    tables = [table for word in ('contents', 'deletes') for table in description_in(folder)[word]]
+    files = [(table['file'],
+              b''.join(read(os.path.join(folder, it)).split(b'\n', 1)[1]
+                       for it in table['from']))
+             for table in tables]
+    return sealed(read(os.path.join(folder, 'envelope.json')), files)
+
+
+def row_of(bundle):
+    """The row of a manifest that lists a bundle."""
+    told = envelope_in(bundle)
+    front = [
+        told['id'], told['type'], told['watermark'],
+        told.get('prevId', ''), f'{told["resend"].text if "resend" in told else ""}'
+    ]
+    return ','.join([*front, hashlib.sha256(bundle).hexdigest()]) + '\n'
+
+
+def desk(listed, arrived=None):
+    """A desk that lists bundles, and to which these came, in their order; all of them if none are
+    named."""
+    manifest = HEADING + ''.join(map(row_of, listed))
+    arrivals = listed if arrived is None else arrived
+    return Desk(manifest.encode(), [(f'n{at}', it) for at, it in enumerate(arrivals)])
+
+
+class Case(unittest.TestCase):
+    def unpacked(self, *given, **more):
+        folder = tempfile.TemporaryDirectory(prefix='case-')
+        self.addCleanup(folder.cleanup)
+        return Unpacked(folder.name, *given, **more)
+
+    def written(self, *given, **more):
+        """What is unpacked of a deposit that is taken, and says nothing."""
+        found = self.unpacked(*given, **more)
+        self.assertEqual((found.status, found.lines), (0, []))
+        return found
+
+    def rows(self, found, table):
+        """The rows of a table, each with the cells that aren't empty."""
+        declared = [it for it in description_in(found.out)['contents'] if it['name'] == table]
+        return [{name: value
+                 for name, value in row.items()
+                 if value}
+                for it in declared
+                for row in rows_in(found.out, it)]
