@@ -5,7 +5,7 @@ use crate::events::{push_event, push_run};
 use crate::input::split;
 use crate::looks::{look, push_chain};
 use crate::requests::{push_request, push_taken};
-use esc_desk::{Desk, SFault};
+use esc_desk::{Desk, StoreFault};
 use esc_manifest::read_manifest;
 use esc_recovery::{new_desk, open_desk};
 use esc_store::Store;
@@ -58,7 +58,7 @@ fn answer_without_desk<S: Alter + Drop>(
 
 fn opened<S: Alter + Drop>(
     text: &mut String,
-    desk: Result<Desk<S>, (SFault, Connection<S>)>,
+    desk: Result<Desk<S>, (StoreFault, Connection<S>)>,
     word: &str,
 ) -> Result<Place<S>, Fail> {
     match desk {
@@ -93,7 +93,7 @@ fn create<S: Alter + Drop>(
 fn migrated_desk<S: Alter + Drop>(
     alloc: Global,
     connection: Connection<S>,
-) -> Result<Desk<S>, (SFault, Connection<S>)> {
+) -> Result<Desk<S>, (StoreFault, Connection<S>)> {
     match Store::migrate(alloc, connection) {
         Ok(store) => Ok(Desk::open(store)),
         Err(refused) => Err(refused),

@@ -2,7 +2,7 @@
 
 use crate::flaky::{Failures, FlakyDisk};
 use crate::input::split;
-use esc_desk::SFault;
+use esc_desk::{Cause, StoreFault};
 use sqlite::{Connection, FileStore, Files, Options};
 use sqlite_disk::{Crash, Disk, Memory};
 use std::alloc::Global;
@@ -190,13 +190,13 @@ pub fn connect<D: Disk + Drop>(
     alloc: Global,
     files: Files<D>,
     room: Room,
-) -> Result<Connection<FileStore<D>>, (SFault, Files<D>)> {
+) -> Result<Connection<FileStore<D>>, (StoreFault, Files<D>)> {
     if !files.may_be_used() {
-        return Err((SFault::S1, files));
+        return Err((StoreFault::Failed(Cause::Unopened), files));
     }
     match Connection::open_files(alloc, files, room.options()) {
         Ok(connection) => Ok(connection),
-        Err((error, left)) => Err((SFault::from(error), left.into_files())),
+        Err((error, left)) => Err((StoreFault::from(error), left.into_files())),
     }
 }
 

@@ -2,7 +2,7 @@
 
 use crate::texts::{push_object, push_step, push_text};
 use esc_apply::Step;
-use esc_desk::{Desk, End, SFault};
+use esc_desk::{Desk, End, Reads, StoreFault};
 use esc_reports::{Report, printed_watermark, report};
 use esc_tables::{Key, Object};
 use sqlite::Alter;
@@ -31,7 +31,7 @@ pub fn look<S: Alter + Drop>(
     }
 }
 
-fn push_fault(text: &mut String, fault: SFault) -> Result<(), Fail> {
+fn push_fault(text: &mut String, fault: StoreFault) -> Result<(), Fail> {
     writeln!(text, "{fault}")?;
     Ok(())
 }

@@ -4,8 +4,8 @@ use Rattle.std.specs.Prelude.{string_bytes, codes, if◌then◌else◌}
 use Rattle.std.specs.Str.{bytes_eq}
 use Rattle.esc_envelope.specs.Watermark.{watermark_of}
 use Rattle.esc_manifest.specs.Manifest.{manifest_of}
-use Rattle.esc_manifest.specs.declared.fault.MFault.TheVariants.{Refused, NoMemory}
-use Rattle.esc_store.specs.declared.fault.SFault.TheVariants.{S2}
+use Rattle.esc_manifest.specs.declared.fault.ManifestFault.TheVariants.{Refused, NoMemory}
+use Rattle.esc_store.specs.declared.fault.StoreFault.TheVariants.{NoMemory as no_memory}
 use Rattle.esc_arguments.specs.declared.stop.Stop.{Stop}
 use Rattle.esc_arguments.specs.declared.stop.Stop.TheVariants.{Unreadable, Manifest, Moment, Store}
 
@@ -17,13 +17,13 @@ named_moment word =
 -- the stop for a word that names no moment: it has the word, or memory was refused for that
 abbrev pub IsMomentStop : List ℕ → Stop → Type 0
 IsMomentStop word (Moment text) = string_bytes text ≡ word
-IsMomentStop word (Store fault) = fault ≡ S2
+IsMomentStop word (Store fault) = fault ≡ no_memory
 IsMomentStop word (Manifest fault) = ⊥
 IsMomentStop word (Unreadable path) = ⊥
 
 -- the stop for a text that isn't read as a manifest: its refusal, or memory was refused
 abbrev pub IsManifestStop : List ℕ → Stop → Type 0
-IsManifestStop text (Manifest (Refused code row)) = manifest_of text ≡ Err (code, row)
+IsManifestStop text (Manifest (Refused refusal row)) = manifest_of text ≡ Err (refusal, row)
 IsManifestStop text (Manifest NoMemory) = Unit {0}
 IsManifestStop text (Moment word) = ⊥
 IsManifestStop text (Store fault) = ⊥

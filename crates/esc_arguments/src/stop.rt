@@ -1,13 +1,13 @@
 //! What the program stops for, and its statuses.
 
 ghost use Rattle.std.specs.Prelude.{◌≡◌};
-ghost use Rattle.esc_store.specs.declared.fault.SFault.TheVariants.{S2 as out_of_memory};
+ghost use Rattle.esc_store.specs.declared.fault.StoreFault.TheVariants.{NoMemory as out_of_memory};
 ghost use Rattle.esc_arguments.specs.declared.stop.Stop.TheVariants.{Store as of_store};
 
 use esc_bundle::NoMemory;
 use esc_cli::OneLine;
-use esc_manifest::MFault;
-use esc_store::SFault;
+use esc_manifest::ManifestFault;
+use esc_store::StoreFault;
 use std::alloc::{AllocError, AllocFailed};
 use std::fmt;
 use std::io::Write;
@@ -19,7 +19,7 @@ pub const REFUSED: u8 = 1;
 pub const STOPPED: u8 = 3;
 
 /// Out of memory: `S2`.
-pub const NO_MEMORY: Stop = Stop::Store(SFault::S2);
+pub const NO_MEMORY: Stop = Stop::Store(StoreFault::NoMemory);
 
 /// What the program stops for.
 #[derive(Debug, Drop)]
@@ -27,19 +27,20 @@ pub enum Stop {
     /// `E1`: a file or folder can't be read, listed or written. Standard output is `-`.
     Unreadable(String),
     /// `M1` to `M13`: the manifest is refused.
-    Manifest(MFault),
+    Manifest(ManifestFault),
     /// `E3`: the word is no moment.
     Moment(String),
     /// `S1` to `S5`: the store refuses.
-    Store(SFault),
+    Store(StoreFault),
 }
 
 impl Stop {
     /// The program's status.
     pub fn status(&self) -> u8 {
         match self {
-            Stop::Manifest(MFault::Refused { .. }) | Stop::Moment(_) => REFUSED,
-            Stop::Manifest(MFault::NoMemory) | Stop::Unreadable(_) | Stop::Store(_) => STOPPED,
+            Stop::Manifest(ManifestFault::Refused { .. }) | Stop::Moment(_) => REFUSED,
+            Stop::Manifest(ManifestFault::NoMemory) | Stop::Unreadable(_) | Stop::Store(_) =>
+                STOPPED,
         }
     }
 }
@@ -48,7 +49,7 @@ impl fmt::Display for Stop {
     fn fmt<W: fmt::Write>(&self, f: &mut fmt::Formatter<W>) -> fmt::Result {
         match self {
             Stop::Unreadable(path) => write!(f, "E1 {}", OneLine(path.as_str())),
-            Stop::Manifest(MFault::NoMemory) => f.write_str("S2"),
+            Stop::Manifest(ManifestFault::NoMemory) => f.write_str("S2"),
             Stop::Manifest(fault) => write!(f, "{fault}"),
             Stop::Moment(word) if word.is_empty() => f.write_str("E3 (an empty moment)"),
             Stop::Moment(word) => write!(f, "E3 {}", OneLine(word.as_str())),
@@ -57,8 +58,8 @@ impl fmt::Display for Stop {
     }
 }
 
-impl From<SFault> for Stop {
-    fn from(fault: SFault) -> Stop {
+impl From<StoreFault> for Stop {
+    fn from(fault: StoreFault) -> Stop {
         Stop::Store(fault)
     }
 }

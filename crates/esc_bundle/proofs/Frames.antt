@@ -7,6 +7,8 @@ use Rattle.std.proofs.lemmas.Bool.Decides.{nat_tests, Decides-eqb}
 use Rattle.std.proofs.lemmas.Slice.Eq.{starts_is}
 use Rattle.std.proofs.lemmas.List.{length_push, drop_at, length-drop, nil_from_length, flat_map_more}
 use Rattle.std.proofs.lemmas.Option.{same_Some}
+use Rattle.esc_bundle.specs.declared.refusal.Refusal.{Refusal}
+use Rattle.esc_bundle.specs.declared.refusal.Refusal.TheVariants.{BrokenFrame, OverLimit}
 use Rattle.esc_bundle.specs.Bundle.{Named, limit, first_line, last_line, section_text, beginning_text, bundle_text, AreSections, IsBundle}
 use Rattle.esc_bundle.specs.Reading.{section_at, end_at, next_at, FaultBehind, IsFault}
 use Rattle.esc_bundle.specs.Frame.{frame_after, frame}
@@ -25,7 +27,7 @@ pub record Ends (before : List Named) (rest : List ℕ) : Type 0 where
 end_takes : (before : List Named) (rest : List ℕ) (x : Option (Named × List ℕ)) → end_at before rest ≡ Ok x → (length rest ≡ 4) × (0 < length before) × (x ≡ None)
 unfolding end_at
 end_takes before rest x e =
-    let c = check_done ((length rest == 4) && nat_lt 0 (length before)) 1 _ x e in
+    let c = check_done ((length rest == 4) && nat_lt 0 (length before)) BrokenFrame _ x e in
     let both = and_parts (length rest == 4) (nat_lt 0 (length before)) c.0 in
     (eqb-true _ _ both.0, let one : nat_lt 0 (length before) ≡ true = both.1 in grind (arith, nat_tests), sym (done_is None x c.1))
 
@@ -77,19 +79,19 @@ pub frame_at_section : (steps : ℕ) (before : List Named) (rest : List ℕ) (x 
 unfolding frame_after
 frame_at_section steps before rest x next = rw next refl
 
-pub frame_at_fault : (steps : ℕ) (before : List Named) (rest : List ℕ) (n : ℕ) → next_at before rest ≡ Err n → frame_after (suc steps) before rest ≡ Err n
+pub frame_at_fault : (steps : ℕ) (before : List Named) (rest : List ℕ) (n : Refusal) → next_at before rest ≡ Err n → frame_after (suc steps) before rest ≡ Err n
 unfolding frame_after
 frame_at_fault steps before rest n next = rw next refl
 
 -- what a result says of a body: its sections, or its fault after the first line
-abbrev Says : List ℕ → Result (List Named) ℕ → Type 0
+abbrev Says : List ℕ → Result (List Named) Refusal → Type 0
 Says body (Ok ss) = (body ≡ bundle_text ss) × AreSections ss × (0 < length ss)
 Says body (Err n) = FaultBehind body n
 
 at_end : (body : List ℕ) (before : List Named) (rest : List ℕ) → body ≡ beginning_text before ++ rest → AreSections before → Ends before rest → Says body (Ok before)
 at_end body before rest e old ends = (e ∙ ap (λ (l : List ℕ). beginning_text before ++ l) ends.rest_is, old, ends.some)
 
-says_by : (steps : ℕ) (body : List ℕ) (before : List Named) (rest : List ℕ) (next : Result (Option (Named × List ℕ)) ℕ) → next_at before rest ≡ next → length before + suc steps ≡ 65 → body ≡ beginning_text before ++ rest → AreSections before
+says_by : (steps : ℕ) (body : List ℕ) (before : List Named) (rest : List ℕ) (next : Result (Option (Named × List ℕ)) Refusal) → next_at before rest ≡ next → length before + suc steps ≡ 65 → body ≡ beginning_text before ++ rest → AreSections before
     → ((s : Named) (after : List ℕ) → More body before s after → Says body (frame_after steps (before ++ (s ∷ [])) after)) → Says body (frame_after (suc steps) before rest)
 says_by steps body before rest (Ok None) next len e old more = rw (frame_at_end steps before rest next) (at_end body before rest e old (next_end_takes before rest next))
 says_by steps body before rest (Ok (Some x)) next len e old more = rw (frame_at_section steps before rest x next) (more x.0 x.1 (one_more body before rest x e old next))
@@ -102,11 +104,11 @@ says (suc steps) body before rest len e old = says_by steps body before rest (ne
 
 -- ---- from the first line on
 
-pub frame_over_limit : (body : List ℕ) → limit < length body → frame body ≡ Err 4
+pub frame_over_limit : (body : List ℕ) → limit < length body → frame body ≡ Err OverLimit
 unfolding frame
 frame_over_limit body lt = let over : nat_le (length body) limit ≡ false = grind (arith, nat_tests) in rw over refl
 
-pub frame_elsewhere : (body : List ℕ) → length body ≤ limit → ((rest : List ℕ) → body ≢ first_line ++ rest) → frame body ≡ Err 1
+pub frame_elsewhere : (body : List ℕ) → length body ≤ limit → ((rest : List ℕ) → body ≢ first_line ++ rest) → frame body ≡ Err BrokenFrame
 unfolding frame
 frame_elsewhere body le other =
     let within : nat_le (length body) limit ≡ true = grind (arith, nat_tests) in
@@ -125,11 +127,11 @@ frame_begins body rest le text =
 
 -- ---- a body has the meaning that `frame` gives it
 
-abbrev Means : List ℕ → Result (List Named) ℕ → Type 0
+abbrev Means : List ℕ → Result (List Named) Refusal → Type 0
 Means body (Ok ss) = IsBundle body ss
 Means body (Err n) = IsFault body n
 
-means_by_says : (body : List ℕ) (r : Result (List Named) ℕ) → length body ≤ limit → Says body r → Means body r
+means_by_says : (body : List ℕ) (r : Result (List Named) Refusal) → length body ≤ limit → Says body r → Means body r
 means_by_says body (Ok ss) le says_so = record { text = says_so.0; sections = says_so.1; some = says_so.2; size = le }
 means_by_says body (Err n) le behind = inr (inr (le, behind))
 
@@ -147,11 +149,11 @@ means body = elim (cases_lt limit (length body)) [
   ]
 ]
 
-bundle_by : (body : List ℕ) (ss : List Named) (r : Result (List Named) ℕ) → Means body r → IsBundle body ss → r ≡ Ok ss
+bundle_by : (body : List ℕ) (ss : List Named) (r : Result (List Named) Refusal) → Means body r → IsBundle body ss → r ≡ Ok ss
 bundle_by body ss (Ok ts) p q = ap done (one_list body ts ss p q)
 bundle_by body ss (Err n) p q = absurd (no_bundle_fault body ss n q p)
 
-fault_by : (body : List ℕ) (n : ℕ) (r : Result (List Named) ℕ) → Means body r → IsFault body n → r ≡ Err n
+fault_by : (body : List ℕ) (n : Refusal) (r : Result (List Named) Refusal) → Means body r → IsFault body n → r ≡ Err n
 fault_by body n (Ok ss) p q = absurd (no_bundle_fault body ss n p q)
 fault_by body n (Err m) p q = let same : m ≡ n = one_fault body m n p q in rw same refl
 
@@ -161,16 +163,16 @@ frame_is_bundle body ss e = subst (Means body) e (means body)
 pub frame_of_bundle : (body : List ℕ) (ss : List Named) → IsBundle body ss → frame body ≡ Ok ss
 frame_of_bundle body ss p = bundle_by body ss (frame body) (means body) p
 
-pub frame_is_fault : (body : List ℕ) (n : ℕ) → frame body ≡ Err n → IsFault body n
+pub frame_is_fault : (body : List ℕ) (n : Refusal) → frame body ≡ Err n → IsFault body n
 frame_is_fault body n e = subst (Means body) e (means body)
 
-pub frame_of_fault : (body : List ℕ) (n : ℕ) → IsFault body n → frame body ≡ Err n
+pub frame_of_fault : (body : List ℕ) (n : Refusal) → IsFault body n → frame body ≡ Err n
 frame_of_fault body n p = fault_by body n (frame body) (means body) p
 
-by_cases : (body : List ℕ) (r : Result (List Named) ℕ) → Means body r → ((ss : List Named) × IsBundle body ss) ⊎ ((n : ℕ) × IsFault body n)
+by_cases : (body : List ℕ) (r : Result (List Named) Refusal) → Means body r → ((ss : List Named) × IsBundle body ss) ⊎ ((n : Refusal) × IsFault body n)
 by_cases body (Ok ss) p = inl (ss, p)
 by_cases body (Err n) p = inr (n, p)
 
 -- every text is a bundle or has a fault
-pub bundle_or_fault : (body : List ℕ) → ((ss : List Named) × IsBundle body ss) ⊎ ((n : ℕ) × IsFault body n)
+pub bundle_or_fault : (body : List ℕ) → ((ss : List Named) × IsBundle body ss) ⊎ ((n : Refusal) × IsFault body n)
 bundle_or_fault body = by_cases body (frame body) (means body)

@@ -1,6 +1,7 @@
 -- The sections that are found one by one.
 use Rattle.std.proofs.Common.{◌≡◌, ℕ, suc, ◌-◌, ◌<◌, ◌≤◌, List, [], ◌∷◌, ◌++◌, length, Ok, Err, refl, sym, subst, ◌∙◌, arith}
 use Rattle.std.proofs.lemmas.List.{map_push, length-map, length_push}
+use Rattle.esc_bundle.specs.declared.refusal.Refusal.{Refusal}
 use Rattle.esc_bundle.specs.declared.section.Section.{Section}
 use Rattle.esc_bundle.specs.declared.fault.Fault.{Fault}
 use Rattle.esc_bundle.specs.declared.fault.Fault.TheVariants.{Refused}
@@ -22,7 +23,7 @@ at_step text found rest g = let few = g.few in let steps : 65 - length found ≡
 pub gathered_all : (text : List ℕ) (found : List Section) (rest : List ℕ) → Gathered text found rest → next_at (views found) rest ≡ no_more → frame_after 65 [] text ≡ Ok (views found)
 gathered_all text found rest g next = sym (at_step text found rest g) ∙ frame_at_end (64 - length found) (views found) rest next
 
-pub gathered_refused : (text : List ℕ) (found : List Section) (rest : List ℕ) (e : Fault) (n : ℕ) → Gathered text found rest → Refuses e (next_at (views found) rest) → e ≡ Refused n → frame_after 65 [] text ≡ Err n
+pub gathered_refused : (text : List ℕ) (found : List Section) (rest : List ℕ) (e : Fault) (n : Refusal) → Gathered text found rest → Refuses e (next_at (views found) rest) → e ≡ Refused n → frame_after 65 [] text ≡ Err n
 gathered_refused text found rest e n g refused is =
     let next : next_at (views found) rest ≡ Err n = subst (λ (f : Fault). Refuses f (next_at (views found) rest)) is refused in
     sym (at_step text found rest g) ∙ frame_at_fault (64 - length found) (views found) rest n next

@@ -6,6 +6,5 @@ pub mod OneReading
 pub mod Frames
 pub mod Gathering
 pub mod Answered
-pub mod FaultNumbers
 pub mod Unwritten
 pub mod Written

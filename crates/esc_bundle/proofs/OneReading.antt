@@ -13,6 +13,8 @@ use Rattle.std.proofs.lemmas.Fmt.{digits_decimal, digits_value-decimal, decimal_
 use Rattle.std.proofs.lemmas.List.{length-append, take_at, drop_at, get_or_at, append_cancel_left, get_or_append_left, append-nil, length_push}
 use Rattle.std.proofs.lemmas.List.Folds.{list_any_none, list_any-append}
 use Rattle.std.proofs.lemmas.List.Concat.{flat_map-cons}
+use Rattle.esc_bundle.specs.declared.refusal.Refusal.{Refusal}
+use Rattle.esc_bundle.specs.declared.refusal.Refusal.TheVariants.{BrokenFrame}
 use Rattle.esc_bundle.specs.Bundle.{Named, limit, first_line, last_line, envelope_name, is_name_byte, is_name, is_length, section_text, beginning_text, AreSections, IsBundle}
 use Rattle.esc_bundle.specs.Reading.{parted, length_at, section_at, end_at, next_at, FaultBehind, IsFault}
 use Rattle.esc_bundle.proofs.StepFacts.{done_is, done_or_fault}
@@ -89,7 +91,7 @@ section_again before s after may =
 
 -- ---- the last line and a section begin differently
 
-section_at_end : (more : List ℕ) (before : List Named) → section_at before (last_line ++ more) ≡ Err 1
+section_at_end : (more : List ℕ) (before : List Named) → section_at before (last_line ++ more) ≡ Err BrokenFrame
 unfolding section_at
 section_at_end more before = refl
 
@@ -98,16 +100,16 @@ section_begins before rest x read = elim (cases_Bool (starts_with nat_eq rest la
   | inr other ↦ other
   | inl same ↦
       let text : rest ≡ last_line ++ drop 4 rest = (starts_is Decides-eqb rest last_line _ refl).0 same in
-      let none : section_at before rest ≡ Err 1 = ap (section_at before) text ∙ section_at_end (drop 4 rest) before in
+      let none : section_at before rest ≡ Err BrokenFrame = ap (section_at before) text ∙ section_at_end (drop 4 rest) before in
       absurd (cc)
 ]
 
 -- a section and what follows it, where the bundle does not end
-abbrev pub more_of : Named × List ℕ → Result (Option (Named × List ℕ)) ℕ
+abbrev pub more_of : Named × List ℕ → Result (Option (Named × List ℕ)) Refusal
 more_of x = Ok (Some x)
 
 -- the bundle ends
-abbrev pub no_more : Result (Option (Named × List ℕ)) ℕ
+abbrev pub no_more : Result (Option (Named × List ℕ)) Refusal
 no_more = Ok None
 
 pub next_section_again : (before : List Named) (rest : List ℕ) (x : Named × List ℕ) → section_at before rest ≡ Ok x → next_at before rest ≡ more_of x
@@ -120,7 +122,7 @@ next_end_again before some = let one : nat_lt 0 (length before) ≡ true = grind
 
 -- where the last line is there is no section
 end_is_no_section : (before : List Named) (more : List ℕ) (x : Named × List ℕ) → section_at before (last_line ++ more) ≡ Ok x → ⊥
-end_is_no_section before more x read = done_or_fault x 1 (sym read ∙ section_at_end more before)
+end_is_no_section before more x read = done_or_fault x BrokenFrame (sym read ∙ section_at_end more before)
 
 -- ---- sections in order
 
@@ -211,14 +213,14 @@ pub one_list : (body : List ℕ) (ss ts : List Named) → IsBundle body ss → I
 one_list body ss ts p q = (no_front body [] ss ts p (subst (λ (b : List ℕ). IsBundle b ts) (sym (append-nil body)) q)).1
 
 -- where a section is read there is no fault
-section_no_fault : (before : List Named) (rest : List ℕ) (n : ℕ) → (p : Named × List ℕ) × (section_at before rest ≡ Ok p) → next_at before rest ≡ Err n → ⊥
+section_no_fault : (before : List Named) (rest : List ℕ) (n : Refusal) → (p : Named × List ℕ) × (section_at before rest ≡ Ok p) → next_at before rest ≡ Err n → ⊥
 section_no_fault before rest n g fault = done_or_fault (Some g.0) n (sym (next_section_again before rest g.0 g.1) ∙ fault)
 
-end_no_fault : (ss : List Named) (n : ℕ) → 0 < length ss → next_at ss last_line ≡ Err n → ⊥
+end_no_fault : (ss : List Named) (n : Refusal) → 0 < length ss → next_at ss last_line ≡ Err n → ⊥
 end_no_fault ss n some fault = done_or_fault None n (sym (next_end_again ss some) ∙ fault)
 
 -- a bundle has no fault
-pub no_bundle_fault : (body : List ℕ) (ss : List Named) (n : ℕ) → IsBundle body ss → IsFault body n → ⊥
+pub no_bundle_fault : (body : List ℕ) (ss : List Named) (n : Refusal) → IsBundle body ss → IsFault body n → ⊥
 no_bundle_fault body ss n p (inl long) = let size = p.size in omega arith
 no_bundle_fault body ss n p (inr (inl other)) = other.1 (flat_map section_text ss ++ last_line) (p.text ∙ append_assoc first_line (flat_map section_text ss) last_line)
 no_bundle_fault body ss n p (inr (inr behind)) =
@@ -229,18 +231,18 @@ no_bundle_fault body ss n p (inr (inr behind)) =
       | inr (inr longer) ↦ let g = goes_on ss f.before last_line f.rest f.sections longer in end_is_no_section ss [] g.0 g.1
     ]
 
-first_line_lacks : (body : List ℕ) (n : ℕ) → ((r : List ℕ) → body ≢ first_line ++ r) → FaultBehind body n → ⊥
+first_line_lacks : (body : List ℕ) (n : Refusal) → ((r : List ℕ) → body ≢ first_line ++ r) → FaultBehind body n → ⊥
 first_line_lacks body n other f = other (flat_map section_text f.before ++ f.rest) (f.text ∙ append_assoc first_line (flat_map section_text f.before) f.rest)
 
-abbrev fault_of : ℕ → Result (Option (Named × List ℕ)) ℕ
+abbrev fault_of : Refusal → Result (Option (Named × List ℕ)) Refusal
 fault_of n = Err n
 
-one_number : (a b : List Named) (x y : List ℕ) (m n : ℕ) → a ≡ b → x ≡ y → next_at a x ≡ Err m → next_at b y ≡ Err n → m ≡ n
+one_number : (a b : List Named) (x y : List ℕ) (m n : Refusal) → a ≡ b → x ≡ y → next_at a x ≡ Err m → next_at b y ≡ Err n → m ≡ n
 one_number a b x y m n lists rests p q =
     let e : fault_of m ≡ fault_of n = sym p ∙ ap (next_at a) rests ∙ ap (λ (l : List Named). next_at l y) lists ∙ q in
     cc
 
-one_fault_behind : (body : List ℕ) (m n : ℕ) → FaultBehind body m → FaultBehind body n → m ≡ n
+one_fault_behind : (body : List ℕ) (m n : Refusal) → FaultBehind body m → FaultBehind body n → m ≡ n
 one_fault_behind body m n a b = elim (beginnings a.before a.rest b.before b.rest a.sections b.sections (sym a.text ∙ b.text)) [
   | inl same ↦ one_number a.before b.before a.rest b.rest m n same.0 same.1 a.fault b.fault
   | inr (inl longer) ↦ absurd (section_no_fault a.before a.rest m (goes_on a.before b.before a.rest b.rest b.sections longer) a.fault)
@@ -248,7 +250,7 @@ one_fault_behind body m n a b = elim (beginnings a.before a.rest b.before b.rest
 ]
 
 -- a text has one fault at most
-pub one_fault : (body : List ℕ) (m n : ℕ) → IsFault body m → IsFault body n → m ≡ n
+pub one_fault : (body : List ℕ) (m n : Refusal) → IsFault body m → IsFault body n → m ≡ n
 one_fault body m n (inl a) (inl b) = a.1 ∙ sym b.1
 one_fault body m n (inl a) (inr (inl b)) = absurd (omega (arith, a.0, b.0))
 one_fault body m n (inl a) (inr (inr b)) = absurd (omega (arith, a.0, b.0))

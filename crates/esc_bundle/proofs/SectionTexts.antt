@@ -13,6 +13,7 @@ use Rattle.std.proofs.lemmas.List.{take-append-drop, length-take-le, length_push
 use Rattle.std.proofs.lemmas.List.Elements.{All-push}
 use Rattle.std.proofs.lemmas.List.Quantifiers.{all_pairs_push}
 use Rattle.std.proofs.lemmas.Option.{same_Some}
+use Rattle.esc_bundle.specs.declared.refusal.Refusal.TheVariants.{BrokenFrame}
 use Rattle.esc_bundle.specs.Bundle.{Named, limit, is_name, is_length, envelope_name, section_text, AreSections}
 use Rattle.esc_bundle.specs.Tests.{or_fault}
 use Rattle.esc_bundle.specs.Reading.{parted, stands_at, length_at, section_at}
@@ -54,7 +55,7 @@ pub record Told (before : List Named) (name size : List ℕ) (value : ℕ) : Typ
 pub length_takes : (before : List Named) (name size : List ℕ) (value : ℕ) → length_at before name size ≡ Ok value → Told before name size value
 unfolding length_at
 length_takes before name size value e =
-    let form = check_done (is_length size) 1 _ value e in
+    let form = check_done (is_length size) BrokenFrame _ value e in
     let stands = bind_done (stands_at before name (digits_value 10 size)) _ value form.1 in
     let same : digits_value 10 size ≡ value = done_is (digits_value 10 size) value stands.2 in
     record {
@@ -93,15 +94,15 @@ parts_text name size after n is form small lt feed =
 pub section_takes : (before : List Named) (rest : List ℕ) (x : Named × List ℕ) → section_at before rest ≡ Ok x → (rest ≡ section_text x.0 ++ x.1) × MayFollow before x.0
 unfolding section_at
 section_takes before rest x e =
-    let l = bind_done (or_fault 1 (parted 10 rest)) _ x e in
-    let w = bind_done (or_fault 1 (parted 32 l.0.0)) _ x l.2 in
+    let l = bind_done (or_fault BrokenFrame (parted 10 rest)) _ x e in
+    let w = bind_done (or_fault BrokenFrame (parted 32 l.0.0)) _ x l.2 in
     let v = bind_done (length_at before w.0.0 w.0.1) _ x w.2 in
-    let c = check_done (nat_lt v.0 (length l.0.1) && (slice_index l.0.1 v.0 == 10)) 1 _ x v.2 in
+    let c = check_done (nat_lt v.0 (length l.0.1) && (slice_index l.0.1 v.0 == 10)) BrokenFrame _ x v.2 in
     let told = length_takes before w.0.0 w.0.1 v.0 v.1 in
     let ends = and_parts _ _ c.0 in
     let lt : v.0 < length l.0.1 = let a : nat_lt v.0 (length l.0.1) ≡ true = ends.0 in grind (arith, nat_tests) in
     let len : length (take v.0 l.0.1) ≡ v.0 = length-take-le v.0 l.0.1 (omega arith) in
-    let line : rest ≡ (w.0.0 ++ (32 ∷ w.0.1)) ++ (10 ∷ l.0.1) = parted_takes 10 rest l.0 (value_there 1 _ _ l.1) ∙ ap (λ (y : List ℕ). y ++ (10 ∷ l.0.1)) (parted_takes 32 l.0.0 w.0 (value_there 1 _ _ w.1)) in
+    let line : rest ≡ (w.0.0 ++ (32 ∷ w.0.1)) ++ (10 ∷ l.0.1) = parted_takes 10 rest l.0 (value_there BrokenFrame _ _ l.1) ∙ ap (λ (y : List ℕ). y ++ (10 ∷ l.0.1)) (parted_takes 32 l.0.0 w.0 (value_there BrokenFrame _ _ w.1)) in
     let made : Named × List ℕ = (record { name = w.0.0; bytes = take v.0 l.0.1 }, drop (v.0 + 1) l.0.1) in
     let text : rest ≡ section_text made.0 ++ made.1 = line ∙ parts_text w.0.0 w.0.1 l.0.1 v.0 told.value_is told.form told.stands.small lt (eqb-true _ _ ends.1) in
     let follows : MayFollow before made.0 = subst (MayStand before w.0.0) (sym len) told.stands in

@@ -7,6 +7,7 @@ use Rattle.std.specs.Str.Parse.{digits_value}
 use Rattle.std.proofs.lemmas.Bool.{cases_lt, cases_Bool, eqb-true, and_parts, or_cases, not-true}
 use Rattle.std.proofs.lemmas.Bool.Decides.{nat_tests}
 use Rattle.std.proofs.lemmas.Slice.Eq.{bytes_eq-Decides}
+use Rattle.esc_bundle.specs.declared.refusal.Refusal.TheVariants.{BrokenFrame, WrongName, RepeatedName, OverLimit}
 use Rattle.esc_bundle.specs.Bundle.{Named, limit, envelope_name, is_name, is_length}
 use Rattle.esc_bundle.specs.declared.fault.Fault.{Fault}
 use Rattle.esc_bundle.specs.Tests.{Refuses}
@@ -28,11 +29,11 @@ is_in_order before name = not (length before == 0) || bytes_eq name envelope_nam
 pub stands_takes : (before : List Named) (name : List ℕ) (size : ℕ) (u : Unit {0}) → stands_at before name size ≡ Ok u → MayStand before name size
 unfolding stands_at
 stands_takes before name size u e =
-    let name_passed = check_done (is_name name) 2 _ u e in
-    let new_passed = check_done (not (list_any (λ t. bytes_eq t.name name) before)) 3 _ u name_passed.1 in
-    let room_passed = check_done (nat_lt (length before) 64 && nat_le size limit) 4 _ u new_passed.1 in
+    let name_passed = check_done (is_name name) WrongName _ u e in
+    let new_passed = check_done (not (list_any (λ t. bytes_eq t.name name) before)) RepeatedName _ u name_passed.1 in
+    let room_passed = check_done (nat_lt (length before) 64 && nat_le size limit) OverLimit _ u new_passed.1 in
     let room = and_parts (nat_lt (length before) 64) (nat_le size limit) room_passed.0 in
-    let order = check_passed (is_in_order before name) 1 u room_passed.1 in
+    let order = check_passed (is_in_order before name) BrokenFrame u room_passed.1 in
     record {
       named = name_passed.0;
       new = not-true _ new_passed.0;

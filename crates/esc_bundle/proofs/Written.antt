@@ -7,6 +7,8 @@ use Rattle.std.specs.List.{flat_map}
 use Rattle.std.proofs.lemmas.Bool.Decides.{nat_tests}
 use Rattle.std.proofs.lemmas.Grind.{flat_map-append}
 use Rattle.std.proofs.lemmas.List.{flat_map_more, append-nil, drop_more, drop_all, take_all, take-append-drop, length-append, map-append, map_more, length-map}
+use Rattle.esc_bundle.specs.declared.refusal.Refusal.{Refusal}
+use Rattle.esc_bundle.specs.declared.refusal.Refusal.TheVariants.{BrokenFrame, OverLimit}
 use Rattle.esc_bundle.specs.declared.section.Section.{Section}
 use Rattle.esc_bundle.specs.Bundle.{Named, view, views, limit, first_line, last_line, section_text, beginning_text, bundle_text, AreSections, IsBundle}
 use Rattle.esc_bundle.specs.Tests.{◌>>=◌}
@@ -45,17 +47,17 @@ pub within_limit_is : (text : List ℕ) → length text ≤ limit → within_lim
 unfolding within_limit
 within_limit_is text le = let fits : nat_le (length text) limit ≡ true = grind (arith, nat_tests) in rw fits refl
 
-pub over_limit_is : (text : List ℕ) → limit < length text → within_limit text ≡ Err 4
+pub over_limit_is : (text : List ℕ) → limit < length text → within_limit text ≡ Err OverLimit
 unfolding within_limit
 over_limit_is text lt = let over : nat_le (length text) limit ≡ false = grind (arith, nat_tests) in rw over refl
 
 within_limit_takes : (text body : List ℕ) → within_limit text ≡ Ok body → (text ≡ body) × (length text ≤ limit)
 unfolding within_limit
 within_limit_takes text body e =
-    let c = check_done (nat_le (length text) limit) 4 _ body e in
+    let c = check_done (nat_le (length text) limit) OverLimit _ body e in
     (done_is text body c.1, let fits : nat_le (length text) limit ≡ true = c.0 in grind (arith, nat_tests))
 
-pub bundle_of_none : (ss : List Named) → length ss ≡ 0 → bundle_of ss ≡ Err 1
+pub bundle_of_none : (ss : List Named) → length ss ≡ 0 → bundle_of ss ≡ Err BrokenFrame
 unfolding bundle_of
 bundle_of_none ss none = let empty : nat_lt 0 (length ss) ≡ false = grind (arith, nat_tests) in rw empty refl
 
@@ -66,7 +68,7 @@ bundle_of_some ss some = let one : nat_lt 0 (length ss) ≡ true = grind (arith,
 pub bundle_of_is_bundle : (ss : List Named) (body : List ℕ) → bundle_of ss ≡ Ok body → IsBundle body ss
 unfolding bundle_of
 bundle_of_is_bundle ss body e =
-    let some = check_done (nat_lt 0 (length ss)) 1 _ body e in
+    let some = check_done (nat_lt 0 (length ss)) BrokenFrame _ body e in
     let order = bind_done (in_order [] ss) _ body some.1 in
     let whole = within_limit_takes (bundle_text order.0) body order.2 in
     let all = in_order_takes [] ss order.0 no_sections order.1 in
@@ -83,15 +85,15 @@ bundle_of_bundle ss body is =
     let fits : length (bundle_text ss) ≤ limit = subst (λ (t : List ℕ). length t ≤ limit) is.text is.size in
     bundle_of_some ss is.some ∙ rw (in_order_again [] ss is.sections) (within_limit_is (bundle_text ss) fits ∙ ap done (sym is.text))
 
-pub no_bundle : (ss : List Named) (n : ℕ) → bundle_of ss ≡ Err n → (body : List ℕ) → IsBundle body ss → ⊥
+pub no_bundle : (ss : List Named) (n : Refusal) → bundle_of ss ≡ Err n → (body : List ℕ) → IsBundle body ss → ⊥
 no_bundle ss n fault body is = done_or_fault body n (sym (bundle_of_bundle ss body is) ∙ fault)
 
 -- ---- the steps of `bundle_of` on a list of parts
 
-pub none_made : (list : List (String Global × Vec ℕ)) (n : ℕ) → length list ≡ 0 → 1 ≡ n → bundle_of (map named list) ≡ Err n
-none_made list n none one = bundle_of_none (map named list) (length-map list named ∙ none) ∙ ap (λ (m : ℕ). Err m) one
+pub none_made : (list : List (String Global × Vec ℕ)) (n : Refusal) → length list ≡ 0 → BrokenFrame ≡ n → bundle_of (map named list) ≡ Err n
+none_made list n none one = bundle_of_none (map named list) (length-map list named ∙ none) ∙ ap (λ (m : Refusal). Err m) one
 
-pub disorder_made : (list : List (String Global × Vec ℕ)) (n : ℕ) → 0 < length list → in_order [] (map named list) ≡ Err n → bundle_of (map named list) ≡ Err n
+pub disorder_made : (list : List (String Global × Vec ℕ)) (n : Refusal) → 0 < length list → in_order [] (map named list) ≡ Err n → bundle_of (map named list) ≡ Err n
 disorder_made list n some fault = bundle_of_some (map named list) (rw (length-map list named) some) ∙ rw fault refl
 
 pub order_made : (list : List (String Global × Vec ℕ)) (all : List Named) → 0 < length list → in_order [] (map named list) ≡ Ok all → bundle_of (map named list) ≡ within_limit (bundle_text all)
@@ -108,7 +110,7 @@ pub in_order_more : (list : List (String Global × Vec ℕ)) (i : ℕ) (item : S
 unfolding in_order
 in_order_more list i item before u lt is stands = rw (next_part list i item lt is, stands) refl
 
-pub in_order_stops : (list : List (String Global × Vec ℕ)) (i : ℕ) (item : String Global × Vec ℕ) (before : List Named) (n : ℕ) → i < length list → item ≡ get_or list i item
+pub in_order_stops : (list : List (String Global × Vec ℕ)) (i : ℕ) (item : String Global × Vec ℕ) (before : List Named) (n : Refusal) → i < length list → item ≡ get_or list i item
     → stands_at before (named item).name (length (named item).bytes) ≡ Err n → in_order before (map named (drop i list)) ≡ Err n
 unfolding in_order
 in_order_stops list i item before n lt is fault = rw (next_part list i item lt is, fault) refl
@@ -142,7 +144,7 @@ text_bounded sections i =
     subst (λ (t : List ℕ). length (text_of sections i) ≤ length t) (sym whole) (part_bounded (flat_map section_text (views (take i sections))) (flat_map section_text (views (drop i sections))))
 
 -- where the text is too long already, the whole is
-pub over_limit_already : (sections : List Section) (i : ℕ) (text : List ℕ) → text ≡ text_of sections i → limit < length text → within_limit (bundle_text (views sections)) ≡ Err 4
+pub over_limit_already : (sections : List Section) (i : ℕ) (text : List ℕ) → text ≡ text_of sections i → limit < length text → within_limit (bundle_text (views sections)) ≡ Err OverLimit
 over_limit_already sections i text is lt =
     let long : limit < length (text_of sections i) = subst (λ (t : List ℕ). limit < length t) is lt in
     over_limit_is (bundle_text (views sections)) (omega (arith, text_bounded sections i))

@@ -7,3 +7,4 @@ pub mod Codes
 pub mod ListLaws
 pub mod ElementLaws
 pub mod TestLaws
+pub mod RefusalLaws

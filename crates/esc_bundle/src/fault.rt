@@ -4,6 +4,7 @@ ghost use Rattle.std.specs.Prelude.{◌≡◌, Some, codes};
 ghost use Rattle.esc_bundle.specs.Codes.{fault_text};
 ghost use Rattle.esc_bundle.specs.declared.fault.Fault.TheVariants.{NoMemory as no_memory};
 
+use crate::refusal::Refusal;
 use std::alloc::{AllocError, AllocFailed};
 use std::error::Error;
 use std::fmt;
@@ -11,8 +12,8 @@ use std::fmt;
 /// Why a body is no valid bundle, or no valid deposit (this project's profile).
 #[derive(Clone, Copy, Debug, PartialEq, Eq)]
 pub enum Fault {
-    /// The refusal with this number, from U1 to U11.
-    Refused(u8),
+    /// The body is refused.
+    Refused(Refusal),
     /// Out of memory.
     NoMemory,
 }
@@ -22,7 +23,7 @@ impl fmt::Display for Fault {
 
     fn fmt<W: fmt::Write>(&self, f: &mut fmt::Formatter<W>) -> fmt::Result {
         match *self {
-            Fault::Refused(number) => write!(f, "U{number}"),
+            Fault::Refused(refusal) => write!(f, "{refusal}"),
             Fault::NoMemory => f.write_str("out of memory"),
         }
     }

@@ -3,7 +3,10 @@
 //! The functions here do nothing. Each has a law as its contract: a caller who needs the law calls
 //! it.
 
-ghost use Rattle.std.specs.Prelude.{◌≡◌, ◌≤◌, ◌⊎◌, ◌↔◌, ◌++◌, ◌∷◌, List, [], ℕ, codes, Ok, Err};
+ghost use Rattle.std.specs.Prelude.{◌≡◌, ◌⊎◌, ◌↔◌, ◌++◌, ◌∷◌, List, [], ℕ, codes, Ok, Err};
+ghost use Rattle.esc_bundle.specs.declared.refusal.Refusal.{Refusal};
+ghost use Rattle.esc_bundle.specs.declared.refusal.Refusal.TheVariants.{BrokenFrame, WrongName};
+ghost use Rattle.esc_bundle.specs.declared.refusal.Refusal.TheVariants.{RepeatedName, OverLimit};
 ghost use Rattle.esc_bundle.specs.Bundle.{Named, IsBundle};
 ghost use Rattle.esc_bundle.specs.Reading.{IsFault};
 ghost use Rattle.esc_bundle.specs.Frame.{frame};
@@ -15,37 +18,34 @@ pub fn no_bundle_begins_another()
         IsBundle body ss → IsBundle (body ++ more) ts → more ≡ [] }
 {}
 
-/// A text is a bundle of one list of sections, or it has one fault, from U1 to U4: one of the two,
-/// and never both.
+/// A text is a bundle of one list of sections, or it has one fault: one of the two, and never both.
 pub fn each_text_has_one_reading()
     ensures either { (body : List ℕ) →
-        ((ss : List Named) × IsBundle body ss) ⊎ ((n : ℕ) × IsFault body n) }
-    ensures never_both { (body : List ℕ) (ss : List Named) (n : ℕ) →
-        IsBundle body ss → IsFault body n → ⊥ }
+        ((ss : List Named) × IsBundle body ss) ⊎ ((why : Refusal) × IsFault body why) }
+    ensures never_both { (body : List ℕ) (ss : List Named) (why : Refusal) →
+        IsBundle body ss → IsFault body why → ⊥ }
     ensures one_list { (body : List ℕ) (ss ts : List Named) →
         IsBundle body ss → IsBundle body ts → ss ≡ ts }
-    ensures one_fault { (body : List ℕ) (m n : ℕ) → IsFault body m → IsFault body n
-        → m ≡ n }
-    ensures numbers { (body : List ℕ) (n : ℕ) → IsFault body n → (1 ≤ n) × (n ≤ 4) }
+    ensures one_fault { (body : List ℕ) (why other : Refusal) → IsFault body why
+        → IsFault body other → why ≡ other }
 {}
 
 /// The function `frame` returns exactly what the relations `IsBundle` and `IsFault` say.
 pub fn frame_is_exact()
     ensures bundle { (body : List ℕ) (ss : List Named)
         → (frame body ≡ Ok ss) ↔ IsBundle body ss }
-    ensures fault { (body : List ℕ) (n : ℕ) → (frame body ≡ Err n) ↔ IsFault body n }
+    ensures fault { (body : List ℕ) (why : Refusal) → (frame body ≡ Err why) ↔ IsFault body why }
 {}
 
-/// The function `bundle_of` of a list of sections returns its bundle, or the number of the fault
-/// for which no bundle has these sections, from U1 to U4.
+/// The function `bundle_of` of a list of sections returns its bundle, or the fault for which no
+/// bundle has these sections.
 pub fn bundle_of_is_exact()
     ensures bundle { (ss : List Named) (body : List ℕ) →
         (bundle_of ss ≡ Ok body) ↔ IsBundle body ss }
-    ensures fault { (ss : List Named) (n : ℕ) →
-        bundle_of ss ≡ Err n → (body : List ℕ) → IsBundle body ss → ⊥ }
-    ensures unwritten { (ss : List Named) (n : ℕ)
-        → (bundle_of ss ≡ Err n) ↔ IsUnwritten ss n }
-    ensures numbers { (ss : List Named) (n : ℕ) → IsUnwritten ss n → (1 ≤ n) × (n ≤ 4) }
+    ensures fault { (ss : List Named) (why : Refusal) →
+        bundle_of ss ≡ Err why → (body : List ℕ) → IsBundle body ss → ⊥ }
+    ensures unwritten { (ss : List Named) (why : Refusal)
+        → (bundle_of ss ≡ Err why) ↔ IsUnwritten ss why }
 {}
 
 /// The definition at some texts: the shortest bundle, and one text for each kind of fault.
@@ -55,19 +55,22 @@ pub fn worked_texts()
     ensures two { frame (codes "escrow-bundle 1\nenvelope.json 2\n{}\nc.csv 6\nC1,R1\n\nend\n")
         ≡ Ok (record { name = codes "envelope.json"; bytes = codes "{}" }
         ∷ record { name = codes "c.csv"; bytes = codes "C1,R1\n" } ∷ []) }
-    ensures empty { frame [] ≡ Err 1 }
-    ensures no_section { frame (codes "escrow-bundle 1\nend\n") ≡ Err 1 }
-    ensures no_end { frame (codes "escrow-bundle 1\nenvelope.json 2\n{}\n") ≡ Err 1 }
+    ensures empty { frame [] ≡ Err BrokenFrame }
+    ensures no_section { frame (codes "escrow-bundle 1\nend\n") ≡ Err BrokenFrame }
+    ensures no_end { frame (codes "escrow-bundle 1\nenvelope.json 2\n{}\n") ≡ Err BrokenFrame }
     ensures bytes_after_end { frame (codes "escrow-bundle 1\nenvelope.json 2\n{}\nend\n\n")
-        ≡ Err 1 }
-    ensures leading_zero { frame (codes "escrow-bundle 1\nenvelope.json 02\n{}\nend\n") ≡ Err 1 }
-    ensures other_first { frame (codes "escrow-bundle 1\nc.csv 2\n{}\nend\n") ≡ Err 1 }
-    ensures wrong_name { frame (codes "escrow-bundle 1\nEnvelope.json 2\n{}\nend\n") ≡ Err 2 }
+        ≡ Err BrokenFrame }
+    ensures leading_zero { frame (codes "escrow-bundle 1\nenvelope.json 02\n{}\nend\n")
+        ≡ Err BrokenFrame }
+    ensures other_first { frame (codes "escrow-bundle 1\nc.csv 2\n{}\nend\n") ≡ Err BrokenFrame }
+    ensures wrong_name { frame (codes "escrow-bundle 1\nEnvelope.json 2\n{}\nend\n")
+        ≡ Err WrongName }
     ensures zero_before_name { frame (codes "escrow-bundle 1\nEnvelope.json 02\n{}\nend\n")
-        ≡ Err 1 }
+        ≡ Err BrokenFrame }
     ensures repeated { frame
-        (codes "escrow-bundle 1\nenvelope.json 2\n{}\nenvelope.json 2\n{}\nend\n") ≡ Err 3 }
-    ensures too_long { frame (codes "escrow-bundle 1\nenvelope.json 16777217\n") ≡ Err 4 }
-    ensures limit_before_first { frame (codes "escrow-bundle 1\nc.csv 16777217\n") ≡ Err 4 }
-    ensures nothing_to_write { bundle_of [] ≡ Err 1 }
+        (codes "escrow-bundle 1\nenvelope.json 2\n{}\nenvelope.json 2\n{}\nend\n")
+        ≡ Err RepeatedName }
+    ensures too_long { frame (codes "escrow-bundle 1\nenvelope.json 16777217\n") ≡ Err OverLimit }
+    ensures limit_before_first { frame (codes "escrow-bundle 1\nc.csv 16777217\n") ≡ Err OverLimit }
+    ensures nothing_to_write { bundle_of [] ≡ Err BrokenFrame }
 {}

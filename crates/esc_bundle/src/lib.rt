@@ -45,6 +45,7 @@
 mod fault;
 mod laws;
 mod reading;
+mod refusal;
 mod section;
 mod writing;
 
@@ -54,5 +55,6 @@ pub use laws::{
     worked_texts,
 };
 pub use reading::{LONGEST_NAME, MOST_BYTES, MOST_SECTIONS, sections};
+pub use refusal::Refusal;
 pub use section::Section;
 pub use writing::write_bundle;

@@ -15,6 +15,7 @@ ghost use Rattle.esc_bundle.specs.Reading.{end_at, next_at};
 ghost use Rattle.esc_bundle.specs.Frame.{frame_after, frame};
 
 use crate::fault::Fault;
+use crate::refusal::Refusal;
 use crate::section::Section;
 use std::alloc::Global;
 use std::str;
@@ -36,18 +37,6 @@ pub const MOST_SECTIONS: usize = 64;
 
 /// The most bytes of a section's name.
 pub const LONGEST_NAME: usize = 32;
-
-/// U1: the text does not have the frame of a bundle.
-pub(crate) const BROKEN_FRAME: Fault = Fault::Refused(1);
-
-/// U2: a section's name does not have the form of a name.
-const WRONG_NAME: Fault = Fault::Refused(2);
-
-/// U3: an earlier section has the same name.
-const REPEATED_NAME: Fault = Fault::Refused(3);
-
-/// U4: there are too many sections or bytes.
-pub(crate) const OVER_LIMIT: Fault = Fault::Refused(4);
 
 fn index_of(bytes: &[u8], byte: u8) -> Option<usize>
     ensures { result ≡ position (λ b. b == byte) bytes.now }
@@ -148,16 +137,16 @@ pub(crate) fn check_stand(before: &[Section<'_>], name: &[u8], size: usize) -> R
     ensures { Gives (λ done. tt) result (stands_at (views before.now) name.now size) }
 {
     if !is_name(name) {
-        return Err(WRONG_NAME);
+        return Err(Fault::Refused(Refusal::WrongName));
     }
     if is_repeated(before, name) {
-        return Err(REPEATED_NAME);
+        return Err(Fault::Refused(Refusal::RepeatedName));
     }
     if before.len() >= MOST_SECTIONS || size > MOST_BYTES {
-        return Err(OVER_LIMIT);
+        return Err(Fault::Refused(Refusal::OverLimit));
     }
     if !is_in_order(before, name) {
-        return Err(BROKEN_FRAME);
+        return Err(Fault::Refused(Refusal::BrokenFrame));
     }
     Ok(())
 }
@@ -168,7 +157,7 @@ fn told_length(before: &[Section<'_>], name: &[u8], size: &[u8]) -> Result<usize
     ensures { Gives (λ n. n) result (length_at (views before.now) name.now size.now) }
 {
     if !is_length(size) {
-        return Err(BROKEN_FRAME);
+        return Err(Fault::Refused(Refusal::BrokenFrame));
     }
     let value = value_of(size);
     check_stand(before, name, value)?;
@@ -196,14 +185,14 @@ fn front_section<'a>(
         (section_at (views before.now) rest.now) }
 {
     let Some((line, after)) = split_at_byte(rest, b'\n') else {
-        return Err(BROKEN_FRAME);
+        return Err(Fault::Refused(Refusal::BrokenFrame));
     };
     let Some((name, size)) = split_at_byte(line, b' ') else {
-        return Err(BROKEN_FRAME);
+        return Err(Fault::Refused(Refusal::BrokenFrame));
     };
     let size = told_length(before, name, size)?;
     if after.len() <= size || after[size] != b'\n' {
-        return Err(BROKEN_FRAME);
+        return Err(Fault::Refused(Refusal::BrokenFrame));
     }
     let section = Section {
         name: name_text(name),
@@ -227,7 +216,7 @@ fn next_section<'a>(
         return Ok(Some(found));
     }
     if rest.len() != LAST_LINE.len() || before.is_empty() {
-        return Err(BROKEN_FRAME);
+        return Err(Fault::Refused(Refusal::BrokenFrame));
     }
     Ok(None)
 }
@@ -256,34 +245,35 @@ fn gather(alloc: Global, text: &[u8]) -> Result<Vec<Section<'_>>, Fault>
 ///
 /// For a body that is no bundle, its first fault from the front:
 ///
-/// - `Refused(1)`: it has another frame, or its first section is not `envelope.json`;
-/// - `Refused(2)`: a name is not 1 to 32 of `a-z 0-9 . _ -`;
-/// - `Refused(3)`: a name occurs twice;
-/// - `Refused(4)`: the body or a section has more than 16,777,216 bytes, or there is a 65th
+/// - `BrokenFrame`: it has another frame, or its first section is not `envelope.json`;
+/// - `WrongName`: a name is not 1 to 32 of `a-z 0-9 . _ -`;
+/// - `RepeatedName`: a name occurs twice;
+/// - `OverLimit`: the body or a section has more than 16,777,216 bytes, or there is a 65th
 ///   section.
 ///
 /// `NoMemory` where the list of sections can't be allocated. It is never returned in place of the
-/// faults that need no list: a body over the limit (4), and one without the first line (1).
+/// faults that need no list: of a body over the limit, and of one without the first line.
 pub fn sections(alloc: Global, body: &[u8]) -> Result<Vec<Section<'_>>, Fault>
     ensures found { IfOk result (λ v. IsBundle body.now (views v.items)) }
-    ensures refused { IfErr result (λ e. (n : ℕ) → e ≡ Fault.Refused n
-        → IsFault body.now n) }
+    ensures refused { IfErr result (λ e. (why : Refusal) → e ≡ Fault.Refused why
+        → IsFault body.now why) }
     ensures bundle_found { (ss : List Named) → IsBundle body.now ss →
         MatchResult result (λ v. views v.items ≡ ss) (λ e. e ≡ Fault.NoMemory) }
-    ensures fault_told { (n : ℕ) → IsFault body.now n →
-        IsErrAnd result (λ e. (e ≡ Fault.Refused n) ⊎ (e ≡ Fault.NoMemory)) }
+    ensures fault_told { (why : Refusal) → IsFault body.now why →
+        IsErrAnd result (λ e. (e ≡ Fault.Refused why) ⊎ (e ≡ Fault.NoMemory)) }
     ensures framed { IfOk result (λ v. frame body.now ≡ Ok (views v.items)) }
-    ensures unframed { IfErr result (λ e. (n : ℕ) → e ≡ Fault.Refused n
-        → frame body.now ≡ Err n) }
-    ensures over_limit { limit < length body.now → result ≡ Err (Fault.Refused 4) }
+    ensures unframed { IfErr result (λ e. (why : Refusal) → e ≡ Fault.Refused why
+        → frame body.now ≡ Err why) }
+    ensures over_limit { limit < length body.now → result ≡ Err (Fault.Refused Refusal.OverLimit) }
     ensures other_line { length body.now ≤ limit →
-        ((rest : List ℕ) → body.now ≢ first_line ++ rest) → result ≡ Err (Fault.Refused 1) }
+        ((rest : List ℕ) → body.now ≢ first_line ++ rest) →
+        result ≡ Err (Fault.Refused Refusal.BrokenFrame) }
 {
     if body.len() > MOST_BYTES {
-        return Err(OVER_LIMIT);
+        return Err(Fault::Refused(Refusal::OverLimit));
     }
     match body.strip_prefix(FIRST_LINE) {
         Some(rest) => gather(alloc, rest),
-        None => Err(BROKEN_FRAME),
+        None => Err(Fault::Refused(Refusal::BrokenFrame)),
     }
 }

@@ -7,7 +7,8 @@ ghost use Rattle.esc_bundle.specs.Tests.{GivesOrNoMemory};
 ghost use Rattle.esc_bundle.specs.Writing.{named, in_order, within_limit, bundle_of, IsUnwritten};
 
 use crate::fault::{Fault, NoMemory};
-use crate::reading::{BROKEN_FRAME, FIRST_LINE, LAST_LINE, MOST_BYTES, OVER_LIMIT, check_stand};
+use crate::reading::{FIRST_LINE, LAST_LINE, MOST_BYTES, check_stand};
+use crate::refusal::Refusal;
 use crate::section::Section;
 use std::alloc::Global;
 
@@ -52,12 +53,12 @@ fn join(alloc: Global, sections: &[Section<'_>]) -> Result<Vec<u8>, Fault>
     for section in sections {
         push_section(alloc, &mut text, section)?;
         if text.len() > MOST_BYTES {
-            return Err(OVER_LIMIT);
+            return Err(Fault::Refused(Refusal::OverLimit));
         }
     }
     text.extend_from_slice(LAST_LINE)?;
     if text.len() > MOST_BYTES {
-        return Err(OVER_LIMIT);
+        return Err(Fault::Refused(Refusal::OverLimit));
     }
     Ok(text)
 }
@@ -69,32 +70,32 @@ fn join(alloc: Global, sections: &[Section<'_>]) -> Result<Vec<u8>, Fault>
 ///
 /// Exactly where no bundle has these sections:
 ///
-/// - `Refused(1)`: there is none, or the first is not `envelope.json`;
-/// - `Refused(2)`: a name is not 1 to 32 of `a-z 0-9 . _ -`;
-/// - `Refused(3)`: a name occurs twice;
-/// - `Refused(4)`: a section or the whole has more than 16,777,216 bytes, or there is a 65th
+/// - `BrokenFrame`: there is none, or the first is not `envelope.json`;
+/// - `WrongName`: a name is not 1 to 32 of `a-z 0-9 . _ -`;
+/// - `RepeatedName`: a name occurs twice;
+/// - `OverLimit`: a section or the whole has more than 16,777,216 bytes, or there is a 65th
 ///   section.
 ///
-/// The first section with a fault decides; of its faults the first in the order 2, 3, 4, 1 is
-/// returned, and the length of the whole is tested last. `NoMemory` where the text can't be
+/// The first section with a fault decides; of its faults the first in the order U2, U3, U4, U1
+/// is returned, and the length of the whole is tested last. `NoMemory` where the text can't be
 /// allocated, for any list but an empty one.
 pub fn write_bundle(alloc: Global, list: &[(String, Vec<u8>)]) -> Result<Vec<u8>, Fault>
     ensures written { IfOk result (λ v. IsBundle v.items (map named list.now)) }
-    ensures refused { IfErr result (λ e. (n : ℕ) → e ≡ Fault.Refused n →
+    ensures refused { IfErr result (λ e. (why : Refusal) → e ≡ Fault.Refused why →
         (body : List ℕ) → IsBundle body (map named list.now) → ⊥) }
     ensures bundle_written { (body : List ℕ) → IsBundle body (map named list.now) →
         MatchResult result (λ v. v.items ≡ body) (λ e. e ≡ Fault.NoMemory) }
-    ensures fault_told { (n : ℕ) → bundle_of (map named list.now) ≡ Err n →
-        IsErrAnd result (λ e. (e ≡ Fault.Refused n) ⊎ (e ≡ Fault.NoMemory)) }
+    ensures fault_told { (why : Refusal) → bundle_of (map named list.now) ≡ Err why →
+        IsErrAnd result (λ e. (e ≡ Fault.Refused why) ⊎ (e ≡ Fault.NoMemory)) }
     ensures made { IfOk result (λ v. bundle_of (map named list.now) ≡ Ok v.items) }
-    ensures unmade { IfErr result (λ e. (n : ℕ) → e ≡ Fault.Refused n →
-        bundle_of (map named list.now) ≡ Err n) }
-    ensures unwritten { IfErr result (λ e. (n : ℕ) → e ≡ Fault.Refused n →
-        IsUnwritten (map named list.now) n) }
-    ensures empty { length list.now ≡ 0 → result ≡ Err (Fault.Refused 1) }
+    ensures unmade { IfErr result (λ e. (why : Refusal) → e ≡ Fault.Refused why →
+        bundle_of (map named list.now) ≡ Err why) }
+    ensures unwritten { IfErr result (λ e. (why : Refusal) → e ≡ Fault.Refused why →
+        IsUnwritten (map named list.now) why) }
+    ensures empty { length list.now ≡ 0 → result ≡ Err (Fault.Refused Refusal.BrokenFrame) }
 {
     if list.is_empty() {
-        return Err(BROKEN_FRAME);
+        return Err(Fault::Refused(Refusal::BrokenFrame));
     }
     let sections = in_order(alloc, list)?;
     join(alloc, sections.as_slice())

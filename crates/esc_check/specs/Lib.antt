@@ -9,5 +9,6 @@ pub mod LinkValue
 pub mod Links
 pub mod Statuses
 pub mod ObjectReports
+pub mod Rules
 pub mod TableMap
 pub mod WritingLaws

@@ -9,6 +9,7 @@ ghost use Rattle.esc_check.specs.Findings.{miscounted};
 ghost use Rattle.esc_check.specs.Gathered.{count_of_kind, count_findings};
 
 use crate::finding::Finding;
+use crate::rule::Rule;
 use esc_bundle::NoMemory;
 use esc_envelope::Kind;
 use esc_tables::{Key, Object};
@@ -50,7 +51,7 @@ fn check_count(
         return Ok(());
     }
     found.push(Finding {
-        code: 2,
+        rule: Rule::ObjectCount,
         kind,
         key: String::new(alloc),
         field: String::from_str(alloc, "count")?,

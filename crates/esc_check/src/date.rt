@@ -9,6 +9,7 @@ ghost use Rattle.esc_check.specs.Gathered.{moment_findings, form_findings};
 
 use crate::field::{created, expires};
 use crate::finding::{Finding, add};
+use crate::rule::Rule;
 use esc_bundle::NoMemory;
 use esc_envelope::{watermark as moment_of, watermark_text};
 use esc_tables::{Key, Object};
@@ -71,7 +72,15 @@ fn add_late(
         ++ late_findings limit.now.moment (string_bytes limit.now.text) key.now created.now) }
 {
     if is_after(moment_of(created), limit.moment) {
-        return add(alloc, found, 5, key, "crDate", created, limit.text.as_str());
+        return add(
+            alloc,
+            found,
+            Rule::CreatedBefore,
+            key,
+            "crDate",
+            created,
+            limit.text.as_str(),
+        );
     }
     Ok(())
 }
@@ -87,7 +96,15 @@ fn add_early(
         ++ early_findings key.now expires.now created.now) }
 {
     if is_before(moment_of(expires), moment_of(created)) {
-        return add(alloc, found, 6, key, "exDate", expires, created);
+        return add(
+            alloc,
+            found,
+            Rule::ExpiresAfter,
+            key,
+            "exDate",
+            expires,
+            created,
+        );
     }
     Ok(())
 }
@@ -103,7 +120,7 @@ fn add_malformed(
         ++ malformed_findings key.now field.now text.now) }
 {
     if is_malformed(text) {
-        return add(alloc, found, 7, key, field, text, "");
+        return add(alloc, found, Rule::DateForm, key, field, text, "");
     }
     Ok(())
 }

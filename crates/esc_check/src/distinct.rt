@@ -38,8 +38,9 @@ fn is_listed_as(one: &Finding, other: &Finding) -> bool
             .cmp(&other.field)
             .then(one.value.cmp(&other.value)),
     );
-    one.code
-        .cmp(&other.code)
+    one.rule
+        .number()
+        .cmp(&other.rule.number())
         .then(one.kind.cmp(&other.kind).then(texts))
         == Ordering::Equal
 }

@@ -7,7 +7,9 @@ ghost use Rattle.std.specs.Cmp.Rules.{comparing};
 ghost use Rattle.std.specs.Ordering.{as_partial_cmp};
 ghost use Rattle.esc_check.specs.FindingValue.{finding_cmp, finding_eq};
 ghost use Rattle.esc_check.specs.FindingOrder.{finding_total, finding_equiv};
+ghost use Rattle.esc_check.specs.Rules.{rule_number};
 
+use crate::rule::Rule;
 use esc_bundle::NoMemory;
 use esc_envelope::Kind;
 use esc_tables::Key;
@@ -19,8 +21,8 @@ use std::marker::Model;
 /// Findings are ordered by their fields in turn, texts by their bytes.
 #[derive(Debug, Drop)]
 pub struct Finding {
-    /// The number of the rule that is broken: 1 to 7, for V1 to V7.
-    pub code: u8,
+    /// The rule that is broken.
+    pub rule: Rule,
     /// The kind of the object; in V2 the kind that is counted.
     pub kind: Kind,
     /// The text of the object's key, empty in V2.
@@ -37,11 +39,12 @@ pub struct Finding {
 impl Model for Finding {
     ghost use Rattle.std.specs.Prelude.{string_bytes};
     ghost use Rattle.esc_check.specs.FindingValue.{FindingValue};
+    ghost use Rattle.esc_check.specs.Rules.{rule_number};
 
     ghost Value = { FindingValue };
 
     ghost view = { λ f. record {
-      code = f.code;
+      code = rule_number f.rule;
       kind = f.kind;
       key = string_bytes f.key;
       field = string_bytes f.field;
@@ -92,8 +95,9 @@ impl Ord for Finding {
             .key
             .cmp(&other.key)
             .then(self.field.cmp(&other.field).then(last));
-        self.code
-            .cmp(&other.code)
+        self.rule
+            .number()
+            .cmp(&other.rule.number())
             .then(self.kind.cmp(&other.kind).then(texts))
     }
 }
@@ -102,7 +106,7 @@ impl Ord for Finding {
 pub fn add(
     alloc: Global,
     found: &mut Vec<Finding>,
-    code: u8,
+    rule: Rule,
     key: &Key,
     field: &str,
     value: &str,
@@ -110,7 +114,7 @@ pub fn add(
 ) -> Result<(), NoMemory>
     ensures { OnOk result (found.new.items ≡ found.old.items
         ++ record {
-          code = code;
+          code = rule_number rule;
           kind = key.now.kind;
           key = key.now.text;
           field = field.now;
@@ -119,7 +123,7 @@ pub fn add(
         } ∷ []) }
 {
     found.push(Finding {
-        code,
+        rule,
         kind: key.kind,
         key: String::from_str(alloc, key.text.as_str())?,
         field: String::from_str(alloc, field)?,

@@ -71,6 +71,7 @@ mod export;
 mod field;
 mod finding;
 mod link;
+mod rule;
 mod statuses;
 mod stream;
 mod verification;
@@ -78,6 +79,7 @@ mod walk;
 
 pub use export::{export_from, export_rows};
 pub use finding::Finding;
+pub use rule::Rule;
 pub use stream::StreamFault;
 pub use verification::verify;
 pub use walk::verify_from;

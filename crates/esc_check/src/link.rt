@@ -11,6 +11,7 @@ ghost use Rattle.esc_check.specs.Gathered.{is_present, link_findings};
 
 use crate::field::{LinkField, cell, child_field, parent_fields};
 use crate::finding::{Finding, add};
+use crate::rule::Rule;
 use esc_bundle::NoMemory;
 use esc_tables::{Key, Object, Row};
 use std::alloc::Global;
@@ -119,7 +120,7 @@ fn add_missing(alloc: Global, found: &mut Vec<Finding>, link: &Link) -> Result<(
     add(
         alloc,
         found,
-        1,
+        Rule::LinkTarget,
         &link.from,
         link.field.name(),
         link.to.text.as_str(),

@@ -11,6 +11,7 @@ ghost use Rattle.esc_check.specs.Statuses.{status_words};
 
 use crate::field::{cell, is_domain};
 use crate::finding::{Finding, add};
+use crate::rule::Rule;
 use esc_bundle::NoMemory;
 use esc_envelope::Kind;
 use esc_tables::{Key, Object, Row};
@@ -150,7 +151,7 @@ fn add_unknown(
     if is_status(key.kind, status) {
         return Ok(());
     }
-    add(alloc, found, 3, key, "status", status, "")
+    add(alloc, found, Rule::KnownStatus, key, "status", status, "")
 }
 
 fn check_each(
@@ -166,7 +167,7 @@ fn check_each(
         add_unknown(alloc, found, key, status)?;
     }
     if is_mixed(key.kind, statuses) {
-        return add(alloc, found, 4, key, "status", "ok", "");
+        return add(alloc, found, Rule::OkAlone, key, "status", "ok", "");
     }
     Ok(())
 }

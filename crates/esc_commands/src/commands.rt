@@ -7,7 +7,7 @@ use esc_arguments::{
     Command, Invocation, Stop, check_access, invocation_of, matches_of, print_error, print_stop,
 };
 use esc_cli::USAGE;
-use esc_desk::{Desk, SFault};
+use esc_desk::{Cause, Desk, StoreFault};
 use esc_recovery::{
     PathFault, StoreAt, close_desk, migrated_desk_at, new_desk_at, open_desk_at, reader_at,
 };
@@ -160,9 +160,11 @@ fn opened(
 fn stop_of(rt: &HostRuntime, path: &str, fault: PathFault) -> Stop {
     match fault {
         PathFault::Store(fault) => Stop::Store(fault),
-        PathFault::Unopened if names_no_file(path) => Stop::Store(SFault::S1),
+        PathFault::Unopened if names_no_file(path) => Stop::Store(StoreFault::Failed(
+            Cause::Unopened,
+        )),
         PathFault::Unopened => match check_access(rt, path) {
-            Ok(()) => Stop::Store(SFault::S1),
+            Ok(()) => Stop::Store(StoreFault::Failed(Cause::Unopened)),
             Err(stop) => stop,
         },
     }

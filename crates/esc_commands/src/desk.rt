@@ -5,10 +5,9 @@
 use crate::ended::Ended;
 use crate::run::Run;
 use esc_arguments::{Command, Stop};
-use esc_desk::{AmendFault, Desk, DeskReader};
-use esc_reports::{Report, end_line, report, stored_report};
+use esc_desk::{AmendFault, Desk, Reads};
+use esc_reports::{Report, end_line, report};
 use sqlite::Alter;
-use sqlite_trees::store::Store;
 use std::alloc::Global;
 use std::io::Write;
 use std::net::{Net, TcpListener, TcpStream};
@@ -33,7 +32,7 @@ where
             Command::Amend { text } => amend(alloc, desk, text),
             Command::AsOf { moment } => move_to(alloc, desk, *moment),
             // The same text as that of a reader, where the files are opened by a desk alone.
-            Command::Report(what) => Ok(Ended::done(report(alloc, desk, *what)?)),
+            Command::Report(what) => read_report(alloc, desk, *what),
             Command::Take { folder } => {
                 let status = self.take_folder(desk, *folder)?;
                 Ok(Ended::silent(alloc, status))
@@ -72,10 +71,10 @@ fn move_to<S: Alter>(
 }
 
 /// `report --store FILE WHAT` and `export --store FILE KIND`: the text of a report.
-pub(crate) fn read_report<S: Store>(
+pub(crate) fn read_report<R: Reads>(
     alloc: Global,
-    reader: &mut DeskReader<S>,
+    reader: &mut R,
     what: Report,
 ) -> Result<Ended, Stop> {
-    Ok(Ended::done(stored_report(alloc, reader, what)?))
+    Ok(Ended::done(report(alloc, reader, what)?))
 }

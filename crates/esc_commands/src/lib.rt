@@ -53,8 +53,7 @@
 //! [`esc_desk::Desk::amend`] and [`esc_desk::Desk::as_of`], and after a migration that of
 //! [`esc_recovery::migrated_desk`]. What a request is answered is that of [`esc_http::serve_one`],
 //! how long its client is waited for that of [`esc_client::TimedStream`], and the texts of reports
-//! are those of [`esc_reports::report`] and [`esc_reports::stored_report`]. No contract can say
-//! what a file holds or what is printed, so the texts, statuses and the order of refusals are
+//! are those of [`esc_reports::report`]. No contract can say what a file holds or what is printed, so the texts, statuses and the order of refusals are
 //! tested on the built program, by the cases of `tests/`.
 #![tactic(auto)]
 

@@ -13,6 +13,7 @@ use Rattle.std.proofs.lemmas.List.Sums.{fails_before_first}
 use Rattle.std.proofs.lemmas.Option.{same_Some, none-some}
 use Rattle.std.proofs.lemmas.Bool.{eqb-true}
 use Rattle.std.proofs.lemmas.Bool.Decides.{nat_tests}
+use Rattle.esc_bundle.specs.declared.refusal.Refusal.{Refusal}
 use Rattle.esc_tables.specs.DepositValue.{DepositValue}
 use Rattle.esc_tables.specs.Reading.{reading}
 use Rattle.esc_manifest.specs.declared.row.MRow.{MRow}
@@ -50,7 +51,7 @@ pub row_has : (m : List MRow) {r : ℕ} (d : List ℕ) → row_with_digest m d �
 row_has m {r = r} d found = let at = position-Some (λ (row : MRow). bytes_eq row.digest d) m r no_row found in (at.0, (bytes_decides (row_at m r).digest d).0 at.1)
 
 -- a body that holds row r has the digest of that row
-pub row_found : (m : List MRow) (r : ℕ) (row : Option ℕ) (told : Result DepositValue ℕ) → is_row r (held_row (found_at m row told)) ≡ true → row ≡ Some r
+pub row_found : (m : List MRow) (r : ℕ) (row : Option ℕ) (told : Result DepositValue Refusal) → is_row r (held_row (found_at m row told)) ≡ true → row ≡ Some r
 row_found m r None told is = absurd (true≢false (sym is))
 row_found m r (Some q) (Err n) is = absurd (true≢false (sym is))
 row_found m r (Some q) (Ok d) is = by_test _ is
@@ -90,12 +91,12 @@ listed_still m more d q then =
     let same : prefix_len differs (m ++ more) ≡ prefix_len differs m = grind (arith, nat_tests, whole, within) in
     grind (arith, common_steps, first, within, same)
 
-found_still : (m more : List MRow) (r : ℕ) → r < length m → (t : Result DepositValue ℕ) → found (m ++ more) r t ≡ found m r t
+found_still : (m more : List MRow) (r : ℕ) → r < length m → (t : Result DepositValue Refusal) → found (m ++ more) r t ≡ found m r t
 found_still m more r within (Ok d) =
     ap (λ (row : MRow). cond (as_listed row.header d.header) (Holding r d) (Differing r)) (get_or_append_left m more no_row r within)
 found_still m more r within (Err n) = refl
 
-module _ (digest : List ℕ → List ℕ) (reads : List ℕ → Result DepositValue ℕ) where
+module _ (digest : List ℕ → List ℕ) (reads : List ℕ → Result DepositValue Refusal) where
   -- a listed body is judged by its row
   pub holds_still : (m more : List MRow) (q r : ℕ) (c : Coming) → row_with_digest m (digest c.body) ≡ Some q → holds_by digest reads (m ++ more) r c ≡ holds_by digest reads m r c
   holds_still m more q r c at =
@@ -217,7 +218,7 @@ rows_short m (moved t ∷ e) c among = rows_short m e c among
 rows_short m (arrived_early a ∷ e) c (inl is) = subst (λ (x : List MRow). length x ≤ length (union_after m e)) (sym (ap (λ (b : Coming). b.rows) is)) (longer m e)
 rows_short m (arrived_early a ∷ e) c (inr there) = rows_short m e c there
 
-module _ (digest : List ℕ → List ℕ) (reads : List ℕ → Result DepositValue ℕ) where
+module _ (digest : List ℕ → List ℕ) (reads : List ℕ → Result DepositValue Refusal) where
   -- the row in the receipt of an arrival where this was found of its body
   abbrev told_row : List Coming → Coming → Assessment → Option ℕ
   told_row before c f = (receipt_by c.number (digest c.body) c.early f (holds_any digest reads before (held_row f))).row
@@ -225,7 +226,7 @@ module _ (digest : List ℕ → List ℕ) (reads : List ℕ → Result DepositVa
   row_below : (c : Coming) (n : ℕ) → length c.rows ≤ n → (before : List Coming) → IsBelow n (receipt_for digest reads before c).row
   row_below c n le before = by_row (row_with_digest c.rows (digest c.body)) refl
     where
-      row_told : (q : ℕ) → q < n → (t : Result DepositValue ℕ) → IsBelow n (told_row before c (found c.rows q t))
+      row_told : (q : ℕ) → q < n → (t : Result DepositValue Refusal) → IsBelow n (told_row before c (found c.rows q t))
       row_told q lt (Err k) = lt
       row_told q lt (Ok d) = by_test (as_listed (row_at c.rows q).header d.header)
         where

@@ -10,7 +10,7 @@ use Rattle.esc_tables.specs.Reading.{reading}
 use Rattle.esc_manifest.specs.declared.row.MRow.{MRow}
 use Rattle.esc_apply.specs.declared.moves.Work.{Work}
 use Rattle.esc_store.specs.declared.books.TheConstants.{MOST_RECEIPTS}
-use Rattle.esc_store.specs.declared.fault.SFault.{SFault}
+use Rattle.esc_store.specs.declared.fault.StoreFault.{StoreFault}
 use Rattle.esc_store.specs.declared.reply.Verdict.{Verdict}
 use Rattle.esc_store.specs.declared.reply.Verdict.TheVariants.{A1, A2, A3, A4, A5}
 use Rattle.esc_store.specs.declared.store.Store.{Store}
@@ -148,7 +148,7 @@ had_room {e = e} {a = a} {k = k} {p = p} n stood is counted none = by_receipt p.
 
 -- ---- why one is lost
 
-module _ {S : Type 0} (g : Ghosts S) (mid new : Store S) (found : Assessment) (digest : List ℕ) (f : SFault) where
+module _ {S : Type 0} (g : Ghosts S) (mid new : Store S) (found : Assessment) (digest : List ℕ) (f : StoreFault) where
   module _ (e : List EventValue) (a : ArrivalValue) (k : StoreState) (clean : IsHonest g new) (stood : Represents g mid k) (books : AreBooks sha256 reading e k)
       (same : digest ≡ sha256 a.body) (is : found ≡ assessment sha256 reading (union e) a.body) where
     no_place : IsUnkept e a → found ≡ Unlisted → IsParking k.parked digest Crowded → WhereApart e (HasNoPlace e a)

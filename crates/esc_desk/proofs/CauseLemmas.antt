@@ -3,8 +3,9 @@ use Rattle.std.proofs.Common.{◌≡◌, inl, inr, ℕ, List, Option, IsSome, Re
 use Rattle.sha2.specs.Sha256.{sha256}
 use Rattle.esc_tables.specs.Reading.{reading}
 use Rattle.esc_manifest.specs.declared.row.MRow.{MRow}
-use Rattle.esc_store.specs.declared.fault.SFault.{SFault}
-use Rattle.esc_store.specs.Faults.{IsS1OrS2}
+use Rattle.esc_store.specs.declared.fault.StoreFault.{StoreFault}
+use Rattle.esc_store.specs.declared.fault.StoreFault.TheVariants.{Failed, NoMemory, NotAStore, NoRoom, NoPlace}
+use Rattle.esc_store.specs.Faults.{IsFailed, IsFailure}
 use Rattle.esc_store.specs.StoreState.{StoreState, IsFull}
 use Rattle.esc_events.specs.Apart.{WhereApart}
 use Rattle.esc_events.specs.ArrivalValue.{ArrivalValue}
@@ -18,8 +19,17 @@ use Rattle.esc_desk.specs.Causes.{IsCrowded}
 pub if_err_is : {X E : Type 0} (r : Result X E) (f : E) (P : E → Type 0) → r ≡ Err f → P f → IfErr r P
 if_err_is r f P is p = rw is p
 
-pub cause_by : (e : List EventValue) (a : ArrivalValue) (f : SFault) → IsS1OrS2 f → IsCause e a f
-cause_by e a f (inl is) = subst (IsCause e a) (sym is) tt
+-- a store that failed is a cause of its own
+cause_failed : (e : List EventValue) (a : ArrivalValue) (f : StoreFault) → IsFailed f → IsCause e a f
+cause_failed e a (Failed cause) is = tt
+cause_failed e a NoMemory is = absurd is
+cause_failed e a NotAStore is = absurd is
+cause_failed e a NoRoom is = absurd is
+cause_failed e a NoPlace is = absurd is
+
+-- a failure of the store or want of memory is a cause of its own
+pub cause_by : (e : List EventValue) (a : ArrivalValue) (f : StoreFault) → IsFailure f → IsCause e a f
+cause_by e a f (inl is) = cause_failed e a f is
 cause_by e a f (inr is) = subst (IsCause e a) (sym is) tt
 
 -- ---- no place, by what a store keeps

@@ -6,11 +6,11 @@ use Rattle.sqlite_trees.specs.Tree.{Trees}
 use Rattle.sqlite.specs.Held.{Held, state}
 use Rattle.sqlite.specs.State.{HasCleanDisk, Survives}
 use Rattle.esc_tables.specs.Reading.{reading}
-use Rattle.esc_store.specs.declared.fault.SFault.{SFault}
-use Rattle.esc_store.specs.declared.fault.SFault.TheVariants.{S1, S2, S3, S4, S5}
+use Rattle.esc_store.specs.declared.fault.StoreFault.{StoreFault}
+use Rattle.esc_store.specs.declared.fault.StoreFault.TheVariants.{Failed, NoMemory, NotAStore, NoRoom, NoPlace}
 use Rattle.esc_store.specs.declared.store.Store.{Store}
 use Rattle.esc_store.specs.StoreState.{StoreState}
-use Rattle.esc_store.specs.Faults.{IsS1OrS2}
+use Rattle.esc_store.specs.Faults.{IsFailed, IsFailure}
 use Rattle.esc_store.specs.ReplyValue.{ReceiptValue}
 use Rattle.esc_store.specs.Representation.{LeavesOnly, LeavesOr}
 use Rattle.esc_events.specs.ArrivalValue.{ArrivalValue}
@@ -35,16 +35,25 @@ one_at_least trees e (x ∷ doubtful) one = inr (one_at_least trees e doubtful o
 
 -- ---- an event that was refused
 
-pub one_with : (trees : Trees) (e doubtful : List EventValue) (x : EventValue) (f : SFault) → IsStoreForOneOf trees e doubtful → IsStoreForOneOf trees e (doubtful_with f x doubtful)
-one_with trees e doubtful x S1 one = inr one
-one_with trees e doubtful x S2 one = inr one
-one_with trees e doubtful x S3 one = inr one
-one_with trees e doubtful x S4 one = one
-one_with trees e doubtful x S5 one = one
+pub one_with : (trees : Trees) (e doubtful : List EventValue) (x : EventValue) (f : StoreFault) → IsStoreForOneOf trees e doubtful → IsStoreForOneOf trees e (doubtful_with f x doubtful)
+one_with trees e doubtful x (Failed cause) one = inr one
+one_with trees e doubtful x NoMemory one = inr one
+one_with trees e doubtful x NotAStore one = inr one
+one_with trees e doubtful x NoRoom one = one
+one_with trees e doubtful x NoPlace one = one
 
-one_more : (trees : Trees) (e doubtful : List EventValue) (x : EventValue) (f : SFault) → IsS1OrS2 f → IsStoreFor trees (e ++ x ∷ []) → IsStoreForOneOf trees e (doubtful_with f x doubtful)
-one_more trees e doubtful x f (inl is) one = subst (λ (q : SFault). IsStoreForOneOf trees e (doubtful_with q x doubtful)) (sym is) (inl one)
-one_more trees e doubtful x f (inr is) one = subst (λ (q : SFault). IsStoreForOneOf trees e (doubtful_with q x doubtful)) (sym is) (inl one)
+-- a store with the event is one of those in doubt, where the store failed
+one_failed : (trees : Trees) (e doubtful : List EventValue) (x : EventValue) (f : StoreFault) → IsFailed f
+    → IsStoreFor trees (e ++ x ∷ []) → IsStoreForOneOf trees e (doubtful_with f x doubtful)
+one_failed trees e doubtful x (Failed cause) is one = inl one
+one_failed trees e doubtful x NoMemory is one = absurd is
+one_failed trees e doubtful x NotAStore is one = absurd is
+one_failed trees e doubtful x NoRoom is one = absurd is
+one_failed trees e doubtful x NoPlace is one = absurd is
+
+one_more : (trees : Trees) (e doubtful : List EventValue) (x : EventValue) (f : StoreFault) → IsFailure f → IsStoreFor trees (e ++ x ∷ []) → IsStoreForOneOf trees e (doubtful_with f x doubtful)
+one_more trees e doubtful x f (inl is) one = one_failed trees e doubtful x f is one
+one_more trees e doubtful x f (inr is) one = subst (λ (q : StoreFault). IsStoreForOneOf trees e (doubtful_with q x doubtful)) (sym is) (inl one)
 
 -- ---- what a crash leaves after a call
 
@@ -59,12 +68,12 @@ module _ {S : Type 0} (g : Ghosts S) where
     leaves_nothing {a = a} none s clean trees may = still_one trees e doubtful a none (leaves_as s clean trees may)
 
     -- an event that was refused before anything was begun
-    pub leaves_early : (x : EventValue) (f : SFault) → Survives (state g old) (state g new) (λ _. ⊥) → LeavesRefused g new e doubtful x f
+    pub leaves_early : (x : EventValue) (f : StoreFault) → Survives (state g old) (state g new) (λ _. ⊥) → LeavesRefused g new e doubtful x f
     unfolding CrashLeaves
     leaves_early x f s clean trees may = one_with trees e doubtful x f (leaves_as s clean trees may)
 
     -- one that was refused by S1 or S2, where a crash may leave a store that keeps k
-    leaves_refused : (x : EventValue) (f : SFault) {k : StoreState} → IsS1OrS2 f → IsStateAfter sha256 reading (e ++ x ∷ []) k → LeavesOr g old new k → LeavesRefused g new e doubtful x f
+    leaves_refused : (x : EventValue) (f : StoreFault) {k : StoreState} → IsFailure f → IsStateAfter sha256 reading (e ++ x ∷ []) k → LeavesOr g old new k → LeavesRefused g new e doubtful x f
     unfolding CrashLeaves LeavesOr
     leaves_refused x f {k = k} cause stands s clean trees may = elim (s.crash clean trees may) [
       | inl was ↦ one_with trees e doubtful x f (left (omega (arith, s.clean, clean)) trees was)
@@ -82,26 +91,26 @@ module _ {S : Type 0} (g : Ghosts S) where
   if_clean conn e doubtful h clean = h clean clean
 
   -- the same of the result of a call
-  pub refused_made : {X : Type 0} (new : Held S) (e doubtful : List EventValue) (x : EventValue) {result : Result X SFault} (f : SFault) → result ≡ Err f → LeavesRefused g new e doubtful x f → LeavesMade g new e doubtful x result
+  pub refused_made : {X : Type 0} (new : Held S) (e doubtful : List EventValue) (x : EventValue) {result : Result X StoreFault} (f : StoreFault) → result ≡ Err f → LeavesRefused g new e doubtful x f → LeavesMade g new e doubtful x result
   refused_made new e doubtful x f is left = rw is left
 
-  pub made_at : {X : Type 0} (new : Held S) (e doubtful : List EventValue) (x : EventValue) {result : Result X SFault} {v : X} → result ≡ Ok v → LeavesMade g new e doubtful x result → CrashLeaves g new (e ++ x ∷ []) []
-  made_at {X} new e doubtful x is left = subst (λ (r : Result X SFault). LeavesMade g new e doubtful x r) is left
+  pub made_at : {X : Type 0} (new : Held S) (e doubtful : List EventValue) (x : EventValue) {result : Result X StoreFault} {v : X} → result ≡ Ok v → LeavesMade g new e doubtful x result → CrashLeaves g new (e ++ x ∷ []) []
+  made_at {X} new e doubtful x is left = subst (λ (r : Result X StoreFault). LeavesMade g new e doubtful x r) is left
 
-  pub refused_at : {X : Type 0} (new : Held S) (e doubtful : List EventValue) (x : EventValue) {result : Result X SFault} {f : SFault} → result ≡ Err f → LeavesMade g new e doubtful x result
+  pub refused_at : {X : Type 0} (new : Held S) (e doubtful : List EventValue) (x : EventValue) {result : Result X StoreFault} {f : StoreFault} → result ≡ Err f → LeavesMade g new e doubtful x result
       → LeavesRefused g new e doubtful x f
-  refused_at {X} new e doubtful x is left = subst (λ (r : Result X SFault). LeavesMade g new e doubtful x r) is left
+  refused_at {X} new e doubtful x is left = subst (λ (r : Result X StoreFault). LeavesMade g new e doubtful x r) is left
 
-  pub refused_taken : {X : Type 0} (new : Held S) (e doubtful : List EventValue) (a : ArrivalValue) {result : Result X SFault} (f : SFault) → result ≡ Err f → LeavesRefused g new e doubtful (arrived a) f
+  pub refused_taken : {X : Type 0} (new : Held S) (e doubtful : List EventValue) (a : ArrivalValue) {result : Result X StoreFault} (f : StoreFault) → result ≡ Err f → LeavesRefused g new e doubtful (arrived a) f
       → LeavesTaken g new e doubtful a result
   refused_taken new e doubtful a f is left = rw is left
 
   -- an event whose edit was refused: where there was no room nothing was done
-  pub leaves_unmade : (old new : Store S) (e doubtful : List EventValue) (x : EventValue) (r : Option ReceiptValue) (f : SFault) {k : StoreState} → CrashLeaves g old.conn e doubtful → IsEditFault g r old new f
+  pub leaves_unmade : (old new : Store S) (e doubtful : List EventValue) (x : EventValue) (r : Option ReceiptValue) (f : StoreFault) {k : StoreState} → CrashLeaves g old.conn e doubtful → IsEditFault g r old new f
       → (HasCleanDisk (state g new.conn) → IsStateAfter sha256 reading (e ++ x ∷ []) k × LeavesOr g old.conn new.conn k) → LeavesRefused g new.conn e doubtful x f
   leaves_unmade old new e doubtful x None f left cause made = if_clean new.conn e (doubtful_with f x doubtful) (λ clean. leaves_refused old.conn new.conn e doubtful left x f cause (made clean).0 (made clean).1)
   leaves_unmade old new e doubtful x (Some r) f left (inl cause) made = if_clean new.conn e (doubtful_with f x doubtful) (λ clean. leaves_refused old.conn new.conn e doubtful left x f cause (made clean).0 (made clean).1)
-  leaves_unmade old new e doubtful x (Some r) f left (inr none) made = subst (λ (q : SFault). LeavesRefused g new.conn e doubtful x q) (sym none.0) (leaves_as old.conn new.conn e doubtful left none.1.leaves)
+  leaves_unmade old new e doubtful x (Some r) f left (inr none) made = subst (λ (q : StoreFault). LeavesRefused g new.conn e doubtful x q) (sym none.0) (leaves_as old.conn new.conn e doubtful left none.1.leaves)
 
   -- ---- a store that was left alone
   pub leaves_for : (store : Store S) {k : StoreState} {e : List EventValue} → IsStateAfter sha256 reading e k → LeavesOnly g store k → LeavesOnlyFor g store.conn e

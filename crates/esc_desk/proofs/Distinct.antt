@@ -6,6 +6,7 @@ use Rattle.std.specs.Cmp.{IsEquivalence}
 use Rattle.std.specs.Cmp.Lexicographic.{nat_list_eq_equiv}
 use Rattle.std.proofs.lemmas.List.Elements.{filter-append}
 use Rattle.std.proofs.lemmas.Bool.{and_parts}
+use Rattle.esc_bundle.specs.declared.refusal.Refusal.{Refusal}
 use Rattle.esc_tables.specs.DepositValue.{DepositValue}
 use Rattle.esc_events.specs.declared.assessment.Assessment.{Assessment}
 use Rattle.esc_events.specs.declared.assessment.Assessment.TheVariants.{Unlisted, Unreadable, Differing, Holding}
@@ -14,7 +15,7 @@ use Rattle.esc_events.specs.Assessment.{held_row}
 use Rattle.esc_store.specs.ReplyValue.{ReceiptValue, is_alike}
 use Rattle.esc_events.specs.Receipts.{receipt_by, holds_any, found_then, alike, distinct, receipt_for, receipts_after}
 
-module _ (digest : List ℕ → List ℕ) (reads : List ℕ → Result DepositValue ℕ) where
+module _ (digest : List ℕ → List ℕ) (reads : List ℕ → Result DepositValue Refusal) where
   pub alike_laws : IsEquivalence (alike digest reads)
   alike_laws = record {
     refl = λ a. ap₂ (λ x y. x && y) (nat_list_eq_equiv.refl a.number) (nat_list_eq_equiv.refl (digest a.body));

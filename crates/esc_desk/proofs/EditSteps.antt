@@ -1,7 +1,7 @@
 -- The parts of a change, one after another.
 use Rattle.std.proofs.Common.{◌≡◌, inl, inr, ℤ, Option, Some, None, refl, ◌∙◌}
 use Rattle.sqlite_trees.specs.declared.store.Store.{Ghosts}
-use Rattle.esc_store.specs.declared.fault.SFault.{SFault}
+use Rattle.esc_store.specs.declared.fault.StoreFault.{StoreFault}
 use Rattle.esc_store.specs.declared.store.Store.{Store}
 use Rattle.esc_store.specs.StoreState.{StoreState, with_listed}
 use Rattle.esc_store.specs.ReplyValue.{ReceiptValue}
@@ -18,14 +18,14 @@ use Rattle.esc_desk.proofs.CrashSteps.{adds_then}
 
 module _ {S : Type 0} (g : Ghosts S) where
   -- why a change was refused, of which nothing is committed, is why the edit is
-  pub edit_fault : (old new : Store S) (a b : ChangeOf S) (r : Option ReceiptValue) (f : SFault) → (IsHonest g new → IsHonest g b.store.now) → ((k : StoreState) → Represents g old k → HasMadeBooks g a k k)
+  pub edit_fault : (old new : Store S) (a b : ChangeOf S) (r : Option ReceiptValue) (f : StoreFault) → (IsHonest g new → IsHonest g b.store.now) → ((k : StoreState) → Represents g old k → HasMadeBooks g a k k)
       → StoreLeavesNoMore g old new → IsFillFault g r a b f → IsEditFault g r old new f
   edit_fault old new a b None f was rest leaves fault = fault
   edit_fault old new a b (Some r) f was rest leaves (inl is) = inl is
   edit_fault old new a b (Some r) f was rest leaves (inr full) = inr (full.0, record { full = λ clean k stood. full.1 (was clean) k k (rest k stood); leaves = leaves })
 
   -- the same where the store was as before first
-  pub edit_fault_then : (old mid new : Store S) (r : Option ReceiptValue) (f : SFault) → IsAsBefore g old mid → IsEditFault g r mid new f → IsEditFault g r old new f
+  pub edit_fault_then : (old mid new : Store S) (r : Option ReceiptValue) (f : StoreFault) → IsAsBefore g old mid → IsEditFault g r mid new f → IsEditFault g r old new f
   edit_fault_then old mid new None f same fault = fault
   edit_fault_then old mid new (Some r) f same (inl is) = inl is
   edit_fault_then old mid new (Some r) f same (inr none) =

@@ -3,6 +3,7 @@ use Rattle.std.proofs.Common.{◌≡◌, ◌⊎◌, inl, inr, ℕ, Bool, true, f
 use Rattle.std.specs.List.{Any, list_any}
 use Rattle.std.proofs.lemmas.Bool.{or_right, eqb-true}
 use Rattle.std.proofs.lemmas.Option.{same_Some}
+use Rattle.esc_bundle.specs.declared.refusal.Refusal.{Refusal}
 use Rattle.esc_tables.specs.DepositValue.{DepositValue}
 use Rattle.esc_store.specs.StoreState.{SaysHeld}
 use Rattle.esc_store.specs.ListLaws.{any_split, any_later}
@@ -32,7 +33,7 @@ says_from_holds row number digest early (Holding r d) again is = (refl, ap Some 
 
 -- ---- all receipts
 
-module _ (digest : List ℕ → List ℕ) (reads : List ℕ → Result DepositValue ℕ) (row : ℕ) where
+module _ (digest : List ℕ → List ℕ) (reads : List ℕ → Result DepositValue Refusal) (row : ℕ) where
   -- a receipt of these arrivals, after those before, says that the row is held
   abbrev OneSays : List Coming → List Coming → Type 0
   OneSays before ds = Any (SaysHeld row) (receipts_after digest reads before ds)

@@ -5,6 +5,7 @@ use Rattle.std.specs.FinSet as set
 use Rattle.std.specs.Ordering.{nat_cmp, eq_by_cmp}
 use Rattle.std.specs.Cmp.{nat_cmp_total}
 use Rattle.std.proofs.lemmas.Bool.{eqb-true}
+use Rattle.esc_bundle.specs.declared.refusal.Refusal.{Refusal}
 use Rattle.esc_tables.specs.DepositValue.{DepositValue}
 use Rattle.esc_manifest.specs.declared.row.MRow.{MRow}
 use Rattle.esc_events.specs.declared.assessment.Assessment.TheVariants.{Unlisted, Differing, Holding}
@@ -19,11 +20,11 @@ is_row_of r None is = absurd (true≢false (sym is))
 is_row_of r (Some q) is = ap Some (eqb-true q r is)
 
 -- a row lists the body exactly if that is found
-pub listed_row : (m : List MRow) (row : Option ℕ) (told : Result DepositValue ℕ) → (found_at m row told ≡ Unlisted → ⊥) → is_some row ≡ true
+pub listed_row : (m : List MRow) (row : Option ℕ) (told : Result DepositValue Refusal) → (found_at m row told ≡ Unlisted → ⊥) → is_some row ≡ true
 listed_row m None told listed = absurd (listed refl)
 listed_row m (Some q) told listed = refl
 
-pub unlisted_row : (m : List MRow) (row : Option ℕ) (told : Result DepositValue ℕ) → found_at m row told ≡ Unlisted → row ≡ None
+pub unlisted_row : (m : List MRow) (row : Option ℕ) (told : Result DepositValue Refusal) → found_at m row told ≡ Unlisted → row ≡ None
 unlisted_row m None told is = refl
 unlisted_row m (Some q) (Err n) is = absurd (cc)
 unlisted_row m (Some q) (Ok d) is = by_test _ is
@@ -32,7 +33,7 @@ unlisted_row m (Some q) (Ok d) is = by_test _ is
     by_test true is = absurd (cc)
     by_test false is = absurd (cc)
 
-module _ (digest : List ℕ → List ℕ) (reads : List ℕ → Result DepositValue ℕ) (m : List MRow) where
+module _ (digest : List ℕ → List ℕ) (reads : List ℕ → Result DepositValue Refusal) (m : List MRow) where
   pub any_row : (l : List Coming) (r : ℕ) → list_any (λ q. eq_by_cmp nat_cmp r q) (rows_of_arrivals digest reads m l) ≡ list_any (holds_by digest reads m r) l
   any_row [] r = refl
   any_row (a ∷ l) r = one (held_row (assessment digest reads m a.body)) ∙ ap (λ b. is_row r (held_row (assessment digest reads m a.body)) || b) (any_row l r)

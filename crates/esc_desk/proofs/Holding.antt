@@ -3,6 +3,7 @@ use Rattle.std.proofs.Common.{◌≡◌, ◌⊎◌, inl, inr, ℕ, ℤ, Bool, tr
 use Rattle.std.proofs.lemmas.Option.{none-some, same_Some}
 use Rattle.std.proofs.lemmas.Bool.{eqb-true}
 use Rattle.sha2.specs.Sha256.{sha256}
+use Rattle.esc_bundle.specs.declared.refusal.Refusal.{Refusal}
 use Rattle.esc_tables.specs.Reading.{reading}
 use Rattle.esc_manifest.specs.declared.row.MRow.{MRow}
 use Rattle.esc_store.specs.StoreState.{StoreState, AreHeld, AreHeldBy, body_put, kept_chain, with_body}
@@ -27,7 +28,7 @@ use Rattle.esc_desk.proofs.Moving.{IsMove}
 
 -- a row lists the body, and it isn't that row's deposit
 abbrev pub IsRefused : Assessment → Type 0
-IsRefused found = ((r : ℕ) × (n : ℕ) × (found ≡ Unreadable r n)) ⊎ ((r : ℕ) × (found ≡ Differing r))
+IsRefused found = ((r : ℕ) × (n : Refusal) × (found ≡ Unreadable r n)) ⊎ ((r : ℕ) × (found ≡ Differing r))
 
 pub refused_listed : (found : Assessment) → IsRefused found → found ≡ Unlisted → ⊥
 refused_listed found (inl (r, n, is)) same = let never : ⊥ = cc in never

@@ -3,6 +3,7 @@ use Rattle.std.proofs.Common.{◌≡◌, inl, inr, ℕ, suc, Bool, true, false, 
 use Rattle.std.proofs.lemmas.List.Elements.{filter-append}
 use Rattle.std.proofs.lemmas.Bool.{and_parts, not-true, not_from_false}
 use Rattle.std.proofs.lemmas.Option.{same_Some, none-some}
+use Rattle.esc_bundle.specs.declared.refusal.Refusal.{Refusal}
 use Rattle.esc_tables.specs.DepositValue.{DepositValue}
 use Rattle.esc_manifest.specs.declared.row.MRow.{MRow}
 use Rattle.esc_store.specs.declared.reply.Verdict.TheVariants.{A2}
@@ -22,7 +23,7 @@ no_row_is : (o : Option ℕ) → is_none o ≡ true → o ≡ None
 no_row_is None is = refl
 no_row_is (Some q) is = absurd (true≢false (sym is))
 
-module _ (digest : List ℕ → List ℕ) (reads : List ℕ → Result DepositValue ℕ) where
+module _ (digest : List ℕ → List ℕ) (reads : List ℕ → Result DepositValue Refusal) where
   -- the body of an arrival is kept
   abbrev pub is_kept : Coming → Bool
   is_kept c = not (is_lost digest reads c)

@@ -3,6 +3,7 @@ use Rattle.std.proofs.Common.{◌≡◌, inl, inr, ℕ, Bool, true, false, cond,
 use Rattle.std.specs.List.{list_any, find}
 use Rattle.std.proofs.lemmas.Bool.{or_right}
 use Rattle.std.proofs.lemmas.Option.{same_Some}
+use Rattle.esc_bundle.specs.declared.refusal.Refusal.{Refusal}
 use Rattle.esc_tables.specs.DepositValue.{DepositValue}
 use Rattle.esc_events.specs.Events.{Coming}
 use Rattle.esc_events.specs.Receipts.{alike, distinct}
@@ -71,7 +72,7 @@ among_passed p (b ∷ l) a (inr there) passes = by_test (p b) (among_passed p l 
     by_test true rest = inr rest
     by_test false rest = rest
 
-pub distinct_among : (digest : List ℕ → List ℕ) (reads : List ℕ → Result DepositValue ℕ) (l : List Coming) (a : Coming) → Among (distinct digest reads l) a → Among l a
+pub distinct_among : (digest : List ℕ → List ℕ) (reads : List ℕ → Result DepositValue Refusal) (l : List Coming) (a : Coming) → Among (distinct digest reads l) a → Among l a
 distinct_among digest reads [] a among = among
 distinct_among digest reads (b ∷ l) a (inl is) = inl is
 distinct_among digest reads (b ∷ l) a (inr there) = inr (distinct_among digest reads l a (passed_among (λ x. not (alike digest reads b x)) (distinct digest reads l) a there))

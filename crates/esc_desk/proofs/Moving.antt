@@ -9,6 +9,7 @@ use Rattle.std.specs.Cmp.{nat_cmp_total}
 use Rattle.std.proofs.lemmas.List.{take-append-drop, map-append, length-map, length-drop, drop_all}
 use Rattle.std.proofs.lemmas.List.Sums.{sum_by-append, sum_by-cons}
 use Rattle.sha2.specs.Sha256.{sha256}
+use Rattle.esc_bundle.specs.declared.refusal.Refusal.{Refusal}
 use Rattle.esc_tables.specs.KeyName.{key_cmp}
 use Rattle.esc_tables.specs.DepositValue.{DepositValue}
 use Rattle.esc_tables.specs.Reading.{reading}
@@ -35,7 +36,7 @@ use Rattle.esc_desk.proofs.Lost.{counted_before}
 use Rattle.esc_desk.proofs.MovingLemmas.{each_of, same_maps, same_deposits, first_step, accepted_first, contains_held, have_bodies, true_of, held_within, front_of_same, no_move}
 
 module _ (few : MentionsFew) where
-  few_of : (body : List ℕ) (told : Result DepositValue ℕ) → reading body ≡ told → mention_count (or_no_deposit told) ≤ 100_000
+  few_of : (body : List ℕ) (told : Result DepositValue Refusal) → reading body ≡ told → mention_count (or_no_deposit told) ≤ 100_000
   few_of body (Ok d) is = few body d is
   few_of body (Err n) is = omega (arith, set.len-empty key_cmp)
 

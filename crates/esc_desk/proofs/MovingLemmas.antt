@@ -11,6 +11,7 @@ use Rattle.std.proofs.lemmas.Bool.Decides.{nat_tests, Decides-int_eq}
 use Rattle.std.proofs.lemmas.List.{drop_all, get_or_append_left}
 use Rattle.std.proofs.lemmas.List.Folds.{length-prefix_len}
 use Rattle.std.proofs.lemmas.Map.Views.{list_any-from_Contains, Contains-from_any}
+use Rattle.esc_bundle.specs.declared.refusal.Refusal.{Refusal}
 use Rattle.esc_envelope.specs.Id.{is_id}
 use Rattle.esc_envelope.specs.Place.{rank}
 use Rattle.esc_envelope.specs.Watermark.{IsInYears}
@@ -80,7 +81,7 @@ module _ (m more : List MRow) where
 
 -- ---- the rows that are held
 
-module _ (digest : List ℕ → List ℕ) (reads : List ℕ → Result DepositValue ℕ) where
+module _ (digest : List ℕ → List ℕ) (reads : List ℕ → Result DepositValue Refusal) where
   -- a row is held exactly if there is a body of it
   pub contains_held : (e : List EventValue) (r : ℕ) → set.contains (held_rows digest reads e) r ≡ is_some (held_body digest reads e r)
   contains_held e r = rows.contains_held digest reads (union e) (kept_arrivals digest reads e) r ∙ any_found (holds_by digest reads (union e) r) (kept_arrivals digest reads e)
@@ -100,7 +101,7 @@ have_bodies bodies rows held r = set.contains-from_list nat_cmp_total rows r ∙
     back some = list_any-from_Contains (eq_by_cmp_equiv nat_cmp_total) r rows ((held.each r).1 (subst IsTrue (sym some) refl))
 
 -- a row that a body holds is the manifest's
-pub held_within : (digest : List ℕ → List ℕ) (reads : List ℕ → Result DepositValue ℕ) (m : List MRow) (r : ℕ) (c : Coming) → holds_by digest reads m r c ≡ true → r < length m
+pub held_within : (digest : List ℕ → List ℕ) (reads : List ℕ → Result DepositValue Refusal) (m : List MRow) (r : ℕ) (c : Coming) → holds_by digest reads m r c ≡ true → r < length m
 held_within digest reads m r c is = (row_held digest reads m r c is).0
 
 -- ---- a chain that stays is no work

@@ -6,10 +6,11 @@ use Rattle.sqlite_trees.specs.declared.store.Store.{Ghosts}
 use Rattle.sqlite_trees.specs.Tree.{Trees}
 use Rattle.sqlite.specs.Held.{Held}
 use Rattle.esc_tables.specs.Reading.{reading}
+use Rattle.esc_manifest.specs.declared.refusal.ManifestRefusal.{ManifestRefusal}
 use Rattle.esc_manifest.specs.declared.row.MRow.{MRow}
 use Rattle.esc_manifest.specs.Extension.{new_rows, extended}
 use Rattle.esc_manifest.specs.Manifest.{manifest_of}
-use Rattle.esc_store.specs.declared.fault.SFault.{SFault}
+use Rattle.esc_store.specs.declared.fault.StoreFault.{StoreFault}
 use Rattle.esc_store.specs.declared.store.Store.{Store}
 use Rattle.esc_store.specs.StoreState.{StoreState}
 use Rattle.esc_store.specs.Representation.{Represents}
@@ -74,7 +75,7 @@ module _ (e : List EventValue) (more : List MRow) (none : length (new_rows (unio
 
 -- the event of a text that reads as these rows
 pub amendment_is : (text : List ℕ) (rows : List MRow) → manifest_of text ≡ Ok rows → amendment_of text ≡ listed rows
-amendment_is text rows read = ap (λ (r : Result (List MRow) (ℕ × ℕ)). listed (rows_read r)) read
+amendment_is text rows read = ap (λ (r : Result (List MRow) (ManifestRefusal × ℕ)). listed (rows_read r)) read
 
 -- ---- what a crash leaves
 
@@ -90,7 +91,7 @@ module _ {S : Type 0} (g : Ghosts S) where
   leaves_alike conn e f doubtful same left clean trees may = one_alike trees doubtful same (left clean trees may)
 
   -- it was refused before anything was begun
-  pub leaves_before : (conn : Held S) (e doubtful : List EventValue) (x : EventValue) (f : SFault)
+  pub leaves_before : (conn : Held S) (e doubtful : List EventValue) (x : EventValue) (f : StoreFault)
       → CrashLeaves g conn e doubtful → CrashLeaves g conn e (doubtful_with f x doubtful)
   unfolding CrashLeaves
   leaves_before conn e doubtful x f left clean trees may = one_with trees e doubtful x f (left clean trees may)

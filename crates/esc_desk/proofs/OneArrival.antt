@@ -3,6 +3,7 @@ use Rattle.std.proofs.Common.{◌≡◌, ◌⊎◌, inl, inr, ℕ, ◌+◌, Bool
 use Rattle.std.proofs.Common.{Option, Some, None, IsSome, is_some, Result, refl, sym, ap, ap₂, subst, ◌∙◌, true≢false}
 use Rattle.std.specs.List.{list_any, find, Any}
 use Rattle.std.specs.Cmp.Lexicographic.{bytes_decides}
+use Rattle.esc_bundle.specs.declared.refusal.Refusal.{Refusal}
 use Rattle.esc_manifest.specs.declared.row.MRow.{MRow}
 use Rattle.esc_tables.specs.DepositValue.{DepositValue}
 use Rattle.esc_store.specs.StoreState.{StoreState, SaysHeld, TellsUnlisted}
@@ -19,7 +20,7 @@ use Rattle.esc_desk.proofs.Distinct.{alike_laws, any_alike, distinct-push, recei
 use Rattle.esc_desk.proofs.Lost.{kept_arrivals-arrived}
 use Rattle.esc_desk.proofs.Members.{among-front, among-last, any_found, no_first}
 
-module _ (digest : List ℕ → List ℕ) (reads : List ℕ → Result DepositValue ℕ) where
+module _ (digest : List ℕ → List ℕ) (reads : List ℕ → Result DepositValue Refusal) where
   -- whether an arrival of the list is a duplicate of this one, by the receipts
   pub any_kept : (l : List Coming) (c : Coming)
       → list_any (alike digest reads c) l ≡ list_any (is_alike c.number (digest c.body)) (receipts_after digest reads [] (distinct digest reads l))

@@ -4,6 +4,7 @@ use Rattle.std.proofs.lemmas.Option.{slice_get-map}
 use Rattle.std.proofs.lemmas.List.{length-map}
 use Rattle.sha2.specs.Sha256.{sha256}
 use Rattle.sqlite_trees.specs.declared.store.Store.{Ghosts}
+use Rattle.esc_bundle.specs.declared.refusal.Refusal.{Refusal}
 use Rattle.esc_tables.specs.KeyName.{KeyName}
 use Rattle.esc_tables.specs.ObjectValue.{ObjectValue}
 use Rattle.esc_tables.specs.DepositValue.{DepositValue}
@@ -16,7 +17,8 @@ use Rattle.esc_store.specs.StoreState.{StoreState, kept_chain, step_at, AreHeld,
 use Rattle.esc_store.specs.ReplyValue.{ReceiptValue}
 use Rattle.esc_store.specs.declared.store.Store.{Store}
 use Rattle.esc_store.specs.Representation.{IsAsBefore}
-use Rattle.esc_store.specs.StandingLaws.{as_before_then}
+use Rattle.esc_store.specs.ResultLaws.{on_any}
+use Rattle.esc_store.specs.StandingLaws.{survives_same}
 use Rattle.esc_events.specs.Events.{EventValue, union}
 use Rattle.esc_events.specs.Assessment.{found_at, row_with_digest, held_row}
 use Rattle.esc_events.specs.Receipts.{is_row}
@@ -28,18 +30,37 @@ use Rattle.esc_desk.specs.declared.desk.Desk.{Desk}
 use Rattle.esc_desk.specs.declared.status.End.{End}
 use Rattle.esc_desk.specs.declared.status.Status.{Status}
 use Rattle.esc_desk.specs.Calls.{IsUnchangedDesk}
+use Rattle.esc_desk.specs.Reading.{IsReadOf}
+use Rattle.esc_desk.specs.Reflection.{StoreReflects}
 use Rattle.esc_desk.proofs.StoreFacts.{still_stays}
 use Rattle.esc_store.specs.declared.parked.ParkedBody.{ParkedBody}
 use Rattle.esc_store.specs.Parks.{AreParkedBodies}
-use Rattle.esc_desk.specs.Reads.{last, AreHeldOf, AreParkedOf, SaysEnd, IsEndAt, IsEnd, IsStatus}
+use Rattle.esc_desk.specs.Reads.{last, AreHeldOf, AreParkedOf, AreStepsOf, IsBodyOf, SaysEnd, IsEndAt, IsEnd, IsStatus}
 
 -- a desk whose store was read, and that remembers what it did
 pub read_stays : {S : Type 0} (g : Ghosts S) (old : Desk S) (store : Store S) → IsAsBefore g old.store store
     → IsUnchangedDesk g old (record { store = store; cache = old.cache; reread = old.reread })
 read_stays g old store same = still_stays g old (record { store = store; cache = old.cache; reread = old.reread }) same refl
 
--- the same after two reads
-pub ruleset read_then_stays = (read_stays, as_before_then)
+module _ {S X E : Type 0} (g : Ghosts S) (old : Desk S) where
+  -- the same of a read, whose result this is
+  pub desk_read : (store : Store S) (result : Result X E) → IsAsBefore g old.store store
+      → IsReadOf (λ a b. IsUnchangedDesk g a b) (λ desk e. StoreReflects g desk.store e) old (record { store = store; cache = old.cache; reread = old.reread }) result
+  desk_read store result same = record {
+    follows = read_stays g old store same;
+    reflects = on_any result (λ e serves. record {
+      kept = serves.kept;
+      stands = same.stands serves.kept serves.stands;
+      stands_for = serves.stands_for;
+    });
+  }
+
+  -- nothing was read
+  pub desk_unread : (result : Result X E) → IsReadOf (λ a b. IsUnchangedDesk g a b) (λ desk e. StoreReflects g desk.store e) old old result
+  desk_unread result = record {
+    follows = record { same = record { manifest = refl; writes = refl; survives = survives_same; stands = λ k h. h }; serves = λ e h. h };
+    reflects = on_any result (λ e serves. serves);
+  }
 
 -- the last element of an image
 pub last_mapped : {X Y : Type 0} (f : X → Y) (xs : List X) → last (map f xs) ≡ option_map f (last xs)
@@ -54,7 +75,7 @@ last_of_steps m rows = ap (option_map (λ (s : Step). s.row)) (last_mapped (step
     back (Some r) = refl
 
 -- a body that holds a row reads
-read_at : (m : List MRow) (r : ℕ) (row : Option ℕ) (told : Result DepositValue ℕ)
+read_at : (m : List MRow) (r : ℕ) (row : Option ℕ) (told : Result DepositValue Refusal)
     → is_row r (held_row (found_at m row told)) ≡ true → (d : DepositValue) × (told ≡ Ok d)
 read_at m r None told is = absurd (true≢false (sym is))
 read_at m r (Some q) (Err n) is = absurd (true≢false (sym is))
@@ -82,6 +103,12 @@ module _ (e : List EventValue) (k : StoreState) (stood : IsStateAfter sha256 rea
   -- the steps of a store are those of its chain
   pub same_chain : (steps : List Step) → steps ≡ kept_chain k → steps ≡ map (step_at (union e)) k.steps
   same_chain steps are = are ∙ ap (λ (x : List MRow). map (step_at x) k.steps) stood.books.listed
+
+  pub same_steps : (steps : List Step) → steps ≡ kept_chain k → AreStepsOf e steps
+  same_steps steps are apart = record { chain = k.steps; latest = chain_of e k stood apart; are = same_chain steps are }
+
+  pub same_body : (row : ℕ) (body : Option (List ℕ)) → body ≡ k.bodies row → IsBodyOf e row body
+  same_body row body is apart = is ∙ stood.books.bodies apart row
 
   -- the numbers of what a store keeps, by its held rows and the steps of its chain
   pub same_status : (status : Status) (rows : List ℕ) (steps : List Step) → AreHeld k.bodies rows → steps ≡ kept_chain k

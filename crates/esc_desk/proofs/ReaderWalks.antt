@@ -1,5 +1,5 @@
 -- What a walk by a reader is still to give, from call to call.
-use Rattle.std.proofs.Common.{◌≡◌, inl, inr, Bool, true, false, cond, List, [], ◌∷◌, map, Option, Some, None, Result, refl, sym, ap, subst, ◌∙◌}
+use Rattle.std.proofs.Common.{◌≡◌, inl, inr, Bool, true, false, cond, List, [], ◌∷◌, map, Option, Some, None, refl, sym, ap, subst, ◌∙◌}
 use Rattle.std.specs.Cmp.{both_ways}
 use Rattle.std.specs.List.{AllByRecursion, list_any}
 use Rattle.std.specs.Map.{lookup, keys_of}
@@ -27,9 +27,9 @@ use Rattle.esc_store.specs.TableKeys.{AreKeysOf, key_at, wanted_of}
 use Rattle.esc_events.specs.Events.{EventValue, union}
 use Rattle.esc_events.specs.LatestTables.{AreEntries}
 use Rattle.esc_events.specs.StateAfter.{IsApart}
-use Rattle.esc_desk.specs.declared.reader.DeskReader.{DeskReader}
-use Rattle.esc_desk.specs.Readers.{IsUnchangedReader, ReaderReflects}
-use Rattle.esc_desk.specs.ReaderWalks.{AreOfKeysLeft, IsUnwrittenReader}
+use Rattle.esc_store.specs.declared.reader.StoreReader.{StoreReader}
+use Rattle.esc_desk.specs.Readers.{ReaderReflects}
+use Rattle.esc_desk.specs.ReaderWalks.{AreOfKeysLeft}
 use Rattle.esc_desk.specs.Walking.{of_kinds}
 use Rattle.esc_desk.proofs.EntryLists.{rises, AreAbove, Rises, first_found, none_above}
 use Rattle.esc_desk.proofs.WalkSteps.{entries_kept}
@@ -68,8 +68,8 @@ wanted_is false o x is = absurd cc
 
 module _ {S : Type 0} (g : Ghosts S) where
   -- before the first object
-  pub begins : (old new : DeskReader S) (keys : List TableKey) (kind : Option Kind) (e : List EventValue) (es : List Entry)
-      → OneLatestChainAt → IsAccepted (union e) → IsApart sha256 reading e → (serves : ReaderReflects g old e) → ReaderRepresents g new.store serves.kept
+  pub begins : (old new : StoreReader S) (keys : List TableKey) (kind : Option Kind) (e : List EventValue) (es : List Entry)
+      → OneLatestChainAt → IsAccepted (union e) → IsApart sha256 reading e → (serves : ReaderReflects g old e) → ReaderRepresents g new serves.kept
       → AreKeysOf (wanted_of kind serves.kept.registry.content) (map key_at keys) → AreEntries e es → InOrder es
       → AreOfKeysLeft g new keys (of_kinds kind es)
   begins old new keys kind e es law accepted apart serves stands are entries order =
@@ -88,8 +88,8 @@ module _ {S : Type 0} (g : Ghosts S) where
       }
 
   -- an object was given
-  pub given : (old new : DeskReader S) (keys later : List TableKey) (key : TableKey) (name : KeyName) (object : ObjectValue) (es : List Entry) → AreOfKeysLeft g old keys es → keys ≡ key ∷ later → name ≡ key_at key
-      → ((k : StoreState) → ReaderRepresents g old.store k → k.registry.content (key_at key) ≡ Some object) → ((k : StoreState) → ReaderRepresents g old.store k → ReaderRepresents g new.store k)
+  pub given : (old new : StoreReader S) (keys later : List TableKey) (key : TableKey) (name : KeyName) (object : ObjectValue) (es : List Entry) → AreOfKeysLeft g old keys es → keys ≡ key ∷ later → name ≡ key_at key
+      → ((k : StoreState) → ReaderRepresents g old k → k.registry.content (key_at key) ≡ Some object) → ((k : StoreState) → ReaderRepresents g old k → ReaderRepresents g new k)
       → (rest : List Entry) × (es ≡ (name, object) ∷ rest) × AreOfKeysLeft g new later rest
   given old new keys later key name object [] come is named says stays = let never : [] ≡ key_at key ∷ map key_at later = come.same_keys ∙ ap (map key_at) is in absurd cc
   given old new keys later key name object (e ∷ es) come is named says stays =
@@ -109,7 +109,3 @@ module _ {S : Type 0} (g : Ghosts S) where
           each = come.each.1;
         },
       )
-
--- what a read left unwritten
-pub unwritten_by : {S X E : Type 0} {g : Ghosts S} {old new : DeskReader S} {result : Result X E} → IsUnchangedReader g old new result → IsUnwrittenReader g old new
-unwritten_by stays = record { manifest = stays.same.manifest; unwritten = stays.same.unwritten }

@@ -20,7 +20,7 @@ use Rattle.esc_events.specs.Events.{EventValue, Coming, union, coming, early_com
 use Rattle.esc_events.specs.Events.EventValue.{listed, arrived, moved, arrived_early}
 use Rattle.esc_events.specs.Receipts.{alike, distinct, receipt_for, receipts_after, receipts_of, reply_to}
 use Rattle.esc_events.specs.Works.{IsWorkOf}
-use Rattle.esc_manifest.specs.declared.fault.MFault.TheVariants.{Refused as RefusedRow, NoMemory}
+use Rattle.esc_manifest.specs.declared.fault.ManifestFault.TheVariants.{Refused as RefusedRow, NoMemory}
 use Rattle.esc_desk.specs.declared.amendment.AmendFault.{AmendFault}
 use Rattle.esc_desk.specs.declared.amendment.AmendFault.TheVariants.{M, Store as OfStore}
 use Rattle.esc_desk.specs.Amendments.{IsAmendCause, IsAmendFault}

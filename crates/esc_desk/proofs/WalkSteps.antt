@@ -20,8 +20,7 @@ use Rattle.esc_store.specs.declared.store.Store.{Store}
 use Rattle.esc_store.specs.StoreState.{StoreState}
 use Rattle.esc_store.specs.Representation.{Represents, IsAsBefore}
 use Rattle.esc_store.specs.Pages.{IsPage, last_text}
-use Rattle.esc_desk.specs.declared.walk.Pages.{Pages}
-use Rattle.esc_desk.specs.declared.walk.Walk.{Walk}
+use Rattle.esc_desk.specs.declared.pages.Pages.{Pages}
 use Rattle.esc_events.specs.Events.{EventValue, union, last_moment}
 use Rattle.esc_events.specs.LatestTables.{AreEntries, tables_of_chain}
 use Rattle.esc_events.specs.StateAfter.{kept_arrivals, IsApart, IsStateAfter, holds_by, held_rows}
@@ -31,9 +30,8 @@ use Rattle.esc_desk.proofs.Moving.{chain_of}
 use Rattle.esc_desk.proofs.MovingLemmas.{held_within}
 use Rattle.esc_desk.specs.Reflection.{StoreReflects}
 use Rattle.esc_desk.specs.Places.{first_kind, IsPlaceBehind}
-use Rattle.esc_desk.specs.Walking.{of_kinds, AreBehind, AreToCome, WalkFollows}
+use Rattle.esc_desk.specs.Walking.{of_kinds, AreBehind, AreToCome}
 use Rattle.esc_desk.proofs.ReadLemmas.{same_content}
-use Rattle.esc_desk.proofs.StoreFacts.{still_serves}
 use Rattle.esc_desk.proofs.EntryLists.{no_first}
 use Rattle.esc_desk.proofs.Walks.{page_turned, from_the_first}
 
@@ -69,28 +67,7 @@ no_entries (e ∷ es) none = absurd (no_first e es None refl (none e.0))
 abbrev pub AtOnePlace : Pages → Pages → Type 0
 AtOnePlace pages later = (later.kind ≡ pages.kind) × (later.from.items ≡ pages.from.items) × (later.alone ≡ pages.alone)
 
--- a walk over the same desk, of which the store was read
-pub follows : {S : Type 0} {g : Ghosts S} (old new : Walk S Pages) → new.desk.ghost_name ≡ old.desk.ghost_name
-    → IsAsBefore g old.desk.now.store new.desk.now.store → new.desk.now.cache ≡ old.desk.now.cache → WalkFollows g old new
-follows {g = g} old new reference same cache = record {
-  same_reference = reference;
-  same = same;
-  cache = cache;
-  serves = still_serves g old.desk.now new.desk.now same cache;
-}
-
 module _ {S : Type 0} {g : Ghosts S} {store : Store S} {pages : Pages} {es : List Entry} (come : AreToCome g store pages es) where
-  -- the same page at hand
-  pub again : (later : Pages) → into_iter_items later.page ≡ into_iter_items pages.page → AtOnePlace pages later → AreToCome g store later es
-  again later items place = record {
-    order = come.order;
-    kept = come.kept;
-    stands = come.stands;
-    behind = come.behind;
-    are_behind = rw (place.0, place.1, place.2) come.are_behind;
-    are_all = come.are_all ∙ ap (λ (xs : List Entry). xs ++ come.behind) (sym items);
-  }
-
   -- an object was given
   pub given : (later : Pages) (e : Entry) → into_iter_items pages.page ≡ e ∷ into_iter_items later.page → AtOnePlace pages later
       → (rest : List Entry) × (es ≡ e ∷ rest) × AreToCome g store later rest

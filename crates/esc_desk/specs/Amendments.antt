@@ -2,13 +2,15 @@
 use Rattle.std.specs.Prelude.{◌≡◌, ◌⊎◌, ◌≤◌, ◌==◌, ℕ, List, [], ◌∷◌, ◌++◌, length, Result, Ok, Err}
 use Rattle.std.specs.Prelude.{MatchResult, if◌then◌else◌}
 use Rattle.sqlite_trees.specs.declared.store.Store.{Ghosts}
-use Rattle.esc_manifest.specs.declared.fault.MFault.TheVariants.{Refused as RefusedRow, NoMemory}
+use Rattle.esc_manifest.specs.declared.refusal.ManifestRefusal.{ManifestRefusal}
+use Rattle.esc_manifest.specs.declared.fault.ManifestFault.TheVariants.{Refused as RefusedRow}
+use Rattle.esc_manifest.specs.declared.fault.ManifestFault.TheVariants.{NoMemory}
 use Rattle.esc_manifest.specs.declared.row.MRow.{MRow}
 use Rattle.esc_manifest.specs.Extension.{new_rows, extended, extension}
 use Rattle.esc_manifest.specs.Manifest.{manifest_of}
 use Rattle.esc_manifest.specs.RowFaults.{most_manifest_rows}
 use Rattle.esc_apply.specs.declared.moves.Work.{Work}
-use Rattle.esc_store.specs.Faults.{IsS1OrS2}
+use Rattle.esc_store.specs.Faults.{IsFailure}
 use Rattle.esc_events.specs.Events.{EventValue, union}
 use Rattle.esc_events.specs.Works.{IsWorkOf, no_work}
 use Rattle.esc_desk.specs.declared.amendment.AmendFault.{AmendFault}
@@ -35,27 +37,24 @@ pub record IsAmended {S : Type 0} (g : Ghosts S) (desk : Desk S) (e : List Event
   pub idle : count ≡ 0 → work ≡ no_work
 
 -- a text is no accepted manifest, or its union with these rows is none, by this refusal at this row
-abbrev pub IsRefusedUnion : List MRow → List ℕ → ℕ → ℕ → Type 0
-IsRefusedUnion m text code row = (manifest_of text ≡ Err (code, row))
+abbrev pub IsRefusedUnion : List MRow → List ℕ → ManifestRefusal → ℕ → Type 0
+IsRefusedUnion m text refusal row = (manifest_of text ≡ Err (refusal, row))
     ⊎ ((rows : List MRow) × (manifest_of text ≡ Ok rows)
-    × (extension m rows ≡ Err (code, row)))
+    × (extension m rows ≡ Err (refusal, row)))
 
--- a refusal is M1 to M13, at a row of a manifest or, as row 0, at none
-abbrev pub IsRefusal : ℕ → ℕ → Type 0
-IsRefusal code row = (1 ≤ code) × (code ≤ 13) × (row ≤ most_manifest_rows)
-
--- why an amendment isn't taken in, where these rows are listed: its text is refused, or it is lost
--- by S1 or S2
+-- why an amendment isn't taken in, where these rows are listed: its text is refused, at a row of a
+-- manifest or, as row 0, at none; or it is lost by S1 or S2
 abbrev pub IsAmendCause : List MRow → List ℕ → AmendFault → Type 0
-IsAmendCause m text (M (RefusedRow code row)) = IsRefusal code row × IsRefusedUnion m text code row
+IsAmendCause m text (M (RefusedRow refusal row)) =
+    (row ≤ most_manifest_rows) × IsRefusedUnion m text refusal row
 IsAmendCause m text (M NoMemory) = ⊥
-IsAmendCause m text (OfStore fault) = IsS1OrS2 fault
+IsAmendCause m text (OfStore fault) = IsFailure fault
 
 -- an amendment's text is refused, or it is lost by S1 or S2
 abbrev pub IsAmendFault : AmendFault → Type 0
-IsAmendFault (M (RefusedRow code row)) = IsRefusal code row
+IsAmendFault (M (RefusedRow refusal row)) = row ≤ most_manifest_rows
 IsAmendFault (M NoMemory) = ⊥
-IsAmendFault (OfStore fault) = IsS1OrS2 fault
+IsAmendFault (OfStore fault) = IsFailure fault
 
 -- what a crash leaves after an amendment that wasn't taken in: after S1 or S2 it may be
 abbrev pub LeavesUnamended : {S : Type 0} → Ghosts S → Desk S → List EventValue → List EventValue

@@ -1,9 +1,10 @@
 -- What a run is asked to take in, as events, and which of it was taken in.
 use Rattle.std.specs.Prelude.{ℕ, ℤ, List, [], ◌∷◌, ◌++◌, Option, Some, None, Bool, true, false}
 use Rattle.std.specs.Prelude.{Result, Ok, Err, map, if◌then◌else◌}
+use Rattle.esc_manifest.specs.declared.refusal.ManifestRefusal.{ManifestRefusal}
 use Rattle.esc_manifest.specs.declared.row.MRow.{MRow}
 use Rattle.esc_manifest.specs.Manifest.{manifest_of}
-use Rattle.esc_store.specs.declared.fault.SFault.{SFault}
+use Rattle.esc_store.specs.declared.fault.StoreFault.{StoreFault}
 use Rattle.esc_events.specs.ArrivalValue.{ArrivalValue}
 use Rattle.esc_events.specs.Events.{EventValue}
 use Rattle.esc_events.specs.Events.EventValue.{listed, arrived, moved}
@@ -16,7 +17,7 @@ use Rattle.esc_desk.specs.declared.event.Outcome.{Outcome}
 use Rattle.esc_desk.specs.declared.event.Outcome.TheVariants.{Done, Lost}
 
 -- the rows that a manifest's text reads as; none if it was refused
-abbrev pub rows_read : Result (List MRow) (ℕ × ℕ) → List MRow
+abbrev pub rows_read : Result (List MRow) (ManifestRefusal × ℕ) → List MRow
 rows_read (Ok rows) = rows
 rows_read (Err fault) = []
 
@@ -34,7 +35,7 @@ event_of (AsOf moment) = moved moment
 pub data Matched : Type 0 where
   of_arrival : ArrivalValue → Outcome → Matched
   of_amendment : List ℕ → Result ℕ AmendFault → Matched
-  of_moment : Option ℤ → Result (Unit {0}) SFault → Matched
+  of_moment : Option ℤ → Result (Unit {0}) StoreFault → Matched
 
 -- an event with its outcome, if that is of its kind
 abbrev pub matched : Event → EventOutcome → Option Matched

@@ -8,8 +8,8 @@ use Rattle.esc_tables.specs.Reading.{reading}
 use Rattle.esc_apply.specs.Registry.{saturated}
 use Rattle.esc_apply.specs.declared.moves.Work.{Work}
 use Rattle.esc_store.specs.declared.books.TheConstants.{MOST_RECEIPTS}
-use Rattle.esc_store.specs.declared.fault.SFault.{SFault}
-use Rattle.esc_store.specs.declared.fault.SFault.TheVariants.{S1, S2, S3, S4, S5}
+use Rattle.esc_store.specs.declared.fault.StoreFault.{StoreFault}
+use Rattle.esc_store.specs.declared.fault.StoreFault.TheVariants.{Failed, NoMemory, NotAStore, NoRoom, NoPlace}
 use Rattle.esc_store.specs.declared.reply.Verdict.TheVariants.{A2}
 use Rattle.esc_store.specs.declared.store.Store.{Store}
 use Rattle.esc_store.specs.ReplyValue.{ReplyValue}
@@ -96,10 +96,6 @@ module _ {S : Type 0} (g : Ghosts S) (old new : Desk S) where
     pub uncounted : OnErr result (writes_of new ≡ writes_of old)
     pub lost : OnErr result StillReflects
 
-  -- the call changed nothing, and the desk remembers what it remembered before
-  abbrev pub IsUnchangedWithCache : Type 0
-  IsUnchangedWithCache = IsUnchangedDesk × (new.cache ≡ old.cache)
-
 -- this holds for every list of events that the desk reflected before the call, and those in doubt
 -- then
 abbrev pub ForEventsInDoubt : {S : Type 0} → Ghosts S → Desk S
@@ -135,12 +131,12 @@ HadRoom e a = reply_to sha256 reading e a ≡ None
 -- why an arrival may be lost: the database failed (S1), memory was refused (S2), there is no room
 -- for its receipt (S4), or there is room for its receipt, but no place to park its body (S5; said
 -- if no two different bodies have the same digest)
-abbrev pub IsCause : List EventValue → ArrivalValue → SFault → Type 0
-IsCause e a S1 = Unit {0}
-IsCause e a S2 = Unit {0}
-IsCause e a S3 = ⊥
-IsCause e a S4 = HasNoRoom e a
-IsCause e a S5 = HadRoom e a × WhereApart e (HasNoPlace e a)
+abbrev pub IsCause : List EventValue → ArrivalValue → StoreFault → Type 0
+IsCause e a (Failed cause) = Unit {0}
+IsCause e a NoMemory = Unit {0}
+IsCause e a NotAStore = ⊥
+IsCause e a NoRoom = HasNoRoom e a
+IsCause e a NoPlace = HadRoom e a × WhereApart e (HasNoPlace e a)
 
 -- there was a place to park its body, if it was to be parked; said if no two different bodies have
 -- the same digest
@@ -161,12 +157,12 @@ pub record Answers {S : Type 0} (g : Ghosts S) (desk : Desk S) (e : List EventVa
 
 -- what a crash leaves after an event that changes a table, by its answer
 abbrev pub DeskLeavesMade : {S X : Type 0} → Ghosts S → Desk S → List EventValue → List EventValue
-    → EventValue → Result X SFault → Type 0
+    → EventValue → Result X StoreFault → Type 0
 DeskLeavesMade g desk e doubtful x result = LeavesMade g desk.store.conn e doubtful x result
 
 -- what a crash leaves after an arrival, by its answer
 abbrev pub DeskLeavesTaken : {S X : Type 0} → Ghosts S → Desk S → List EventValue → List EventValue
-    → ArrivalValue → Result X SFault → Type 0
+    → ArrivalValue → Result X StoreFault → Type 0
 DeskLeavesTaken g desk e doubtful a result = LeavesTaken g desk.store.conn e doubtful a result
 
 -- what a crash leaves after an event of a run, by its outcome

@@ -10,8 +10,8 @@ use Rattle.sqlite_trees.specs.Tree.{Trees}
 use Rattle.sqlite.specs.Held.{Held, state}
 use Rattle.sqlite.specs.State.{HasCleanDisk}
 use Rattle.esc_tables.specs.Reading.{reading}
-use Rattle.esc_store.specs.declared.fault.SFault.{SFault}
-use Rattle.esc_store.specs.declared.fault.SFault.TheVariants.{S1, S2, S3, S4, S5}
+use Rattle.esc_store.specs.declared.fault.StoreFault.{StoreFault}
+use Rattle.esc_store.specs.declared.fault.StoreFault.TheVariants.{Failed, NoMemory, NotAStore, NoRoom, NoPlace}
 use Rattle.esc_store.specs.StoreState.{StoreState}
 use Rattle.esc_store.specs.StoreTables.{IsStore}
 use Rattle.esc_desk.specs.declared.amendment.AmendFault.{AmendFault}
@@ -64,12 +64,12 @@ still_doubtful apart e doubtful a =
     if changed then [] else doubtful
 
 -- the events in doubt after one was refused: it is one of them, unless there was no room (S4, S5)
-abbrev pub doubtful_with : SFault → EventValue → List EventValue → List EventValue
-doubtful_with S1 x doubtful = x ∷ doubtful
-doubtful_with S2 x doubtful = x ∷ doubtful
-doubtful_with S3 x doubtful = x ∷ doubtful
-doubtful_with S4 x doubtful = doubtful
-doubtful_with S5 x doubtful = doubtful
+abbrev pub doubtful_with : StoreFault → EventValue → List EventValue → List EventValue
+doubtful_with (Failed cause) x doubtful = x ∷ doubtful
+doubtful_with NoMemory x doubtful = x ∷ doubtful
+doubtful_with NotAStore x doubtful = x ∷ doubtful
+doubtful_with NoRoom x doubtful = doubtful
+doubtful_with NoPlace x doubtful = doubtful
 
 -- what a crash leaves after an arrival that was answered: the events with it, or with it and one
 -- that is still in doubt
@@ -81,19 +81,19 @@ LeavesAnswered g conn e doubtful a = (apart : Bool) → IsApartIf apart e
 -- what a crash leaves after an event that was refused: the events as they were, or with one in
 -- doubt
 abbrev pub LeavesRefused : {S : Type 0} → Ghosts S → Held S → List EventValue → List EventValue
-    → EventValue → SFault → Type 0
+    → EventValue → StoreFault → Type 0
 LeavesRefused g conn e doubtful x f = CrashLeaves g conn e (doubtful_with f x doubtful)
 
 -- what a crash leaves after an arrival, by its answer
 abbrev pub LeavesTaken : {S X : Type 0} → Ghosts S → Held S → List EventValue → List EventValue
-    → ArrivalValue → Result X SFault → Type 0
+    → ArrivalValue → Result X StoreFault → Type 0
 LeavesTaken g conn e doubtful a result =
     MatchResult result (λ _. LeavesAnswered g conn e doubtful a)
     (λ f. LeavesRefused g conn e doubtful (arrived a) f)
 
 -- what a crash leaves after an event that changes a table, by its answer
 abbrev pub LeavesMade : {S X : Type 0} → Ghosts S → Held S → List EventValue → List EventValue
-    → EventValue → Result X SFault → Type 0
+    → EventValue → Result X StoreFault → Type 0
 LeavesMade g conn e doubtful x result =
     MatchResult result (λ _. CrashLeaves g conn (e ++ x ∷ []) [])
     (λ f. LeavesRefused g conn e doubtful x f)
@@ -106,7 +106,7 @@ doubtful_amended doubtful text (Err (OfStore fault)) =
     doubtful_with fault (amendment_of text) doubtful
 
 -- the events in doubt after a moment, by what came of it
-abbrev pub doubtful_moved : List EventValue → Option ℤ → Result (Unit {0}) SFault
+abbrev pub doubtful_moved : List EventValue → Option ℤ → Result (Unit {0}) StoreFault
     → List EventValue
 doubtful_moved doubtful moment (Ok set) = []
 doubtful_moved doubtful moment (Err fault) = doubtful_with fault (moved moment) doubtful

@@ -7,7 +7,7 @@ use Rattle.esc_tables.specs.DepositValue.{DepositValue}
 use Rattle.esc_tables.specs.Reading.{reading}
 use Rattle.esc_manifest.specs.declared.row.MRow.{MRow}
 use Rattle.esc_apply.specs.declared.moves.Work.{Work}
-use Rattle.esc_store.specs.declared.fault.SFault.{SFault}
+use Rattle.esc_store.specs.declared.fault.StoreFault.{StoreFault}
 use Rattle.esc_store.specs.declared.store.Store.{Store}
 use Rattle.esc_store.specs.StoreState.{StoreState, AreHeld, AreHeldBy, kept_chain, with_body}
 use Rattle.esc_store.specs.StoreState.{with_parked}
@@ -58,7 +58,7 @@ pub record IsDecided (e : List EventValue) (x : EventValue) (k : StoreState) (d 
 
 -- of whatever events a desk reflected before a call that decided something, this holds of what its
 -- store keeps and of the decision
-abbrev pub Decides : {S X : Type 0} → Ghosts S → Desk S → Desk S → Result X SFault
+abbrev pub Decides : {S X : Type 0} → Ghosts S → Desk S → Desk S → Result X StoreFault
     → (List EventValue → StoreState → X → Type 0) → Type 0
 Decides g old new result says = IsHonestDesk g new → (e : List EventValue)
     → (served : DeskReflects g old e) → IfOk result (says e served.serves.kept)

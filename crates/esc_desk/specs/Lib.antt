@@ -13,11 +13,12 @@ pub mod Lengthening
 pub mod Outcomes
 pub mod Places
 pub mod Readers
-pub mod ReaderLaws
 pub mod ReaderWalks
+pub mod Reading
 pub mod Reads
 pub mod Receiving
 pub mod Running
 pub mod Reflection
+pub mod WalkCalls
 pub mod Walking
 pub mod Worked

@@ -3,8 +3,8 @@ use Rattle.std.specs.Prelude.{◌≡◌, ℕ, ◌+◌, List, [], ◌∷◌, ◌+
 use Rattle.std.specs.Prelude.{sum_by}
 use Rattle.esc_apply.specs.declared.moves.Work.{Work}
 use Rattle.esc_apply.specs.Registry.{saturated}
-use Rattle.esc_store.specs.declared.fault.SFault.{SFault}
-use Rattle.esc_store.specs.Faults.{IsS1OrS2, IsS1OrS2OrS4OrS5}
+use Rattle.esc_store.specs.declared.fault.StoreFault.{StoreFault}
+use Rattle.esc_store.specs.Faults.{IsFailure, IsArrivalFault}
 use Rattle.esc_events.specs.Events.{EventValue}
 use Rattle.esc_events.specs.Works.{IsWorkOf}
 use Rattle.esc_desk.specs.declared.amendment.AmendFault.{AmendFault}
@@ -19,15 +19,15 @@ use Rattle.esc_desk.specs.Asked.Matched.{of_arrival, of_amendment, of_moment}
 -- an arrival was answered, or lost by S1, S2, S4 or S5
 abbrev pub IsOutcome : Outcome → Type 0
 IsOutcome (Done r) = Unit {0}
-IsOutcome (Lost f) = IsS1OrS2OrS4OrS5 f
+IsOutcome (Lost f) = IsArrivalFault f
 
 -- an amendment was taken in, or its text was refused, or it was lost by S1 or S2
 abbrev pub IsAmendOutcome : Result ℕ AmendFault → Type 0
 IsAmendOutcome result = IfErr result IsAmendFault
 
 -- a moment was set or taken back, or refused by S1 or S2
-abbrev pub IsMoveOutcome : Result (Unit {0}) SFault → Type 0
-IsMoveOutcome result = IfErr result IsS1OrS2
+abbrev pub IsMoveOutcome : Result (Unit {0}) StoreFault → Type 0
+IsMoveOutcome result = IfErr result IsFailure
 
 -- the outcome is of the event's kind, and a refusal is one that this kind may have
 abbrev pub IsOutcomeOf : Option Matched → Type 0

@@ -44,6 +44,19 @@ module _ (e : List EventValue) where
   abbrev pub AreParkedOf : List ParkedBody → Type 0
   AreParkedOf bodies = WhereApart e (AreParkedBodies (parked_body sha256 reading e) bodies)
 
+  -- these are the steps of a latest chain
+  pub record AreStepsOfChain (steps : List Step) : Type 0 where
+    pub chain : List ℕ
+    pub latest : IsChainOf e chain
+    pub are : steps ≡ map (step_at (union e)) chain
+
+  abbrev pub AreStepsOf : List Step → Type 0
+  AreStepsOf steps = WhereApart e (AreStepsOfChain steps)
+
+  -- this is the body of a row, if it is held
+  abbrev pub IsBodyOf : ℕ → Option (List ℕ) → Type 0
+  IsBodyOf row body = WhereApart e (body ≡ held_body sha256 reading e row)
+
   -- this is what the deposit of a chain's last row says; if there is no row, it is nothing
   abbrev pub IsEndAt : Option ℕ → Option End → Type 0
   IsEndAt None None = Unit {0}

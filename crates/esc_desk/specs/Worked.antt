@@ -2,6 +2,7 @@
 use Rattle.std.specs.Prelude.{ℕ, List, [], ◌∷◌, ◌++◌, Bool, Some, None, Result, Ok, pos, codes}
 use Rattle.std.specs.Prelude.{if◌then◌else◌}
 use Rattle.std.specs.Str.{bytes_eq}
+use Rattle.esc_bundle.specs.declared.refusal.Refusal.{Refusal}
 use Rattle.esc_envelope.specs.declared.kind.Kind.TheVariants.{Domain}
 use Rattle.esc_envelope.specs.declared.place.DepositType.TheVariants.{Full, Diff}
 use Rattle.esc_envelope.specs.HeaderValue.{HeaderValue}
@@ -29,7 +30,7 @@ full_header = record {
 }
 
 -- each body reads as one Full
-abbrev pub reads_full : List ℕ → Result DepositValue ℕ
+abbrev pub reads_full : List ℕ → Result DepositValue Refusal
 reads_full body
     = Ok (record { header = full_header; counts = []; deletes = []; contents = []; orphans = 3 })
 
@@ -110,7 +111,7 @@ one_domain header name = record {
 }
 
 -- the body `d2` reads as the Differential, with the domain b; each other as the Full, with a
-abbrev pub reads_either : List ℕ → Result DepositValue ℕ
+abbrev pub reads_either : List ℕ → Result DepositValue Refusal
 reads_either body = if bytes_eq body (codes "d2") then Ok (one_domain diff_header (codes "b"))
     else Ok (one_domain full_header (codes "a"))
 

@@ -1,14 +1,17 @@
 //! Amendments: manifests that list more rows.
 
-ghost use Rattle.std.specs.Prelude.{◌≡◌, ◌<◌, ◌++◌, ℕ, List, None, false, Err, length, take, IfOk};
-ghost use Rattle.std.specs.Prelude.{IfErr, OnOk};
+ghost use Rattle.std.specs.Prelude.{◌≡◌, ◌<◌, ◌≤◌, ◌++◌, ℕ, List, None, false, Err, length, take};
+ghost use Rattle.std.specs.Prelude.{IfOk, IfErr, OnOk};
 ghost use Rattle.sha2.specs.Sha256.{sha256};
 ghost use Rattle.esc_tables.specs.Reading.{reading};
-ghost use Rattle.esc_manifest.specs.declared.fault.MFault.TheVariants as MFault;
+ghost use Rattle.esc_manifest.specs.declared.fault.ManifestFault.TheVariants as ManifestFault;
+ghost use Rattle.esc_manifest.specs.declared.refusal.ManifestRefusal.{ManifestRefusal};
+ghost use Rattle.esc_manifest.specs.declared.refusal.ManifestRefusal.TheVariants.{OverLimit};
 ghost use Rattle.esc_manifest.specs.declared.row.MRow.{MRow};
 ghost use Rattle.esc_manifest.specs.Extension.{extended};
 ghost use Rattle.esc_manifest.specs.Manifest.{most_bytes};
-ghost use Rattle.esc_store.specs.Faults.{IsS1OrS2};
+ghost use Rattle.esc_manifest.specs.RowFaults.{most_manifest_rows};
+ghost use Rattle.esc_store.specs.Faults.{IsFailure};
 ghost use Rattle.esc_store.specs.StoreState.{StoreState};
 ghost use Rattle.esc_store.specs.Representation.{Represents, IsHonest, IsAsBefore, listed_rows_of};
 ghost use Rattle.esc_events.specs.declared.cache.Cache.{Cache};
@@ -16,7 +19,7 @@ ghost use Rattle.esc_events.specs.Events.{EventValue, union as union_of};
 ghost use Rattle.esc_events.specs.Events.EventValue.{listed};
 ghost use Rattle.esc_events.specs.Cache.{IsCacheOf};
 ghost use Rattle.esc_events.specs.StateAfter.{IsStateAfter};
-ghost use Rattle.esc_desk.specs.Amendments.{IsAmended, IsAmendCause, IsRefusal, IsRefusedUnion};
+ghost use Rattle.esc_desk.specs.Amendments.{IsAmended, IsAmendCause, IsRefusedUnion};
 ghost use Rattle.esc_desk.specs.Amendments.{IsUnionWith, DeskLeavesAmended};
 ghost use Rattle.esc_desk.specs.Calls.{store_of, OkForDeskEvents, ForEventsInDoubt, IsWhole};
 ghost use Rattle.esc_desk.specs.Calls.{DeskLeavesMade};
@@ -33,8 +36,8 @@ use esc_apply::{Work, read_deposits_mention_few};
 use esc_bundle::NoMemory;
 use esc_chain::latest_chain_at_rows_are_held;
 use esc_events::Cache;
-use esc_manifest::{MFault, Manifest, read_manifest};
-use esc_store::{SFault, Store};
+use esc_manifest::{Manifest, ManifestFault, read_manifest};
+use esc_store::{Store, StoreFault};
 use sqlite::Alter;
 use std::alloc::Global;
 use std::fmt;
@@ -43,9 +46,9 @@ use std::fmt;
 #[derive(Clone, Copy, Debug, PartialEq, Eq)]
 pub enum AmendFault {
     /// The text is no accepted manifest, or its union with the listed rows is none: M1 to M13.
-    M(MFault),
+    M(ManifestFault),
     /// The store failed (`S1`), or memory was refused (`S2`).
-    Store(SFault),
+    Store(StoreFault),
 }
 
 impl fmt::Display for AmendFault {
@@ -75,10 +78,11 @@ impl<S: Alter> Desk<S> {
         ensures amended { OkForDeskEvents S.Store self.old self.new result
             (λ e p. IsAmended S.Store self.new e text.now p.0 p.1) }
         ensures cause { IfErr result (IsAmendCause (listed_rows_of (store_of self.old)) text.now) }
-        ensures unchanged { (code row : ℕ)
-            → result ≡ Err (AmendFault.M (MFault.Refused code row)) → self.new ≡ self.old }
+        ensures unchanged { (refusal : ManifestRefusal) (row : ℕ)
+            → result ≡ Err (AmendFault.M (ManifestFault.Refused refusal row))
+            → self.new ≡ self.old }
         ensures over_limit { most_bytes < length text.now
-            → result ≡ Err (AmendFault.M (MFault.Refused 1 0)) }
+            → result ≡ Err (AmendFault.M (ManifestFault.Refused OverLimit 0)) }
         ensures whole { IsWhole S.Store self.old self.new result (λ p. p.1) }
         ensures crash { ForEventsInDoubt S.Store self.old
             (λ e doubtful. DeskLeavesAmended S.Store self.new e doubtful text.now result) }
@@ -87,10 +91,10 @@ impl<S: Alter> Desk<S> {
         let _writes = self.store.writes();
         let union = match self.union_with(alloc, text) {
             Ok(union) => union,
-            Err(MFault::Refused { code, row }) => {
-                return Err(AmendFault::M(MFault::Refused { code, row }));
+            Err(ManifestFault::Refused { refusal, row }) => {
+                return Err(AmendFault::M(ManifestFault::Refused { refusal, row }));
             }
-            Err(MFault::NoMemory) => return Err(AmendFault::Store(SFault::S2)),
+            Err(ManifestFault::NoMemory) => return Err(AmendFault::Store(StoreFault::NoMemory)),
         };
         let added = union.rows().len() - self.store.manifest().rows().len();
         if added == 0 {
@@ -103,11 +107,13 @@ impl<S: Alter> Desk<S> {
     }
 
     // The union of the rows that are listed and those of a text.
-    fn union_with(&self, alloc: Global, text: &[u8]) -> Result<Manifest, MFault>
+    fn union_with(&self, alloc: Global, text: &[u8]) -> Result<Manifest, ManifestFault>
         ensures united { IfOk result (IsUnionWith self.now.store.manifest text.now) }
-        ensures refused { (code row : ℕ) → result ≡ Err (MFault.Refused code row)
-            → IsRefusal code row × IsRefusedUnion self.now.store.manifest text.now code row }
-        ensures over_limit { most_bytes < length text.now → result ≡ Err (MFault.Refused 1 0) }
+        ensures refused { (refusal : ManifestRefusal) (row : ℕ)
+            → result ≡ Err (ManifestFault.Refused refusal row) → (row ≤ most_manifest_rows)
+            × IsRefusedUnion self.now.store.manifest text.now refusal row }
+        ensures over_limit { most_bytes < length text.now
+            → result ≡ Err (ManifestFault.Refused OverLimit 0) }
     {
         let more = read_manifest(alloc, text)?;
         self.store.manifest().extend(alloc, &more)
@@ -116,7 +122,7 @@ impl<S: Alter> Desk<S> {
     // Lists the rows of a union. What is remembered is forgotten first, and is only remembered
     // again once the rows are listed.
     #[tactic(auto, using(esc_store::specs::StandingLaws::was_honest))]
-    fn list_more(&mut self, alloc: Global, union: Manifest) -> Result<Work, SFault>
+    fn list_more(&mut self, alloc: Global, union: Manifest) -> Result<Work, StoreFault>
         requires begins { take (length self.old.store.manifest) union ≡ self.old.store.manifest }
         ensures made { (more : List MRow) → OkForDeskEvents S.Store self.old self.new result
             (λ e work. union ≡ extended (union_of e) more
@@ -125,7 +131,7 @@ impl<S: Alter> Desk<S> {
         ensures crash { (more : List MRow) → ForEventsInDoubt S.Store self.old
             (λ e doubtful. union ≡ extended (union_of e) more
             → DeskLeavesMade S.Store self.new e doubtful (listed more) result) }
-        ensures cause { IfErr result IsS1OrS2 }
+        ensures cause { IfErr result IsFailure }
     {
         let cache = self.take_cache(alloc)?;
         let decision = decide_union(&mut self.store, alloc, union, cache)?;
@@ -141,7 +147,7 @@ fn decide_union<'n, 'b, S: Alter>(
     alloc: Global,
     union: Manifest,
     cache: Cache,
-) -> Result<Decision<'n, 'b>, SFault>
+) -> Result<Decision<'n, 'b>, StoreFault>
     requires begins { take (length store.old.manifest) union ≡ store.old.manifest }
     ensures same { IsAsBefore S.Store store.old store.new }
     ensures sound { IfOk result (IsSound store.new.manifest) }
@@ -151,7 +157,7 @@ fn decide_union<'n, 'b, S: Alter>(
         (more : List MRow) → Represents S.Store store.old k → IsStateAfter sha256 reading e k
         → IsCacheOf k cache → union ≡ extended (union_of e) more
         → IfOk result (IsDecided e (listed more) k) }
-    ensures cause { IfErr result IsS1OrS2 }
+    ensures cause { IfErr result IsFailure }
 {
     latest_chain_at_rows_are_held();
     read_deposits_mention_few();

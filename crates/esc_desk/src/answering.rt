@@ -6,7 +6,7 @@
 
 ghost use Rattle.std.specs.Prelude.{◌≡◌, ℕ, List, Some, None, IfOk, IfErr};
 ghost use Rattle.sha2.specs.Sha256.{sha256};
-ghost use Rattle.esc_store.specs.Faults.{IsS1OrS2OrS4OrS5};
+ghost use Rattle.esc_store.specs.Faults.{IsArrivalFault};
 ghost use Rattle.esc_store.specs.StoreState.{StoreState};
 ghost use Rattle.esc_store.specs.Representation.{IsHonest, IsAsBefore};
 ghost use Rattle.esc_events.specs.ArrivalValue.{an_arrival};
@@ -23,7 +23,7 @@ use crate::intake::decide_arrival;
 use crate::receiving::{Received, receive};
 use crate::reread::Reread;
 use esc_events::Cache;
-use esc_store::{Number, Reply, SFault, Store, Verdict};
+use esc_store::{Number, Reply, Store, StoreFault, Verdict};
 use sqlite::Alter;
 use std::alloc::Global;
 
@@ -57,14 +57,14 @@ pub(crate) fn answer_arrival<'n, 'b, S: Alter>(
     body: &'b [u8],
     cache: Option<Cache>,
     last: &mut Option<Reread>,
-) -> Result<Answer<'n, 'b>, SFault>
+) -> Result<Answer<'n, 'b>, StoreFault>
     requires { digest ≡ sha256 body.now }
     ensures same { IsAsBefore S.Store store.old store.new }
     ensures sound { IfOk result (λ p. IsSound store.new.manifest p.decision) }
     ensures answers { IsHonest S.Store store.new → (e : List EventValue) (k : StoreState)
         → IsAsked S.Store store.old cache number.now digest kept e k
         → IfOk result (IsAnswer e (an_arrival number.now body.now) k) }
-    ensures cause { IfErr result IsS1OrS2OrS4OrS5 }
+    ensures cause { IfErr result IsArrivalFault }
     ensures full { IsHonest S.Store store.new → (e : List EventValue) (k : StoreState)
         → IsAsked S.Store store.old cache number.now digest kept e k
         → IfErr result (IsCause e (an_arrival number.now body.now)) }
@@ -85,14 +85,14 @@ fn answer_new<'n, 'b, S: Alter>(
     body: &'b [u8],
     cache: Option<Cache>,
     last: &mut Option<Reread>,
-) -> Result<Answer<'n, 'b>, SFault>
+) -> Result<Answer<'n, 'b>, StoreFault>
     requires { digest ≡ sha256 body.now }
     ensures same { IsAsBefore S.Store store.old store.new }
     ensures sound { IfOk result (λ p. IsSound store.new.manifest p.decision) }
     ensures answers { IsHonest S.Store store.new → (e : List EventValue) (k : StoreState)
         → IsAsked S.Store store.old cache number.now digest None e k
         → IfOk result (IsAnswer e (an_arrival number.now body.now) k) }
-    ensures cause { IfErr result IsS1OrS2OrS4OrS5 }
+    ensures cause { IfErr result IsArrivalFault }
     ensures full { IsHonest S.Store store.new → (e : List EventValue) (k : StoreState)
         → IsAsked S.Store store.old cache number.now digest None e k
         → IfErr result (IsCause e (an_arrival number.now body.now)) }
@@ -129,7 +129,7 @@ fn answer_again<'n, 'b, S: Alter>(
     body: &'b [u8],
     cache: Option<Cache>,
     last: &mut Option<Reread>,
-) -> Result<Answer<'n, 'b>, SFault>
+) -> Result<Answer<'n, 'b>, StoreFault>
     requires { digest ≡ sha256 body.now }
     ensures same { IsAsBefore S.Store store.old store.new }
     ensures sound { IfOk result (λ p. IsSound store.new.manifest p.decision) }
@@ -137,7 +137,7 @@ fn answer_again<'n, 'b, S: Alter>(
         → (e : List EventValue) (n : List ℕ) (k : StoreState)
         → IsAsked S.Store store.old cache n digest (Some reply) e k
         → IfOk result (IsAnswer e (an_arrival n body.now) k) }
-    ensures cause { IfErr result IsS1OrS2OrS4OrS5 }
+    ensures cause { IfErr result IsArrivalFault }
     ensures full { IsHonest S.Store store.new → (e : List EventValue) (n : List ℕ) (k : StoreState)
         → IsAsked S.Store store.old cache n digest (Some reply) e k
         → IfErr result (IsCause e (an_arrival n body.now)) }

@@ -35,7 +35,7 @@ pub(crate) fn find(
     };
     match deposit_of_body(alloc, last, body) {
         Ok(deposit) => Ok(compare(manifest.rows(), row, deposit)),
-        Err(Fault::Refused(number)) => Ok(Assessment::Unreadable(row, number)),
+        Err(Fault::Refused(refusal)) => Ok(Assessment::Unreadable(row, refusal)),
         Err(Fault::NoMemory) => Err(NoMemory),
     }
 }

@@ -2,7 +2,7 @@
 
 ghost use Rattle.std.specs.Prelude.{◌≡◌, ◌+◌, ◌≤◌, length, IfOk, IfErr, IfSome, OnOk, OnErr};
 ghost use Rattle.esc_apply.specs.Registry.{saturated};
-ghost use Rattle.esc_store.specs.Faults.{IsS1OrS2};
+ghost use Rattle.esc_store.specs.Faults.{IsFailure};
 ghost use Rattle.esc_store.specs.StoreState.{StoreState};
 ghost use Rattle.esc_store.specs.Representation.{Represents, IsHonest, LeavesOnly, StoreLeavesOr};
 ghost use Rattle.esc_store.specs.Representation.{Began, HasMadeBooks, HasMadeTables, IsUncommitted};
@@ -18,7 +18,7 @@ use crate::moves::move_if_planned;
 use esc_apply::Work;
 use esc_events::Plan;
 use esc_manifest::{MRow, copy_rows};
-use esc_store::{Change, MOST_RECEIPTS, Receipt, SFault, Store};
+use esc_store::{Cause, Change, MOST_RECEIPTS, Receipt, Store, StoreFault};
 use sqlite::Alter;
 use std::alloc::Global;
 
@@ -37,7 +37,7 @@ pub(crate) fn commit<S: Alter>(
     store: &mut Store<S>,
     alloc: Global,
     edit: Edit<'_, '_>,
-) -> Result<Committed, SFault>
+) -> Result<Committed, StoreFault>
     requires begins { Begins edit.listing store.old.manifest }
     requires sound { IfSome edit.plan IsSoundPlan }
     requires read { HasItsDeposit edit.body }
@@ -68,7 +68,7 @@ fn fill<S: Alter>(
     change: &mut Change<'_, S>,
     alloc: Global,
     edit: Edit<'_, '_>,
-) -> Result<Committed, SFault>
+) -> Result<Committed, StoreFault>
     requires begins { Begins edit.listing (listed_by change.now) }
     requires sound { IfSome edit.plan IsSoundPlan }
     requires read { HasItsDeposit edit.body }
@@ -101,7 +101,7 @@ fn fill<S: Alter>(
 fn add_receipt<S: Alter>(
     change: &mut Change<'_, S>,
     receipt: &Option<Receipt<'_>>,
-) -> Result<u64, SFault>
+) -> Result<u64, StoreFault>
     ensures part { IsChangePart S.Store change.old change.new result (receipted receipt.now) }
     ensures listed { listed_by change.new ≡ listed_by change.old }
     ensures numbered { IfOk result (λ n. IfSome receipt.now (λ r.
@@ -122,10 +122,10 @@ fn list_rows<S: Alter>(
     change: &mut Change<'_, S>,
     alloc: Global,
     listing: Option<Listing>,
-) -> Result<(), SFault>
+) -> Result<(), StoreFault>
     requires begins { Begins listing (listed_by change.now) }
     ensures part { IsChangePart S.Store change.old change.new result (listed_more listing) }
-    ensures cause { IfErr result IsS1OrS2 }
+    ensures cause { IfErr result IsFailure }
 {
     let Some(Listing { union, judged }) = listing else {
         return Ok(());
@@ -141,14 +141,14 @@ fn adopt_rows<S: Alter>(
     change: &mut Change<'_, S>,
     rows: &[MRow],
     adopted: &[usize],
-) -> Result<(), SFault>
+) -> Result<(), StoreFault>
     ensures part { IsChangePart S.Store change.old change.new result
         (λ k. with_all_adopted rows.now k adopted.now) }
-    ensures cause { IfErr result IsS1OrS2 }
+    ensures cause { IfErr result IsFailure }
 {
     for row in adopted {
         let Some(listed) = rows.get(*row) else {
-            return Err(SFault::S1);
+            return Err(StoreFault::Failed(Cause::Contradiction));
         };
         change.adopt(*row, &listed.digest)?;
     }
@@ -160,14 +160,14 @@ fn drop_rows<S: Alter>(
     change: &mut Change<'_, S>,
     rows: &[MRow],
     dropped: &[usize],
-) -> Result<(), SFault>
+) -> Result<(), StoreFault>
     ensures part { IsChangePart S.Store change.old change.new result
         (λ k. with_all_dropped rows.now k dropped.now) }
-    ensures cause { IfErr result IsS1OrS2 }
+    ensures cause { IfErr result IsFailure }
 {
     for row in dropped {
         let Some(listed) = rows.get(*row) else {
-            return Err(SFault::S1);
+            return Err(StoreFault::Failed(Cause::Contradiction));
         };
         change.unpark(&listed.digest)?;
     }
@@ -175,9 +175,9 @@ fn drop_rows<S: Alter>(
 }
 
 // Stores the body, if there is one.
-fn store_body<S: Alter>(change: &mut Change<'_, S>, body: &Storing<'_>) -> Result<(), SFault>
+fn store_body<S: Alter>(change: &mut Change<'_, S>, body: &Storing<'_>) -> Result<(), StoreFault>
     ensures part { IsChangePart S.Store change.old change.new result (stored body.now) }
-    ensures cause { IfErr result IsS1OrS2 }
+    ensures cause { IfErr result IsFailure }
 {
     match body {
         Storing::Nothing => Ok(()),
@@ -190,9 +190,9 @@ fn store_body<S: Alter>(change: &mut Change<'_, S>, body: &Storing<'_>) -> Resul
 fn set_moment<S: Alter>(
     change: &mut Change<'_, S>,
     moment: Option<Option<i64>>,
-) -> Result<(), SFault>
+) -> Result<(), StoreFault>
     ensures part { IsChangePart S.Store change.old change.new result (timed moment) }
-    ensures cause { IfErr result IsS1OrS2 }
+    ensures cause { IfErr result IsFailure }
 {
     match moment {
         Some(moment) => change.set_moment(moment),
@@ -201,7 +201,7 @@ fn set_moment<S: Alter>(
 }
 
 // Commits a change that has all its parts.
-fn commit_filled<S: Alter>(change: Change<'_, S>) -> Result<(), SFault>
+fn commit_filled<S: Alter>(change: Change<'_, S>) -> Result<(), StoreFault>
     ensures honest { IsHonest S.Store change.exit.0.now
         → IsHonest S.Store change.entry.store.now }
     ensures written { OnOk result (change.exit.0.now.writes
@@ -214,7 +214,7 @@ fn commit_filled<S: Alter>(change: Change<'_, S>) -> Result<(), SFault>
         → Represents S.Store change.exit.0.now before) }
     ensures crash { (before k : StoreState) → IsFilled S.Store change.entry before k
         → StoreLeavesOr S.Store change.entry.store.now change.exit.0.now k }
-    ensures cause { IfErr result IsS1OrS2 }
+    ensures cause { IfErr result IsFailure }
 {
     change.commit()
 }

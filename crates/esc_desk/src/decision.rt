@@ -14,7 +14,7 @@ use crate::desk::{Desk, NO_WORK};
 use crate::edit::{Edit, Storing};
 use esc_apply::Work;
 use esc_events::{Cache, Plan};
-use esc_store::{Receipt, SFault};
+use esc_store::{Receipt, StoreFault};
 use sqlite::Alter;
 use std::alloc::Global;
 
@@ -56,7 +56,7 @@ impl<S: Alter> Desk<S> {
         &mut self,
         alloc: Global,
         decision: Decision<'_, '_>,
-    ) -> Result<(u64, Work), SFault>
+    ) -> Result<(u64, Work), StoreFault>
         requires sound { IsSound self.old.store.manifest decision }
         ensures whole { IsWhole S.Store self.old self.new result (λ p. p.1) }
         ensures made { IsHonest S.Store self.new.store → (e : List EventValue) (x : EventValue)

@@ -3,7 +3,7 @@
 ghost use Rattle.std.specs.Prelude.{◌≡◌, [], List, None, IfOk, IfErr, IfSome};
 ghost use Rattle.sha2.specs.Sha256.{sha256};
 ghost use Rattle.esc_tables.specs.Reading.{reading};
-ghost use Rattle.esc_store.specs.Faults.{IsS1OrS2, IsS1OrS2OrS4OrS5};
+ghost use Rattle.esc_store.specs.Faults.{IsFailure, IsArrivalFault};
 ghost use Rattle.esc_store.specs.StoreState.{StoreState};
 ghost use Rattle.esc_store.specs.Representation.{Represents, IsHonest, IsAsBefore, LeavesOnly};
 ghost use Rattle.esc_events.specs.ArrivalValue.{an_arrival};
@@ -20,7 +20,7 @@ use crate::caching::cache_or;
 use crate::reread::Reread;
 use esc_apply::Work;
 use esc_events::Cache;
-use esc_store::{Number, Reply, SFault, Store};
+use esc_store::{Number, Reply, Store, StoreFault};
 use sha2::{Digest, Sha256};
 use sqlite::Alter;
 use std::alloc::Global;
@@ -87,10 +87,10 @@ impl<S: Alter> Desk<S> {
         alloc: Global,
         number: &Number<'_>,
         body: &[u8],
-    ) -> Result<(Reply, Work), SFault>
+    ) -> Result<(Reply, Work), StoreFault>
         ensures answered { OkForDeskEvents S.Store self.old self.new result
             (λ e p. Answers S.Store self.new e (an_arrival number.now body.now) p.0 p.1) }
-        ensures cause { IfErr result IsS1OrS2OrS4OrS5 }
+        ensures cause { IfErr result IsArrivalFault }
         ensures full { ForDeskEvents S.Store self.old self.new
             (λ e. IfErr result (IsCause e (an_arrival number.now body.now))) }
         ensures whole { IsWhole S.Store self.old self.new result (λ p. p.1) }
@@ -114,13 +114,13 @@ impl<S: Alter> Desk<S> {
 
     /// What is known of the store's rows: what was remembered, which is forgotten, or else what the
     /// store reports.
-    pub(crate) fn take_cache(&mut self, alloc: Global) -> Result<Cache, SFault>
+    pub(crate) fn take_cache(&mut self, alloc: Global) -> Result<Cache, StoreFault>
         ensures same { IsAsBefore S.Store self.old.store self.new.store }
         ensures forgotten { self.new.cache ≡ None }
         ensures cache { IsHonest S.Store self.new.store → (e : List EventValue) (k : StoreState)
             → Represents S.Store self.old.store k → IsStateAfter sha256 reading e k
             → IfSome self.old.cache (IsCacheOf k) → IfOk result (IsCacheOf k) }
-        ensures cause { IfErr result IsS1OrS2 }
+        ensures cause { IfErr result IsFailure }
     {
         let cache = self.cache.take();
         cache_or(&mut self.store, alloc, cache)

@@ -2,7 +2,7 @@
 
 use crate::amendment::AmendFault;
 use crate::arrival::Arrival;
-use esc_store::{Reply, SFault};
+use esc_store::{Reply, StoreFault};
 
 /// What a desk may be asked to take in.
 #[derive(Drop)]
@@ -22,7 +22,7 @@ pub enum Outcome {
     /// It was answered with this reply.
     Done(Reply),
     /// It was refused by `S1`, `S2`, `S4` or `S5`, and nothing has changed.
-    Lost(SFault),
+    Lost(StoreFault),
 }
 
 /// What came of an event. Where it was refused nothing has changed.
@@ -33,5 +33,5 @@ pub enum EventOutcome {
     /// How many rows an amendment added, or why it wasn't taken in.
     Amended(Result<u32, AmendFault>),
     /// That a moment was set or taken back, or why not.
-    Moved(Result<(), SFault>),
+    Moved(Result<(), StoreFault>),
 }

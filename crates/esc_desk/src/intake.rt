@@ -5,7 +5,7 @@ ghost use Rattle.std.specs.Prelude.{◌≡◌, ◌⊎◌, ℕ, List, Ok, None, I
 ghost use Rattle.sha2.specs.Sha256.{sha256};
 ghost use Rattle.esc_tables.specs.DepositValue.{DepositValue};
 ghost use Rattle.esc_tables.specs.Reading.{reading};
-ghost use Rattle.esc_store.specs.Faults.{IsS1OrS2};
+ghost use Rattle.esc_store.specs.Faults.{IsFailure};
 ghost use Rattle.esc_store.specs.StoreState.{StoreState};
 ghost use Rattle.esc_store.specs.Representation.{Represents, IsHonest, IsAsBefore};
 ghost use Rattle.esc_events.specs.declared.assessment.Assessment.TheVariants.{Unlisted, Holding};
@@ -24,7 +24,7 @@ use crate::reread::Reread;
 use esc_apply::read_deposits_mention_few;
 use esc_chain::latest_chain_at_rows_are_held;
 use esc_events::{Assessment, Cache, Parking};
-use esc_store::{MOST_RECEIPTS, Receipt, SFault, Store, insert_row};
+use esc_store::{MOST_RECEIPTS, Receipt, Store, StoreFault, insert_row};
 use esc_tables::Deposit;
 use sqlite::Alter;
 use std::alloc::Global;
@@ -40,7 +40,7 @@ pub(crate) fn decide_arrival<'n, 'b, S: Alter>(
     digest: [u8; 32],
     body: &'b [u8],
     last: &mut Option<Reread>,
-) -> Result<Decision<'n, 'b>, SFault>
+) -> Result<Decision<'n, 'b>, StoreFault>
     requires digest { digest ≡ sha256 body.now }
     requires read { (r : ℕ) (d : DepositValue) → found ≡ Holding r d → reading body.now ≡ Ok d }
     ensures same { IsAsBefore S.Store store.old store.new }
@@ -75,7 +75,7 @@ fn decide_unlisted<'n, 'b, S: Alter>(
     cache: Cache,
     digest: [u8; 32],
     body: &'b [u8],
-) -> Result<Decision<'n, 'b>, SFault>
+) -> Result<Decision<'n, 'b>, StoreFault>
     requires digest { digest ≡ sha256 body.now }
     ensures same { IsAsBefore S.Store store.old store.new }
     ensures sound { IfOk result (IsSound store.new.manifest) }
@@ -99,19 +99,19 @@ fn decide_unlisted<'n, 'b, S: Alter>(
 
 // Why a body can't be parked, since 1,024 others are: where there is no room for the receipt
 // either, it is `S4`.
-fn crowded_fault<S: Alter>(store: &mut Store<S>, receipt: &Option<Receipt<'_>>) -> SFault
+fn crowded_fault<S: Alter>(store: &mut Store<S>, receipt: &Option<Receipt<'_>>) -> StoreFault
     ensures same { IsAsBefore S.Store store.old store.new }
-    ensures cause { ((result ≡ SFault.S5) × (IsHonest S.Store store.new → (k : StoreState)
+    ensures cause { ((result ≡ StoreFault.NoPlace) × (IsHonest S.Store store.new → (k : StoreState)
         → Represents S.Store store.old k → HasRoomFor k receipt.now))
         ⊎ IsEditFault S.Store receipt.now store.old store.new result }
 {
     match receipt {
         Some(_) => match store.receipt_count() {
-            Ok(count) if count < u64::from(MOST_RECEIPTS) => SFault::S5,
-            Ok(_) => SFault::S4,
+            Ok(count) if count < u64::from(MOST_RECEIPTS) => StoreFault::NoPlace,
+            Ok(_) => StoreFault::NoRoom,
             Err(fault) => fault,
         },
-        None => SFault::S5,
+        None => StoreFault::NoPlace,
     }
 }
 
@@ -125,7 +125,7 @@ fn decide_held<'n, 'b, S: Alter>(
     deposit: Deposit,
     body: &'b [u8],
     last: &mut Option<Reread>,
-) -> Result<Decision<'n, 'b>, SFault>
+) -> Result<Decision<'n, 'b>, StoreFault>
     requires read { reading body.now ≡ Ok deposit }
     ensures same { IsAsBefore S.Store store.old store.new }
     ensures sound { IfOk result (IsSound store.new.manifest) }
@@ -135,7 +135,7 @@ fn decide_held<'n, 'b, S: Alter>(
         → Represents S.Store store.old k
         → IsArriving e (an_arrival n body.now) k (Holding row deposit) cache receipt.entry
         → IfOk result (IsDecidedArrival e (an_arrival n body.now) k (Holding row deposit)) }
-    ensures cause { IfErr result IsS1OrS2 }
+    ensures cause { IfErr result IsFailure }
 {
     if cache.held_rows.contains(&row) {
         *last = Reread::of(alloc, body, deposit);
@@ -153,7 +153,7 @@ fn decide_late<'n, 'b, S: Alter>(
     row: usize,
     deposit: Deposit,
     body: &'b [u8],
-) -> Result<Decision<'n, 'b>, SFault>
+) -> Result<Decision<'n, 'b>, StoreFault>
     requires read { reading body.now ≡ Ok deposit }
     ensures same { IsAsBefore S.Store store.old store.new }
     ensures sound { IfOk result (IsSound store.new.manifest) }
@@ -164,7 +164,7 @@ fn decide_late<'n, 'b, S: Alter>(
         → IsArriving e (an_arrival n body.now) k (Holding row deposit) cache receipt.entry
         → k.bodies row ≡ None
         → IfOk result (IsDecidedArrival e (an_arrival n body.now) k (Holding row deposit)) }
-    ensures cause { IfErr result IsS1OrS2 }
+    ensures cause { IfErr result IsFailure }
 {
     latest_chain_at_rows_are_held();
     read_deposits_mention_few();

@@ -1,7 +1,7 @@
 //! Judges the bodies that are parked under the digests of new rows.
 
 ghost use Rattle.std.specs.Prelude.{◌≡◌, ◌<◌, ◌≤◌, ◌++◌, length, IfOk, IfErr, OnOk};
-ghost use Rattle.esc_store.specs.Faults.{IsS1OrS2};
+ghost use Rattle.esc_store.specs.Faults.{IsFailure};
 ghost use Rattle.esc_store.specs.StoreState.{StoreState};
 ghost use Rattle.esc_store.specs.Representation.{Represents, IsHonest, IsAsBefore};
 ghost use Rattle.esc_desk.specs.Judging.{IsJudgement, AreJudged, adopted_by, dropped_by};
@@ -10,7 +10,7 @@ use crate::assessment::compare;
 use esc_bundle::{Fault, NoMemory};
 use esc_events::Assessment;
 use esc_manifest::MRow;
-use esc_store::{SFault, Store};
+use esc_store::{Store, StoreFault};
 use esc_tables::read_deposit;
 use sqlite::Alter;
 use std::alloc::Global;
@@ -56,12 +56,12 @@ pub(crate) fn judge_rows<S: Alter>(
     alloc: Global,
     rows: &[MRow],
     from: usize,
-) -> Result<Judged, SFault>
+) -> Result<Judged, StoreFault>
     requires { from ≤ length rows.now }
     ensures same { IsAsBefore S.Store store.old store.new }
     ensures judged { IsHonest S.Store store.new → (k : StoreState) → Represents S.Store store.old k
         → IfOk result (AreJudged rows.now k.parked from) }
-    ensures cause { IfErr result IsS1OrS2 }
+    ensures cause { IfErr result IsFailure }
 {
     let mut judged = Judged {
         adopted: Vec::new(alloc),
@@ -80,12 +80,12 @@ fn judge<S: Alter>(
     alloc: Global,
     rows: &[MRow],
     row: usize,
-) -> Result<Judgement, SFault>
+) -> Result<Judgement, StoreFault>
     requires { row < length rows.now }
     ensures same { IsAsBefore S.Store store.old store.new }
     ensures judged { IsHonest S.Store store.new → (k : StoreState) → Represents S.Store store.old k
         → IfOk result (IsJudgement rows.now k.parked row) }
-    ensures cause { IfErr result IsS1OrS2 }
+    ensures cause { IfErr result IsFailure }
 {
     let Some(body) = store.parked_body(&rows[row].digest)? else {
         return Ok(Judgement::Absent);
@@ -93,7 +93,7 @@ fn judge<S: Alter>(
     match read_deposit(alloc, &body) {
         Ok(deposit) => Ok(judgement_of(compare(rows, row, deposit))),
         Err(Fault::Refused(_)) => Ok(Judgement::Dropped),
-        Err(Fault::NoMemory) => Err(SFault::S2),
+        Err(Fault::NoMemory) => Err(StoreFault::NoMemory),
     }
 }
 

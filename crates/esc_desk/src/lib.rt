@@ -29,16 +29,14 @@
 //! moment as of which the registry is to be rebuilt. One by one they go to [`Desk::arrive`],
 //! [`Desk::amend`] and [`Desk::as_of`], or, of whatever kind, to [`Desk::take`]. A list of them
 //! goes to [`Desk::run_events`], which takes one after another, and one of arrivals alone to
-//! [`Desk::run`]. What comes out are replies, counts of added rows, the work of each move, and the
-//! reads: [`Desk::status`], [`Desk::receipts`], [`Desk::manifest`], [`Desk::held`],
-//! [`Desk::parked`], [`Desk::moment`], [`Desk::tables`], [`Desk::end`] and [`Desk::writes`].
-//! [`Desk::walk`] gives the objects of the tables one at a time.
+//! [`Desk::run`]. What comes out are replies, counts of added rows, the work of each move, and what
+//! is read: [`Reads::status`], [`Reads::receipts`], [`Reads::manifest`], [`Reads::held`],
+//! [`Reads::parked`], [`Reads::moment`], [`Reads::chain`], [`Reads::body_of`] and [`Reads::end`],
+//! [`Desk::tables`] and [`Desk::writes`]. A [`Walk`] gives the objects of the tables one at a time.
 //!
-//! A report that writes nothing needs no desk. A [`DeskReader`] goes over a store's trees
-//! ([`StoreReader`](esc_store::StoreReader)), without SQL, and gives what a desk over that store
-//! would: [`DeskReader::status`], [`DeskReader::receipts`], [`DeskReader::manifest`],
-//! [`DeskReader::held`], [`DeskReader::parked`], [`DeskReader::moment`] and [`DeskReader::end`].
-//! [`DeskReader::walk`] gives the objects of the tables one at a time.
+//! What writes nothing needs no desk. A reader of a store's trees
+//! ([`StoreReader`](esc_store::StoreReader)), without SQL, implements [`Reads`] as a desk over that
+//! store does, so that a report is written once.
 //!
 //! # Example
 //!
@@ -86,17 +84,17 @@
 //! `OkForDeskEvents` is "if the store is honest after the call, and the call succeeded, then for
 //! every list of events that the desk reflected before it": a desk that reflected a list reflects,
 //! after an arrival that was answered, that list with the arrival. `OkForStoreEvents` is the same
-//! for every list that the desk's store reflected, even where what the desk remembers is wrong;
-//! reads have it. `IsUnchangedDesk` says that a call changed nothing. What one event changes is one
+//! for every list that the desk's store reflected, even where what the desk remembers is wrong. `IsUnchangedDesk` says that a call changed nothing. What one event changes is one
 //! change of the store, whole or not at all (`IsWhole`): after an `Err` the desk reflects the list
 //! as it was. So an arrival that was refused by `S1` (the store failed), `S2` (out of memory), `S4`
 //! (there are 1,000,000,000 receipts) or `S5` (1,024 bodies are parked) is as one that never came,
 //! and runs compose, whatever came before them and however they were cut.
 //!
-//! A reader has words of its own, in `specs/Readers.antt`: `ReaderReflects` says of its store what
-//! `StoreReflects` says of a desk's, and the clauses of its reads are those of the desk's reads,
-//! with `OkForReaderEvents` and `IsUnchangedReader`. After an `Err` nothing is said of what later
-//! reads of that reader return.
+//! What is read has one contract, that of [`Reads`]: what a store reflects (`reflects`), and what a
+//! read leaves as it was (`follows`), are members of the trait, which a desk and a reader give. For
+//! a desk the first is `StoreReflects`, and the second `IsUnchangedDesk`; for a reader they are
+//! `ReaderReflects` and `IsUnwrittenReader` (`specs/Readers.antt`), and after an `Err` nothing is
+//! said of what later reads of it return.
 //!
 //! What was answered is kept through a crash. An event is *in doubt* once it was refused by `S1` or
 //! `S2`, until another changes a table: a crash may leave it taken in. The clauses `left` of
@@ -155,16 +153,17 @@
 //! row of an arrival comes after all of them, builds on the chain's end and isn't later than the
 //! moment: then the chain stays, with that row at its end.
 //!
-//! Each [`Desk::held`] and [`Desk::status`] asks the store which rows are held; so do a desk's
+//! Each `held` and `status` asks the store which rows are held; so do a desk's
 //! first event that may change the store, and the next one after such an event failed. Receipts
 //! with `A1` say so. A row that has a body, and that no such receipt names, lists the digest of a
 //! receipt with `A2` or `A5`: its body is read, once, however many receipts have that digest.
 //!
-//! [`Desk::end`] reads the body of the chain's last step, and parses its envelope alone, no row.
+//! [`Reads::end`] reads the body of the chain's last step, and parses its envelope alone, no row.
 //!
-//! [`Desk::tables`] holds all objects in memory. A [`Walk`] holds a page of 256 at most, and reads
-//! each page by a look-up in the index. While it exists it borrows the desk, so nothing arrives in
-//! between.
+//! [`Desk::tables`] holds all objects in memory. A [`Walk`] by a desk holds a page of 256 at most,
+//! and reads each page by a look-up in the index; one by a reader holds all keys, and reads each
+//! object twice, once for its key. While it exists it borrows the desk or the reader, so nothing
+//! arrives in between.
 #![tactic(auto)]
 
 mod amendment;
@@ -175,6 +174,7 @@ mod caching;
 mod changes;
 mod decision;
 mod desk;
+mod desk_reads;
 mod edit;
 mod event;
 mod intake;
@@ -182,6 +182,7 @@ mod judging;
 mod laws;
 mod moment;
 mod moves;
+mod pages;
 mod parking;
 mod plan;
 mod reader;
@@ -197,14 +198,15 @@ pub use amendment::AmendFault;
 pub use arrival::Arrival;
 pub use desk::Desk;
 pub use esc_events::ParkedBody;
-pub use esc_store::{N1, Number, Reply, SFault, Verdict, number};
+pub use esc_store::{Cause, N1, Number, Reply, StoreFault, Verdict, number};
 pub use event::{Event, EventOutcome, Outcome};
 pub use laws::{
     migrated_store_serves, new_store_stands_for_its_manifest, replies_stay, same_held_same_kept,
     same_rows_same_tables, stands_for_manifest_and_arrivals, tables_are_of_events,
     worked_migration, worked_migration_unlisted, worked_replies,
 };
-pub use reader::DeskReader;
-pub use reader::walk::{KeysLeft, ReaderWalk};
+pub use pages::Pages;
+pub use reader::KeysLeft;
+pub use reads::Reads;
 pub use status::{End, Status};
-pub use walk::{Pages, Walk};
+pub use walk::Walk;

@@ -1,7 +1,7 @@
 //! The moment as of which the registry is rebuilt.
 
 ghost use Rattle.std.specs.Prelude.{◌≡◌, None, false, IfOk, IfErr};
-ghost use Rattle.esc_store.specs.Faults.{IsS1OrS2};
+ghost use Rattle.esc_store.specs.Faults.{IsFailure};
 ghost use Rattle.esc_store.specs.Representation.{IsAsBefore};
 ghost use Rattle.esc_events.specs.Events.EventValue.{moved};
 ghost use Rattle.esc_desk.specs.Calls.{DeskLeavesMade, OkForDeskEvents, ForEventsInDoubt, IsWhole};
@@ -15,7 +15,7 @@ use crate::edit::{Edit, Storing};
 use crate::plan::plan_latest;
 use esc_apply::{Work, read_deposits_mention_few};
 use esc_chain::latest_chain_at_rows_are_held;
-use esc_store::SFault;
+use esc_store::StoreFault;
 use sqlite::Alter;
 use std::alloc::Global;
 
@@ -25,13 +25,13 @@ impl<S: Alter> Desk<S> {
     /// `None` takes the moment back. Returns the work of the move. At `Err` nothing has changed:
     /// `S1`, `S2`. A crash leaves the moment that was set; after `S1` or `S2` it may leave this one
     /// set.
-    pub fn as_of(&mut self, alloc: Global, moment: Option<i64>) -> Result<Work, SFault>
+    pub fn as_of(&mut self, alloc: Global, moment: Option<i64>) -> Result<Work, StoreFault>
         ensures set { OkForDeskEvents S.Store self.old self.new result
             (λ e work. TakesIn S.Store self.new e (moved moment) work) }
         ensures whole { IsWhole S.Store self.old self.new result (λ work. work) }
         ensures crash { ForEventsInDoubt S.Store self.old
             (λ e doubtful. DeskLeavesMade S.Store self.new e doubtful (moved moment) result) }
-        ensures cause { IfErr result IsS1OrS2 }
+        ensures cause { IfErr result IsFailure }
     {
         // Read for the proof alone: it shows that the count is below 2^64.
         let _writes = self.store.writes();
@@ -45,7 +45,7 @@ impl<S: Alter> Desk<S> {
         &mut self,
         alloc: Global,
         moment: Option<i64>,
-    ) -> Result<Decision<'n, 'b>, SFault>
+    ) -> Result<Decision<'n, 'b>, StoreFault>
         ensures same { IsAsBefore S.Store self.old.store self.new.store }
         ensures forgotten { self.new.cache ≡ None }
         ensures sound { IfOk result (IsSound self.new.store.manifest) }
@@ -53,7 +53,7 @@ impl<S: Alter> Desk<S> {
         ensures some { IfOk result (λ d. is_empty d.edit ≡ false) }
         ensures decided { Decides S.Store self.old self.new result
             (λ e k d. IsDecided e (moved moment) k d) }
-        ensures cause { IfErr result IsS1OrS2 }
+        ensures cause { IfErr result IsFailure }
     {
         latest_chain_at_rows_are_held();
         read_deposits_mention_few();

@@ -11,7 +11,7 @@ ghost use Rattle.esc_apply.specs.Images.{chain_state};
 ghost use Rattle.esc_store.specs.StoreState.{StoreState};
 ghost use Rattle.esc_store.specs.Representation.{IsHonest, HasMadeBooks, HasMadeTables};
 ghost use Rattle.esc_store.specs.Representation.{IsUncommitted, ChangeFollows};
-ghost use Rattle.esc_store.specs.Faults.{IsS1OrS2};
+ghost use Rattle.esc_store.specs.Faults.{IsFailure};
 ghost use Rattle.esc_events.specs.Plans.{IsMovedFrom, IsCostOfMove, deposits_past, front_of};
 ghost use Rattle.esc_events.specs.Plans.{moved_by, rows_in_steps};
 ghost use Rattle.esc_events.specs.StateAfter.{deposit_of, deposits_of};
@@ -23,7 +23,7 @@ use crate::edit::AtHand;
 use esc_apply::{Step, Work, apply_next, common_front, take_back, work_of};
 use esc_bundle::Fault;
 use esc_events::Plan;
-use esc_store::{Change, SFault};
+use esc_store::{Cause, Change, StoreFault};
 use esc_tables::{Deposit, read_deposit};
 use sqlite::Alter;
 use std::alloc::Global;
@@ -35,7 +35,7 @@ pub(crate) fn move_if_planned<S: Alter>(
     alloc: Global,
     plan: &Option<Plan>,
     at_hand: AtHand,
-) -> Result<Work, SFault>
+) -> Result<Work, StoreFault>
     requires sound { IfSome plan.now IsSoundPlan }
     ensures goes_on { IsUncommitted S.Store change.old change.new }
     ensures filled { OnOk result ((before k made : StoreState) → IsFromChainOf k plan.now
@@ -50,7 +50,7 @@ pub(crate) fn move_if_planned<S: Alter>(
         → IsCostIf plan.now made.bodies (chain_deposits k) work) }
     ensures counted { IfOk result (λ work. saturated change.new.count
         ≡ saturated (saturated change.old.count + work.writes)) }
-    ensures cause { IfErr result IsS1OrS2 }
+    ensures cause { IfErr result IsFailure }
 {
     match plan {
         Some(plan) => move_by(change, alloc, plan, at_hand),
@@ -65,7 +65,7 @@ fn move_by<S: Alter>(
     alloc: Global,
     plan: &Plan,
     at_hand: AtHand,
-) -> Result<Work, SFault>
+) -> Result<Work, StoreFault>
     requires few_old { length plan.now.old.items ≤ 4096 }
     requires few_new { length plan.now.new.items ≤ 4096 }
     ensures goes_on { IsUncommitted S.Store change.old change.new }
@@ -81,7 +81,7 @@ fn move_by<S: Alter>(
         → IsCostOfMove plan.now made.bodies c work) }
     ensures counted { IfOk result (λ work. saturated change.new.count
         ≡ saturated (saturated change.old.count + work.writes)) }
-    ensures cause { IfErr result IsS1OrS2 }
+    ensures cause { IfErr result IsFailure }
 {
     let work = move_tables(change, alloc, plan, at_hand)?;
     let front = same_rows(&plan.old, &plan.new);
@@ -114,7 +114,7 @@ fn move_tables<S: Alter>(
     alloc: Global,
     plan: &Plan,
     at_hand: AtHand,
-) -> Result<Work, SFault>
+) -> Result<Work, StoreFault>
     requires few_old { length plan.now.old.items ≤ 4096 }
     requires few_new { length plan.now.new.items ≤ 4096 }
     ensures follows { ChangeFollows S.Store change.old change.new }
@@ -130,7 +130,7 @@ fn move_tables<S: Alter>(
         → IsAtHand at_hand k.bodies → HasMadeBooks S.Store change.old before k
         → HasMadeTables S.Store change.old (chain_state c)
         → IsCostOfMove plan.now k.bodies c work) }
-    ensures cause { IfErr result IsS1OrS2 }
+    ensures cause { IfErr result IsFailure }
 {
     let steps = plan.old.len() as u32;
     let front = common_front(&plan.old, &plan.new);
@@ -148,7 +148,7 @@ fn apply_held<S: Alter>(
     front: u32,
     steps: &[Step],
     at_hand: AtHand,
-) -> Result<u64, SFault>
+) -> Result<u64, StoreFault>
     requires few { front + length steps.now < 2 ^ 32 }
     ensures follows { ChangeFollows S.Store change.old change.new }
     ensures counted { IfOk result (λ n. saturated change.new.count
@@ -163,7 +163,7 @@ fn apply_held<S: Alter>(
         → IsAtHand at_hand k.bodies → HasMadeBooks S.Store change.old before k
         → HasMadeTables S.Store change.old (chain_state c) → HasMadeTables S.Store change.new
         (chain_state (c ++ deposits_of reading k.bodies (rows_in_steps steps.now)))) }
-    ensures cause { IfErr result IsS1OrS2 }
+    ensures cause { IfErr result IsFailure }
 {
     let mut at_hand = at_hand;
     let mut pos = front;
@@ -184,7 +184,7 @@ fn apply_row<S: Alter>(
     pos: u32,
     row: usize,
     at_hand: &mut AtHand,
-) -> Result<u64, SFault>
+) -> Result<u64, StoreFault>
     ensures follows { ChangeFollows S.Store change.old change.new }
     ensures left { OnOk result ((bodies : ℕ → Option (List ℕ)) → IsAtHand at_hand.old bodies
         → IsAtHand at_hand.new bodies) }
@@ -199,7 +199,7 @@ fn apply_row<S: Alter>(
         → IsAtHand at_hand.old k.bodies → HasMadeBooks S.Store change.old before k
         → HasMadeTables S.Store change.old (chain_state c) → HasMadeTables S.Store change.new
         (chain_state (c ++ deposit_of reading (k.bodies row) ∷ []))) }
-    ensures cause { IfErr result IsS1OrS2 }
+    ensures cause { IfErr result IsFailure }
 {
     let deposit = next_deposit(change, alloc, row, at_hand)?;
     apply_next(alloc, change, pos, &deposit)
@@ -212,7 +212,7 @@ fn next_deposit<S: Alter>(
     alloc: Global,
     row: usize,
     at_hand: &mut AtHand,
-) -> Result<Deposit, SFault>
+) -> Result<Deposit, StoreFault>
     ensures follows { ChangeFollows S.Store change.old change.new }
     ensures count { change.new.count ≡ change.old.count }
     ensures left { (bodies : ℕ → Option (List ℕ)) → IsAtHand at_hand.old bodies
@@ -222,7 +222,7 @@ fn next_deposit<S: Alter>(
         → HasMadeBooks S.Store change.old before k → d ≡ deposit_of reading (k.bodies row)) }
     ensures holds { OnOk result ((s : State) → HasMadeTables S.Store change.old s
         → HasMadeTables S.Store change.new s) }
-    ensures cause { IfErr result IsS1OrS2 }
+    ensures cause { IfErr result IsFailure }
 {
     match at_hand.take(row) {
         Some(deposit) => Ok(deposit),
@@ -235,7 +235,7 @@ fn held_deposit<S: Alter>(
     change: &mut Change<'_, S>,
     alloc: Global,
     row: usize,
-) -> Result<Deposit, SFault>
+) -> Result<Deposit, StoreFault>
     ensures follows { ChangeFollows S.Store change.old change.new }
     ensures count { change.new.count ≡ change.old.count }
     ensures found { IfOk result (λ d. IsHonest S.Store change.new.store.now
@@ -243,14 +243,14 @@ fn held_deposit<S: Alter>(
         → d ≡ deposit_of reading (k.bodies row)) }
     ensures holds { OnOk result ((s : State) → HasMadeTables S.Store change.old s
         → HasMadeTables S.Store change.new s) }
-    ensures cause { IfErr result IsS1OrS2 }
+    ensures cause { IfErr result IsFailure }
 {
     let Some(body) = change.body_of(row)? else {
-        return Err(SFault::S1);
+        return Err(StoreFault::Failed(Cause::NoBody));
     };
     match read_deposit(alloc, &body) {
         Ok(deposit) => Ok(deposit),
-        Err(Fault::Refused(_)) => Err(SFault::S1),
-        Err(Fault::NoMemory) => Err(SFault::S2),
+        Err(Fault::Refused(_)) => Err(StoreFault::Failed(Cause::UnreadBody)),
+        Err(Fault::NoMemory) => Err(StoreFault::NoMemory),
     }
 }

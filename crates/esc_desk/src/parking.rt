@@ -1,13 +1,13 @@
 //! Whether a body that no row lists is parked.
 
 ghost use Rattle.std.specs.Prelude.{IfOk, IfErr};
-ghost use Rattle.esc_store.specs.Faults.{IsS1OrS2};
+ghost use Rattle.esc_store.specs.Faults.{IsFailure};
 ghost use Rattle.esc_store.specs.StoreState.{StoreState};
 ghost use Rattle.esc_store.specs.Representation.{Represents, IsHonest, IsAsBefore};
 ghost use Rattle.esc_events.specs.Parks.{IsParking};
 
 use esc_events::Parking;
-use esc_store::{MOST_PARKED, SFault, Store};
+use esc_store::{MOST_PARKED, Store, StoreFault};
 use sqlite::Alter;
 use std::alloc::Global;
 
@@ -16,11 +16,11 @@ pub(crate) fn parking_of<S: Alter>(
     store: &mut Store<S>,
     alloc: Global,
     digest: &[u8; 32],
-) -> Result<Parking, SFault>
+) -> Result<Parking, StoreFault>
     ensures same { IsAsBefore S.Store store.old store.new }
     ensures parking { IsHonest S.Store store.new → (k : StoreState) → Represents S.Store store.old k
         → IfOk result (IsParking k.parked digest.now) }
-    ensures cause { IfErr result IsS1OrS2 }
+    ensures cause { IfErr result IsFailure }
 {
     let parked = store.parked(alloc)?;
     if parked.contains(digest) {

@@ -1,7 +1,7 @@
 //! How the registry gets from the chain that the store keeps to another one.
 
 ghost use Rattle.std.specs.Prelude.{◌≡◌, ◌≤◌, ◌<◌, ◌++◌, ◌∷◌, [], length, map, IfOk, IfErr, IsTrue};
-ghost use Rattle.esc_store.specs.Faults.{IsS1OrS2};
+ghost use Rattle.esc_store.specs.Faults.{IsFailure};
 ghost use Rattle.esc_store.specs.StoreState.{step_at};
 ghost use Rattle.esc_events.specs.Plans.{AllInRange, AreLatestSteps};
 ghost use Rattle.esc_desk.specs.Edits.{IsSoundPlan};
@@ -12,7 +12,7 @@ use esc_bundle::NoMemory;
 use esc_chain::{Held, goes_at_end, latest_chain_at};
 use esc_events::{Cache, Plan};
 use esc_manifest::{MOST_LISTED_ROWS, MRow, Manifest};
-use esc_store::SFault;
+use esc_store::{Cause, StoreFault};
 use std::alloc::Global;
 use std::mem;
 
@@ -23,13 +23,15 @@ fn latest_steps(
     manifest: &Manifest,
     rows: &[usize],
     moment: Option<i64>,
-) -> Result<Vec<Step>, SFault>
+) -> Result<Vec<Step>, StoreFault>
     ensures few { IfOk result (λ steps. length steps.items ≤ 4096) }
     ensures steps { IfOk result
         (λ steps. AreLatestSteps manifest.now rows.now moment steps.items) }
-    ensures cause { IfErr result IsS1OrS2 }
+    ensures cause { IfErr result IsFailure }
 {
-    let held = Held::from_rows(alloc, manifest, rows)?.ok_or(SFault::S1)?;
+    let held = Held::from_rows(alloc, manifest, rows)?.ok_or(StoreFault::Failed(
+        Cause::Contradiction,
+    ))?;
     let chain = latest_chain_at(alloc, manifest, &held, moment)?;
     Ok(steps_of(alloc, manifest.rows(), &chain)?)
 }
@@ -44,12 +46,12 @@ fn steps_with(
     rows: &[usize],
     moment: Option<i64>,
     row: usize,
-) -> Result<Vec<Step>, SFault>
+) -> Result<Vec<Step>, StoreFault>
     ensures few { IfOk result (λ steps. length steps.items ≤ 4096) }
     ensures steps { IfOk result
         (λ steps. IsChainWithout manifest.now rows.now moment row chain.now
         → AreLatestSteps manifest.now rows.now moment steps.items) }
-    ensures cause { IfErr result IsS1OrS2 }
+    ensures cause { IfErr result IsFailure }
 {
     if lengthens(manifest, chain, rows, moment, row) {
         let last = step_of(manifest.rows(), row);
@@ -120,14 +122,14 @@ pub(crate) fn plan_latest(
     manifest: &Manifest,
     cache: &mut Cache,
     moment: Option<i64>,
-) -> Result<Plan, SFault>
+) -> Result<Plan, StoreFault>
     ensures held { cache.new.held_rows ≡ cache.old.held_rows }
     ensures told { cache.new.rows_with_receipt ≡ cache.old.rows_with_receipt }
     ensures sound { IfOk result IsSoundPlan }
     ensures old { IfOk result (λ p. p.old.items ≡ cache.old.chain.items) }
     ensures latest { IfOk result
         (λ p. AreLatestSteps manifest.now cache.old.held_rows.items moment p.new.items) }
-    ensures cause { IfErr result IsS1OrS2 }
+    ensures cause { IfErr result IsFailure }
 {
     let new = latest_steps(alloc, manifest, &cache.held_rows, moment)?;
     plan_to(alloc, cache, new)
@@ -141,7 +143,7 @@ pub(crate) fn plan_arrived(
     cache: &mut Cache,
     moment: Option<i64>,
     row: usize,
-) -> Result<Plan, SFault>
+) -> Result<Plan, StoreFault>
     ensures held { cache.new.held_rows ≡ cache.old.held_rows }
     ensures told { cache.new.rows_with_receipt ≡ cache.old.rows_with_receipt }
     ensures sound { IfOk result IsSoundPlan }
@@ -149,25 +151,25 @@ pub(crate) fn plan_arrived(
     ensures latest { IfOk result (λ p.
         IsChainWithout manifest.now cache.old.held_rows.items moment row cache.old.chain.items
         → AreLatestSteps manifest.now cache.old.held_rows.items moment p.new.items) }
-    ensures cause { IfErr result IsS1OrS2 }
+    ensures cause { IfErr result IsFailure }
 {
     let new = steps_with(alloc, manifest, &cache.chain, &cache.held_rows, moment, row)?;
     plan_to(alloc, cache, new)
 }
 
 // Plans the move from the cached chain, which is taken, to these steps.
-fn plan_to(alloc: Global, cache: &mut Cache, new: Vec<Step>) -> Result<Plan, SFault>
+fn plan_to(alloc: Global, cache: &mut Cache, new: Vec<Step>) -> Result<Plan, StoreFault>
     requires few { length new.items ≤ 4096 }
     ensures held { cache.new.held_rows ≡ cache.old.held_rows }
     ensures told { cache.new.rows_with_receipt ≡ cache.old.rows_with_receipt }
     ensures sound { IfOk result IsSoundPlan }
     ensures old { IfOk result (λ p. p.old.items ≡ cache.old.chain.items) }
     ensures new { IfOk result (λ p. p.new ≡ new) }
-    ensures cause { IfErr result IsS1OrS2 }
+    ensures cause { IfErr result IsFailure }
 {
     let old = mem::replace(&mut cache.chain, Vec::new(alloc));
     if old.len() > MOST_LISTED_ROWS {
-        return Err(SFault::S1);
+        return Err(StoreFault::Failed(Cause::Contradiction));
     }
     Ok(Plan { old, new })
 }

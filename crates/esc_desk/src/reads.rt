@@ -1,260 +1,140 @@
-//! The reads of a desk.
+//! What is read of a store that reflects a list of events.
 
-ghost use Rattle.std.specs.Prelude.{◌≡◌, List, length, option_map, IfOk, IfErr, map, All};
-ghost use Rattle.esc_apply.specs.declared.front.Step.{Step};
-ghost use Rattle.esc_store.specs.Faults.{IsS1OrS2};
-ghost use Rattle.esc_store.specs.Parks.{IsParkedBody};
-ghost use Rattle.esc_store.specs.StoreState.{StoreState};
-ghost use Rattle.esc_store.specs.Representation.{Represents, IsHonest, IsAsBefore, listed_rows_of};
-ghost use Rattle.esc_desk.specs.Calls.{store_of, writes_of, OkForStoreEvents, IsUnchangedDesk};
+ghost use Rattle.std.specs.Prelude.{◌≡◌, ◌+◌, ℕ, List, IfOk, IfErr, IsSome, option_map};
+ghost use Rattle.esc_apply.specs.ObjectStreams.{Entry, GivesFirst, InOrder};
+ghost use Rattle.esc_store.specs.Faults.{IsFailure};
 ghost use Rattle.esc_events.specs.Events.{EventValue, union, last_moment};
-ghost use Rattle.esc_events.specs.LatestTables.{AreTables};
-ghost use Rattle.esc_desk.specs.Reflection.{StoreReflects};
-ghost use Rattle.esc_desk.specs.Reads.{last, replies_of, AreHeldOf, AreParkedOf, SaysOfBody, IsEnd};
-ghost use Rattle.esc_desk.specs.Reads.{IsStatus};
+ghost use Rattle.esc_desk.specs.Reading.{IsReadOf, OkForEvents, ListsTables, HasState};
+ghost use Rattle.esc_desk.specs.Reads.{replies_of, AreHeldOf, AreParkedOf, AreStepsOf, IsBodyOf};
+ghost use Rattle.esc_desk.specs.Reads.{IsEnd, IsStatus};
 
-use crate::caching::cache_of;
-use crate::desk::Desk;
 use crate::status::{End, Status};
 use esc_apply::Step;
-use esc_bundle::Fault;
-use esc_envelope::{Envelope, Kind, Place};
+use esc_envelope::Kind;
 use esc_events::ParkedBody;
 use esc_manifest::Manifest;
-use esc_store::{Reply, SFault, Store};
-use esc_tables::{Key, Object, read_bundled_envelope};
-use sqlite::Alter;
+use esc_store::{Reply, StoreFault};
+use esc_tables::{Key, Object};
 use std::alloc::Global;
-use std::collections::BTreeMap;
 
-impl<S: Alter> Desk<S> {
-    /// The rows that are listed: those of the first manifest and of each amendment, as the desk's
-    /// store has them in memory. Doesn't allocate.
-    pub fn manifest(&self) -> &Manifest
-        ensures rows { result.now ≡ listed_rows_of (store_of self.now) }
-        ensures manifest { (e : List EventValue)
-            → StoreReflects S.Store (store_of self.now) e → result.now ≡ union e }
-    {
-        self.store.manifest()
-    }
+/// What is read of a store that reflects a list of events: by a [`Desk`](crate::Desk), with SQL, or
+/// by a [`StoreReader`](esc_store::StoreReader), which goes over the store's trees. A read changes
+/// nothing. After an `Err` nothing is said of what later reads return, unless what implements this
+/// says so.
+pub trait Reads {
+    /// Where a walk over the tables stands.
+    type Place: Drop;
 
-    /// How many objects the desk has put or removed since its store was opened. A removal counts
-    /// even if there was no object. It stays at 2^64 - 1 once there. Doesn't allocate.
-    pub fn writes(&self) -> u64
-        ensures count { result ≡ writes_of self.now }
-    {
-        self.store.writes()
-    }
+    /// The store stands for this list of events.
+    ghost reflects: { Self → List EventValue → Type 0 };
+
+    /// The disk gave back what was written to it.
+    ghost is_honest: { Self → Type 0 };
+
+    /// What a read leaves as it was, whatever it returns (for instance: nothing was committed).
+    ghost follows: { Self → Self → Type 0 };
+
+    /// The objects that are still to come at a place of a walk.
+    ghost lists: { Self → Self.Place → List Entry → Type 0 };
+
+    /// A bound on how many objects are still to come at a place, honest or not.
+    ghost bound: { Self.Place → ℕ };
+
+    /// The rows that are listed: those of the first manifest and of each amendment. Doesn't
+    /// allocate.
+    fn manifest(&self) -> &Manifest
+        ensures manifest { (e : List EventValue) → reflects self.now e → result.now ≡ union e };
 
     /// All replies, in the order of their receipts. `S1`, `S2`.
-    #[tactic(auto, using(crate::proofs::ReadLemmas::read_stays))]
-    pub fn receipts(&mut self, alloc: Global) -> Result<Vec<Reply>, SFault>
-        ensures stays { IsUnchangedDesk S.Store self.old self.new }
-        ensures all { OkForStoreEvents S.Store self.old self.new result
+    fn receipts(&mut self, alloc: Global) -> Result<Vec<Reply>, StoreFault>
+        ensures read { IsReadOf follows reflects self.old self.new result }
+        ensures all { OkForEvents is_honest reflects self.old self.new result
             (λ e replies. replies.items ≡ replies_of e) }
-        ensures cause { IfErr result IsS1OrS2 }
-    {
-        self.store.receipts(alloc)
-    }
+        ensures cause { IfErr result IsFailure };
 
-    /// The listed rows that have a body, as indices from 0 in ascending order. Of each of them that
-    /// no receipt with `A1` names the body is read, once. `S1`, `S2`.
-    #[tactic(auto, using(crate::proofs::ReadLemmas::read_stays))]
-    pub fn held(&mut self, alloc: Global) -> Result<Vec<usize>, SFault>
-        ensures stays { IsUnchangedDesk S.Store self.old self.new }
-        ensures rows { OkForStoreEvents S.Store self.old self.new result
+    /// The listed rows that have a body, as indices from 0 in ascending order. Of the bodies only
+    /// those are read that no row listed when they arrived, each once. `S1`, `S2`.
+    fn held(&mut self, alloc: Global) -> Result<Vec<usize>, StoreFault>
+        ensures read { IsReadOf follows reflects self.old self.new result }
+        ensures rows { OkForEvents is_honest reflects self.old self.new result
             (λ e rows. AreHeldOf e rows.items) }
-        ensures cause { IfErr result IsS1OrS2 }
-    {
-        self.store.held(alloc)
-    }
+        ensures cause { IfErr result IsFailure };
 
     /// The bodies that no row lists, each as its digest and length, in the order of digests. They
     /// are read one at a time. `S1`, `S2`.
-    #[tactic(auto, using(crate::proofs::ReadLemmas::read_then_stays))]
-    pub fn parked(&mut self, alloc: Global) -> Result<Vec<ParkedBody>, SFault>
-        ensures stays { IsUnchangedDesk S.Store self.old self.new }
-        ensures bodies { OkForStoreEvents S.Store self.old self.new result
+    fn parked(&mut self, alloc: Global) -> Result<Vec<ParkedBody>, StoreFault>
+        ensures read { IsReadOf follows reflects self.old self.new result }
+        ensures bodies { OkForEvents is_honest reflects self.old self.new result
             (λ e bodies. AreParkedOf e bodies.items) }
-        ensures cause { IfErr result IsS1OrS2 }
-    {
-        let digests = self.store.parked(alloc)?;
-        parked_bodies(&mut self.store, alloc, &digests)
-    }
+        ensures cause { IfErr result IsFailure };
 
     /// The moment as of which the registry is rebuilt, in nanoseconds since 1970-01-01T00:00:00Z,
     /// if one is set. `S1`, `S2`.
-    #[tactic(auto, using(crate::proofs::ReadLemmas::read_stays))]
-    pub fn moment(&mut self) -> Result<Option<i64>, SFault>
-        ensures stays { IsUnchangedDesk S.Store self.old self.new }
-        ensures moment { OkForStoreEvents S.Store self.old self.new result
+    fn moment(&mut self, alloc: Global) -> Result<Option<i64>, StoreFault>
+        ensures read { IsReadOf follows reflects self.old self.new result }
+        ensures moment { OkForEvents is_honest reflects self.old self.new result
             (λ e moment. moment ≡ last_moment e) }
-        ensures cause { IfErr result IsS1OrS2 }
-    {
-        self.store.moment()
-    }
+        ensures cause { IfErr result IsFailure };
 
-    /// The objects of the latest chain's tables by key, all in memory. `S1`, `S2`.
-    #[tactic(auto, using(crate::proofs::ReadLemmas::read_stays))]
-    pub fn tables(&mut self, alloc: Global) -> Result<BTreeMap<Key, Object>, SFault>
-        ensures stays { IsUnchangedDesk S.Store self.old self.new }
-        ensures objects { OkForStoreEvents S.Store self.old self.new result
-            (λ e objects. AreTables e objects.entries) }
-        ensures cause { IfErr result IsS1OrS2 }
-    {
-        self.store.tables(alloc)
-    }
+    /// The steps of the latest chain, in order. `S1`, `S2`.
+    fn chain(&mut self, alloc: Global) -> Result<Vec<Step>, StoreFault>
+        ensures read { IsReadOf follows reflects self.old self.new result }
+        ensures steps { OkForEvents is_honest reflects self.old self.new result
+            (λ e steps. AreStepsOf e steps.items) }
+        ensures cause { IfErr result IsFailure };
+
+    /// The body of the row with this index, from 0, if it is held. No other body is read. `S1`,
+    /// `S2`.
+    fn body_of(&mut self, alloc: Global, row: usize) -> Result<Option<Vec<u8>>, StoreFault>
+        ensures read { IsReadOf follows reflects self.old self.new result }
+        ensures body { OkForEvents is_honest reflects self.old self.new result
+            (λ e body. IsBodyOf e row (option_map (λ b. b.items) body)) }
+        ensures cause { IfErr result IsFailure };
 
     /// What the latest chain's last deposit says of the registry, read from its body's envelope;
     /// `None` where there is no chain. `S1`, `S2`.
-    #[tactic(auto, using(crate::proofs::ReadLemmas::read_then_stays))]
-    pub fn end(&mut self, alloc: Global) -> Result<Option<End>, SFault>
-        ensures stays { IsUnchangedDesk S.Store self.old self.new }
-        ensures end { OkForStoreEvents S.Store self.old self.new result
+    fn end(&mut self, alloc: Global) -> Result<Option<End>, StoreFault>
+        ensures read { IsReadOf follows reflects self.old self.new result }
+        ensures end { OkForEvents is_honest reflects self.old self.new result
             (λ e end. IsEnd e end) }
-        ensures cause { IfErr result IsS1OrS2 }
-    {
-        let steps = self.store.chain(alloc)?;
-        match last_row(&steps) {
-            None => Ok(None),
-            Some(row) => {
-                let end = stored_end(&mut self.store, alloc, row)?;
-                Ok(Some(end))
-            }
-        }
-    }
+        ensures cause { IfErr result IsFailure };
 
-    /// The desk's counts, and the end of its latest chain. Reads what [`Desk::held`] reads and, the
-    /// first time after a change, the kind of each object. `S1`, `S2`.
-    #[tactic(auto, using(crate::proofs::ReadLemmas::read_then_stays))]
-    pub fn status(&mut self, alloc: Global) -> Result<Status, SFault>
-        ensures stays { IsUnchangedDesk S.Store self.old self.new }
-        ensures status { OkForStoreEvents S.Store self.old self.new result
+    /// The counts of the store, and the end of its latest chain. Reads what `held` reads, and the
+    /// kind of each object. `S1`, `S2`.
+    fn status(&mut self, alloc: Global) -> Result<Status, StoreFault>
+        ensures read { IsReadOf follows reflects self.old self.new result }
+        ensures status { OkForEvents is_honest reflects self.old self.new result
             (λ e status. IsStatus e status) }
-        ensures cause { IfErr result IsS1OrS2 }
-    {
-        let receipts = self.store.receipt_count()?;
-        let cache = cache_of(&mut self.store, alloc)?;
-        let objects = self.store.counts_by_kind(alloc)?;
-        let listed = self.store.manifest().rows().len();
-        Ok(status_of(listed, receipts, &cache.held_rows, &cache.chain, objects))
-    }
-}
+        ensures cause { IfErr result IsFailure };
 
-/// The status of a store, by the number of its listed rows and receipts, its held rows, its chain's
-/// steps, and the number of its objects.
-pub(crate) fn status_of(
-    listed: usize,
-    receipts: u64,
-    held: &[usize],
-    steps: &[Step],
-    objects: BTreeMap<Kind, u64>,
-) -> Status
-    ensures listed { result.listed ≡ listed }
-    ensures held { result.held ≡ length held.now }
-    ensures receipts { result.receipts ≡ receipts }
-    ensures chain { result.chain ≡ length steps.now }
-    ensures end { result.end ≡ option_map (λ (s : Step). (s.place, s.resend)) (last steps.now) }
-    ensures objects { result.objects ≡ objects }
-{
-    Status {
-        listed: listed as u64,
-        held: held.len() as u64,
-        receipts,
-        chain: steps.len() as u64,
-        end: end_of_steps(steps),
-        objects,
-    }
-}
+    /// Where a walk over the objects of the latest chain's tables begins: those of one kind or
+    /// (`None`) of all, by key. `S1`, `S2`.
+    fn start_walk(&mut self, alloc: Global, kind: Option<Kind>) -> Result<Self::Place, StoreFault>
+        ensures read { IsReadOf follows reflects self.old self.new result }
+        ensures lists { OkForEvents is_honest reflects self.old self.new result
+            (λ e place. ListsTables (lists self.new place) kind e) }
+        ensures cause { IfErr result IsFailure };
 
-// The row of the last step, if any.
-pub(crate) fn last_row(steps: &[Step]) -> Option<usize>
-    ensures { result ≡ option_map (λ (s : Step). s.row) (last steps.now) }
-{
-    let last = steps.last().copied()?;
-    Some(last.row)
-}
+    /// The next object of a walk, or `None` if there is none. `S1`, `S2`.
+    fn walk_on(&mut self, place: &mut Self::Place) -> Result<Option<(Key, Object)>, StoreFault>
+        ensures read { IsReadOf follows reflects self.old self.new result }
+        ensures given { IfOk result (λ o. is_honest self.new → (es : List Entry)
+            → lists self.old place.old es → GivesFirst (lists self.new place.new) es o) }
+        ensures fewer { IfOk result
+            (λ o. IsSome o → bound place.old ≡ bound place.new + 1) }
+        ensures cause { IfErr result IsFailure };
 
-// Place and resend of the last step, if any.
-fn end_of_steps(steps: &[Step]) -> Option<(Place, u32)>
-    ensures { result ≡ option_map (λ (s : Step). (s.place, s.resend)) (last steps.now) }
-{
-    let last = steps.last().copied()?;
-    Some((last.place, last.resend))
-}
+    /// The events lead to a state.
+    ghost stands_for: { (r : Self) (e : List EventValue) → reflects r e → HasState e };
 
-// The parked bodies with these digests. `S1` if one of them isn't parked.
-fn parked_bodies<S: Alter>(
-    store: &mut Store<S>,
-    alloc: Global,
-    digests: &[[u8; 32]],
-) -> Result<Vec<ParkedBody>, SFault>
-    ensures same { IsAsBefore S.Store store.old store.new }
-    ensures digests { IfOk result (λ bodies. map (λ p. p.digest) bodies.items ≡ digests.now) }
-    ensures each { IsHonest S.Store store.new → (k : StoreState) → Represents S.Store store.old k
-        → IfOk result (λ bodies. All (IsParkedBody k.parked) bodies.items) }
-    ensures cause { IfErr result IsS1OrS2 }
-{
-    let mut bodies = Vec::new(alloc);
-    for digest in digests {
-        bodies.push(parked_body(store, digest)?)?;
-    }
-    Ok(bodies)
-}
+    /// The objects come by key, and no key comes twice.
+    ghost in_order: { (r : Self) (p : Self.Place) (es : List Entry) → lists r p es
+        → InOrder es };
 
-// The parked body with a digest. `S1` if there is none.
-fn parked_body<S: Alter>(store: &mut Store<S>, digest: &[u8; 32]) -> Result<ParkedBody, SFault>
-    ensures same { IsAsBefore S.Store store.old store.new }
-    ensures digest { IfOk result (λ p. p.digest ≡ digest.now) }
-    ensures parked { IsHonest S.Store store.new → (k : StoreState) → Represents S.Store store.old k
-        → IfOk result (IsParkedBody k.parked) }
-    ensures cause { IfErr result IsS1OrS2 }
-{
-    let Some(body) = store.parked_body(digest)? else {
-        return Err(SFault::S1);
-    };
-    Ok(ParkedBody {
-        digest: *digest,
-        bytes: body.len() as u64,
-    })
-}
+    ghost stays: { (r : Self) → follows r r };
 
-// What the deposit of the body that the store keeps for a row says of the registry.
-fn stored_end<S: Alter>(store: &mut Store<S>, alloc: Global, row: usize) -> Result<End, SFault>
-    ensures same { IsAsBefore S.Store store.old store.new }
-    ensures says { IsHonest S.Store store.new → (k : StoreState) → Represents S.Store store.old k
-        → IfOk result (SaysOfBody (k.bodies row)) }
-    ensures cause { IfErr result IsS1OrS2 }
-{
-    let body = store.body_of(alloc, row)?;
-    end_in(alloc, body)
-}
+    ghost goes_on: { (a b c : Self) → follows a b → follows b c → follows a c };
 
-// What the deposit of a body says of the registry. Its envelope alone is parsed. `S1` where there
-// is no body.
-pub(crate) fn end_in(alloc: Global, body: Option<Vec<u8>>) -> Result<End, SFault>
-    ensures says { IfOk result (SaysOfBody (option_map (λ b. b.items) body)) }
-    ensures cause { IfErr result IsS1OrS2 }
-{
-    let Some(body) = body else {
-        return Err(SFault::S1);
-    };
-    match read_bundled_envelope(alloc, &body) {
-        Ok(envelope) => Ok(end_of(envelope)),
-        Err(Fault::Refused(_)) => Err(SFault::S1),
-        Err(Fault::NoMemory) => Err(SFault::S2),
-    }
-}
-
-// What an envelope says of the registry.
-fn end_of(envelope: Envelope) -> End
-    ensures watermark { result.watermark ≡ envelope.header.place.watermark }
-    ensures counts { result.counts.entries ≡ envelope.counts }
-{
-    let Envelope { header, counts, .. } = envelope;
-    let place = header.place;
-    End {
-        watermark: place.watermark,
-        counts,
-    }
+    /// What is honest now was honest before.
+    ghost was_honest: { (a b : Self) → follows a b → is_honest b → is_honest a };
 }

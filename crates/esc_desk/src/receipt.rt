@@ -21,7 +21,9 @@ pub(crate) fn receipt_by<'a>(
 {
     let (verdict, row, again, orphans) = match assessment {
         Assessment::Unlisted => (Verdict::A5, None, None, None),
-        Assessment::Unreadable(row, fault) => (Verdict::A3(*fault), Some(*row), None, None),
+        Assessment::Unreadable(row, refusal) => {
+            (Verdict::A3(refusal.number()), Some(*row), None, None)
+        }
         Assessment::Differing(row) => (Verdict::A4, Some(*row), None, None),
         Assessment::Holding(row, deposit) => (
             Verdict::A1,

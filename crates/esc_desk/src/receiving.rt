@@ -4,7 +4,7 @@ ghost use Rattle.std.specs.Prelude.{◌≡◌, ◌++◌, ◌∷◌, [], ℕ, Lis
 ghost use Rattle.sha2.specs.Sha256.{sha256};
 ghost use Rattle.esc_tables.specs.DepositValue.{DepositValue};
 ghost use Rattle.esc_tables.specs.Reading.{reading};
-ghost use Rattle.esc_store.specs.Faults.{IsS1OrS2};
+ghost use Rattle.esc_store.specs.Faults.{IsFailure};
 ghost use Rattle.esc_store.specs.StoreState.{StoreState, AreHeldBy};
 ghost use Rattle.esc_store.specs.ReplyValue.{ReceiptValue, reply_alike, reply_kept};
 ghost use Rattle.esc_events.specs.declared.assessment.Assessment.TheVariants.{Holding};
@@ -22,7 +22,7 @@ use crate::reread::Reread;
 use esc_bundle::NoMemory;
 use esc_events::{Assessment, Cache};
 use esc_manifest::Manifest;
-use esc_store::{Number, Receipt, Reply, SFault, insert_row};
+use esc_store::{Number, Receipt, Reply, StoreFault, insert_row};
 use std::alloc::Global;
 
 /// What was found of an arrival, its receipt, the reply, without the receipt's number, and what is
@@ -45,7 +45,7 @@ pub(crate) fn receive<'n>(
     body: &[u8],
     last: Option<Reread>,
     cache: Cache,
-) -> Result<Received<'n>, SFault>
+) -> Result<Received<'n>, StoreFault>
     requires { digest ≡ sha256 body.now }
     ensures received { (e : List EventValue) (k : StoreState) → manifest.now ≡ k.listed
         → IsStateAfter sha256 reading e k → IsCacheOf k cache
@@ -56,7 +56,7 @@ pub(crate) fn receive<'n>(
     ensures digest { IfOk result (λ r. r.receipt.digest ≡ digest) }
     ensures read { IfOk result (λ r. (q : ℕ) (d : DepositValue) → r.found ≡ Holding q d
         → reading body.now ≡ Ok d) }
-    ensures cause { IfErr result IsS1OrS2 }
+    ensures cause { IfErr result IsFailure }
 {
     let found = find(alloc, manifest, &digest, body, last)?;
     let again = is_among(&cache.rows_with_receipt, held_row(&found));

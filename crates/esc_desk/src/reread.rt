@@ -1,6 +1,7 @@
 //! Remembers the deposit that was read last, so that a body that comes again isn't parsed again.
 
-ghost use Rattle.std.specs.Prelude.{◌≡◌, ℕ, true, Ok, Err, IfOk, IfErr, IfSome};
+ghost use Rattle.std.specs.Prelude.{◌≡◌, true, Ok, Err, IfOk, IfErr, IfSome};
+ghost use Rattle.esc_bundle.specs.declared.refusal.Refusal.{Refusal};
 ghost use Rattle.esc_tables.specs.Reading.{reading};
 
 use esc_bundle::Fault;
@@ -75,7 +76,7 @@ pub(crate) fn deposit_of_body(
     body: &[u8],
 ) -> Result<Deposit, Fault>
     ensures read { IfOk result (λ d. reading body.now ≡ Ok d) }
-    ensures refused { IfErr result (λ e. (n : ℕ) → e ≡ Fault.Refused n
+    ensures refused { IfErr result (λ e. (n : Refusal) → e ≡ Fault.Refused n
         → reading body.now ≡ Err n) }
 {
     if let Some(last) = last {

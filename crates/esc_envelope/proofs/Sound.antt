@@ -1,8 +1,10 @@
--- The tables of an envelope have their forms, and its refusals are 5 to 7.
+-- The tables of an envelope have their forms.
 use Rattle.std.proofs.Common.{◌≡◌, ℕ, ◌≤◌, List, ◌++◌, Option, Some, None, refl, subst, arith}
 use Rattle.std.specs.Prelude.{All, Result, Ok, Err, codes}
 use Rattle.std.proofs.lemmas.List.Elements.{All-append}
 use Rattle.serde_json.specs.Data.{Data}
+use Rattle.esc_bundle.specs.declared.refusal.Refusal.{Refusal}
+use Rattle.esc_bundle.specs.declared.refusal.Refusal.TheVariants.{NotJson, WrongMember, WrongTable}
 use Rattle.esc_bundle.specs.Tests.{◌>>=◌, or_fault}
 use Rattle.esc_envelope.specs.EnvelopeValue.{EnvelopeValue}
 use Rattle.esc_envelope.specs.Envelope.{json_of, envelope_in, envelope_of}
@@ -12,19 +14,15 @@ use Rattle.esc_envelope.proofs.Declared.{are_contents, are_deletes}
 
 -- ---- one step
 
-Found : {A B : Type 0} → Option A → (A → Result B ℕ) → B → Type 0
+Found : {A B : Type 0} → Option A → (A → Result B Refusal) → B → Type 0
 Found {A} o next y = (x : A) × (o ≡ Some x) × (next x ≡ Ok y)
 
-found : {A B : Type 0} (n : ℕ) (o : Option A) (next : A → Result B ℕ) (y : B) → (or_fault n o >>= next) ≡ Ok y → Found o next y
+found : {A B : Type 0} (n : Refusal) (o : Option A) (next : A → Result B Refusal) (y : B) → (or_fault n o >>= next) ≡ Ok y → Found o next y
 unfolding Found
 found n None next y h = absurd cc
 found n (Some x) next y h = (x, refl, h)
 
-fault : {A B : Type 0} (P : ℕ → Type 0) (n : ℕ) (o : Option A) (next : A → Result B ℕ) (m : ℕ) → P n → ((x : A) → next x ≡ Err m → P m) → (or_fault n o >>= next) ≡ Err m → P m
-fault P n None next m here later h = let same : n ≡ m = cc in subst P same here
-fault P n (Some x) next m here later h = later x h
-
-same_ok : (x y : EnvelopeValue) → ◌≡◌ {A = Result EnvelopeValue ℕ} (Ok x) (Ok y) → x ≡ y
+same_ok : (x y : EnvelopeValue) → ◌≡◌ {A = Result EnvelopeValue Refusal} (Ok x) (Ok y) → x ≡ y
 same_ok x y h = cc
 
 -- ---- the envelope
@@ -35,39 +33,16 @@ IsSound e = All IsTable (e.contents ++ e.deletes) × AreContents e.contents × A
 sound_in : (json : Data) (e : EnvelopeValue) → envelope_in json ≡ Ok e → IsSound e
 unfolding envelope_in Found
 sound_in json e h =
-    let header = found 6 (header_of json) _ e h in
-    let counts = found 6 (counts_of json) _ e header.2 in
-    let declared = found 6 (array_of (codes "contents") json) _ e counts.2 in
-    let deleted = found 6 (array_of (codes "deletes") json) _ e declared.2 in
-    let contents = found 7 (contents_in declared.0) _ e deleted.2 in
-    let deletes = found 7 (deletes_in deleted.0) _ e contents.2 in
+    let header = found WrongMember (header_of json) _ e h in
+    let counts = found WrongMember (counts_of json) _ e header.2 in
+    let declared = found WrongMember (array_of (codes "contents") json) _ e counts.2 in
+    let deleted = found WrongMember (array_of (codes "deletes") json) _ e declared.2 in
+    let contents = found WrongTable (contents_in declared.0) _ e deleted.2 in
+    let deletes = found WrongTable (deletes_in deleted.0) _ e contents.2 in
     let what_is = are_contents declared.0 contents.0 contents.1 in
     let what_was = are_deletes deleted.0 deletes.0 deletes.1 in
     subst IsSound (same_ok _ e deletes.2) (All-append IsTable contents.0 deletes.0 what_is.0 what_was.0, what_is.1, what_was.1)
 
 pub sound : (text : List ℕ) (e : EnvelopeValue) → envelope_of text ≡ Ok e → IsSound e
 unfolding envelope_of Found
-sound text e h = let json = found 5 (json_of text) envelope_in e h in sound_in json.0 e json.2
-
-abbrev IsNumber : ℕ → Type 0
-IsNumber n = (5 ≤ n) × (n ≤ 7)
-
-six : IsNumber 6
-six = (omega arith, omega arith)
-
-seven : IsNumber 7
-seven = (omega arith, omega arith)
-
-number_in : (json : Data) (n : ℕ) → envelope_in json ≡ Err n → IsNumber n
-unfolding envelope_in
-number_in json n h =
-    fault IsNumber 6 (header_of json) _ n six (λ header.
-    fault IsNumber 6 (counts_of json) _ n six (λ counts.
-    fault IsNumber 6 (array_of (codes "contents") json) _ n six (λ declared.
-    fault IsNumber 6 (array_of (codes "deletes") json) _ n six (λ deleted.
-    fault IsNumber 7 (contents_in declared) _ n seven (λ contents.
-    fault IsNumber 7 (deletes_in deleted) _ n seven (λ deletes none. absurd cc)))))) h
-
-pub number : (text : List ℕ) (n : ℕ) → envelope_of text ≡ Err n → (5 ≤ n) × (n ≤ 7)
-unfolding envelope_of
-number text n h = fault IsNumber 5 (json_of text) envelope_in n (omega arith, omega arith) (λ json e. number_in json n e) h
+sound text e h = let json = found NotJson (json_of text) envelope_in e h in sound_in json.0 e json.2

@@ -1,6 +1,9 @@
 -- Which refusal of an envelope applies (this project's profile).
 use Rattle.std.specs.Prelude.{◌≡◌, ◌⊎◌, ◌≤◌, ℕ, List, Some, None, codes}
 use Rattle.serde_json.specs.Data.{Data}
+use Rattle.esc_bundle.specs.declared.refusal.Refusal.{Refusal}
+use Rattle.esc_bundle.specs.declared.refusal.Refusal.TheVariants.{NotJson, WrongMember, WrongTable}
+use Rattle.esc_bundle.specs.Codes.{refusal_number}
 use Rattle.esc_envelope.specs.Envelope.{json_of}
 use Rattle.esc_envelope.specs.Members.{header_of, counts_of, array_of}
 use Rattle.esc_envelope.specs.DeclaredTables.{contents_in, deletes_in}
@@ -19,13 +22,14 @@ LacksTables json =
     ⊎ ((values : List Data) × (array_of (codes "deletes") json ≡ Some values)
     × (deletes_in values ≡ None))
 
--- the refusal of this number applies
-abbrev pub IsEnvelopeFault : List ℕ → ℕ → Type 0
-IsEnvelopeFault text n =
-    ((n ≡ 5) × (json_of text ≡ None))
-    ⊎ ((n ≡ 6) × (json : Data) × (json_of text ≡ Some json) × LacksMember json)
-    ⊎ ((n ≡ 7) × (json : Data) × (json_of text ≡ Some json) × LacksTables json)
+-- this refusal applies
+abbrev pub IsEnvelopeFault : List ℕ → Refusal → Type 0
+IsEnvelopeFault text why =
+    ((why ≡ NotJson) × (json_of text ≡ None))
+    ⊎ ((why ≡ WrongMember) × (json : Data) × (json_of text ≡ Some json) × LacksMember json)
+    ⊎ ((why ≡ WrongTable) × (json : Data) × (json_of text ≡ Some json) × LacksTables json)
 
--- it applies, and no lesser one does
-abbrev pub IsLeastEnvelopeFault : List ℕ → ℕ → Type 0
-IsLeastEnvelopeFault text n = IsEnvelopeFault text n × ((m : ℕ) → IsEnvelopeFault text m → n ≤ m)
+-- it applies, and none with a lesser number does
+abbrev pub IsLeastEnvelopeFault : List ℕ → Refusal → Type 0
+IsLeastEnvelopeFault text why = IsEnvelopeFault text why × ((other : Refusal)
+    → IsEnvelopeFault text other → refusal_number why ≤ refusal_number other)

@@ -1,6 +1,6 @@
 //! The envelope of a deposit.
 
-ghost use Rattle.std.specs.Prelude.{◌≡◌, ◌⊎◌, ◌≤◌, ℕ, Ok, Err, Some, None, IfOk, IfErr, IsErrAnd};
+ghost use Rattle.std.specs.Prelude.{◌≡◌, ◌⊎◌, Ok, Err, Some, None, IfOk, IfErr, IsErrAnd};
 ghost use Rattle.serde_json.specs.View.{view};
 ghost use Rattle.esc_envelope.specs.Envelope.{json_of, envelope_in, envelope_of};
 ghost use Rattle.esc_envelope.specs.EnvelopeFaults.{IsLeastEnvelopeFault};
@@ -12,7 +12,7 @@ use crate::members::header_in;
 use crate::table::Table;
 use crate::tables::{contents_in, deletes_in};
 use crate::texts::array_of;
-use esc_bundle::Fault;
+use esc_bundle::{Fault, Refusal};
 use serde_json::Value;
 use std::alloc::Global;
 use std::collections::BTreeMap;
@@ -50,8 +50,8 @@ impl Model for Envelope {
 
 fn parsed(alloc: Global, json: &[u8]) -> Result<Value, Fault>
     ensures json { IfOk result (λ v. json_of json.now ≡ Some (view v)) }
-    ensures refused { IfErr result (λ e. (n : ℕ) → e ≡ Fault.Refused n
-        → (n ≡ 5) × (json_of json.now ≡ None)) }
+    ensures refused { IfErr result (λ e. (why : Refusal) → e ≡ Fault.Refused why
+        → (why ≡ Refusal.NotJson) × (json_of json.now ≡ None)) }
 {
     match Value::from_slice(alloc, json) {
         Ok(value) => Ok(value),
@@ -59,7 +59,7 @@ fn parsed(alloc: Global, json: &[u8]) -> Result<Value, Fault>
             if error.is_memory() {
                 Err(Fault::NoMemory)
             } else {
-                Err(Fault::Refused(5))
+                Err(Fault::Refused(Refusal::NotJson))
             }
         }
     }
@@ -68,26 +68,26 @@ fn parsed(alloc: Global, json: &[u8]) -> Result<Value, Fault>
 #[tactic(auto, unfolding(crate::specs::Envelope::envelope_in))]
 fn envelope_in(alloc: Global, json: &Value) -> Result<Envelope, Fault>
     ensures envelope { IfOk result (λ e. envelope_in (view json.now) ≡ Ok e) }
-    ensures refused { IfErr result (λ e. (n : ℕ) → e ≡ Fault.Refused n
-        → envelope_in (view json.now) ≡ Err n) }
+    ensures refused { IfErr result (λ e. (why : Refusal) → e ≡ Fault.Refused why
+        → envelope_in (view json.now) ≡ Err why) }
 {
     let Some(header) = header_in(alloc, json)? else {
-        return Err(Fault::Refused(6));
+        return Err(Fault::Refused(Refusal::WrongMember));
     };
     let Some(counts) = counts_of(alloc, json)? else {
-        return Err(Fault::Refused(6));
+        return Err(Fault::Refused(Refusal::WrongMember));
     };
     let Some(declared) = array_of(json, "contents") else {
-        return Err(Fault::Refused(6));
+        return Err(Fault::Refused(Refusal::WrongMember));
     };
     let Some(deleted) = array_of(json, "deletes") else {
-        return Err(Fault::Refused(6));
+        return Err(Fault::Refused(Refusal::WrongMember));
     };
     let Some(contents) = contents_in(alloc, declared)? else {
-        return Err(Fault::Refused(7));
+        return Err(Fault::Refused(Refusal::WrongTable));
     };
     let Some(deletes) = deletes_in(alloc, deleted)? else {
-        return Err(Fault::Refused(7));
+        return Err(Fault::Refused(Refusal::WrongTable));
     };
     Ok(Envelope {
         header,
@@ -101,8 +101,8 @@ fn envelope_in(alloc: Global, json: &Value) -> Result<Envelope, Fault>
 #[tactic(auto, unfolding(crate::specs::Envelope::envelope_of))]
 fn envelope_from(alloc: Global, json: &[u8]) -> Result<Envelope, Fault>
     ensures envelope { IfOk result (λ e. envelope_of json.now ≡ Ok e) }
-    ensures refused { IfErr result (λ e. (n : ℕ) → e ≡ Fault.Refused n
-        → envelope_of json.now ≡ Err n) }
+    ensures refused { IfErr result (λ e. (why : Refusal) → e ≡ Fault.Refused why
+        → envelope_of json.now ≡ Err why) }
 {
     let json = parsed(alloc, json)?;
     envelope_in(alloc, &json)
@@ -114,21 +114,19 @@ fn envelope_from(alloc: Global, json: &[u8]) -> Result<Envelope, Fault>
 ///
 /// The first of these that applies:
 ///
-/// - `Refused(5)`: the text is no JSON;
-/// - `Refused(6)`: a member other than those of a table is missing, or not of its form;
-/// - `Refused(7)`: the declaration of a table is not valid.
+/// - `NotJson`: the text is no JSON;
+/// - `WrongMember`: a member other than those of a table is missing, or not of its form;
+/// - `WrongTable`: the declaration of a table is not valid.
 ///
 /// `NoMemory` out of memory.
 pub fn read_envelope(alloc: Global, json: &[u8]) -> Result<Envelope, Fault>
     ensures envelope { IfOk result (λ e. envelope_of json.now ≡ Ok e) }
-    ensures refused { IfErr result (λ e. (n : ℕ) → e ≡ Fault.Refused n
-        → envelope_of json.now ≡ Err n) }
-    ensures least { IfErr result (λ e. (n : ℕ) → e ≡ Fault.Refused n
-        → IsLeastEnvelopeFault json.now n) }
-    ensures fault_told { (n : ℕ) → IsLeastEnvelopeFault json.now n →
-        IsErrAnd result (λ e. (e ≡ Fault.Refused n) ⊎ (e ≡ Fault.NoMemory)) }
-    ensures numbers { IfErr result (λ e. (n : ℕ) → e ≡ Fault.Refused n
-        → (5 ≤ n) × (n ≤ 7)) }
+    ensures refused { IfErr result (λ e. (why : Refusal) → e ≡ Fault.Refused why
+        → envelope_of json.now ≡ Err why) }
+    ensures least { IfErr result (λ e. (why : Refusal) → e ≡ Fault.Refused why
+        → IsLeastEnvelopeFault json.now why) }
+    ensures fault_told { (why : Refusal) → IsLeastEnvelopeFault json.now why →
+        IsErrAnd result (λ e. (e ≡ Fault.Refused why) ⊎ (e ≡ Fault.NoMemory)) }
 {
     envelope_from(alloc, json)
 }

@@ -3,10 +3,11 @@
 //! The functions here do nothing. Each has a law as its contract: a caller who needs the law calls
 //! it.
 
-ghost use Rattle.std.specs.Prelude.{◌≡◌, ◌≤◌, ◌↔◌, ◌++◌, ℕ, ℤ, List, All, Ok, Err, Some, IsSome};
+ghost use Rattle.std.specs.Prelude.{◌≡◌, ◌↔◌, ◌++◌, ℕ, ℤ, List, All, Ok, Err, Some, IsSome};
+ghost use Rattle.esc_bundle.specs.declared.refusal.Refusal.{Refusal};
 ghost use Rattle.esc_envelope.specs.DeclaredTables.{IsTable, AreContents, AreDeletes};
 ghost use Rattle.esc_envelope.specs.Envelope.{envelope_of};
-ghost use Rattle.esc_envelope.specs.EnvelopeFaults.{IsEnvelopeFault, IsLeastEnvelopeFault};
+ghost use Rattle.esc_envelope.specs.EnvelopeFaults.{IsLeastEnvelopeFault};
 ghost use Rattle.esc_envelope.specs.EnvelopeValue.{EnvelopeValue};
 ghost use Rattle.esc_envelope.specs.Moment.{IsWatermark};
 ghost use Rattle.esc_envelope.specs.Watermark.{IsInYears, watermark_of, watermark_text_of};
@@ -22,18 +23,10 @@ pub fn declared_tables_have_their_forms()
         → AreDeletes e.deletes }
 {}
 
-/// The refusals of an envelope are U5 to U7.
-pub fn envelope_refusals_are_5_to_7()
-    ensures { (text : List ℕ) (n : ℕ) → envelope_of text ≡ Err n
-        → (5 ≤ n) × (n ≤ 7) }
-{}
-
-/// `envelope_of` refuses a text with a number exactly if that is the least of U5 to U7 that
-/// applies.
+/// `envelope_of` refuses a text exactly with the least of U5 to U7 that applies.
 pub fn refusals_are_least()
-    ensures least { (text : List ℕ) (n : ℕ)
-        → (envelope_of text ≡ Err n) ↔ IsLeastEnvelopeFault text n }
-    ensures numbers { (text : List ℕ) (n : ℕ) → IsEnvelopeFault text n → (5 ≤ n) × (n ≤ 7) }
+    ensures { (text : List ℕ) (why : Refusal)
+        → (envelope_of text ≡ Err why) ↔ IsLeastEnvelopeFault text why }
 {}
 
 /// The texts that `watermark` reads are exactly those of moments.

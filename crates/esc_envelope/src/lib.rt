@@ -22,12 +22,13 @@
 //! ```
 //!
 //! Its contract says exactly that. `specs/Envelope.antt` has the function `envelope_of` from bytes
-//! to an envelope or a refusal's number, put together from one small definition for each member
-//! (`specs/Members.antt`, `specs/DeclaredTables.antt`); `specs/EnvelopeFaults.antt` says which texts
-//! each number refuses, and that the refusal is the least of them (`IsLeastEnvelopeFault`). An `Ok`
-//! is the envelope that `envelope_of` gives, and a refusal is its number; only out of memory may be
-//! returned in place of either. Contracts see an `Envelope` as an `EnvelopeValue`, a `Header` as a
-//! `HeaderValue` and a `Table` as a `TableValue`, records of texts as bytes, numbers and lists.
+//! to an envelope or a refusal, put together from one small definition for each member
+//! (`specs/Members.antt`, `specs/DeclaredTables.antt`); `specs/EnvelopeFaults.antt` says to which
+//! texts each refusal applies, and that the least of them is returned (`IsLeastEnvelopeFault`). An
+//! `Ok` is the envelope that `envelope_of` gives, and a refusal is the one that it gives; only out
+//! of memory may be returned in place of either. Contracts see an `Envelope` as an `EnvelopeValue`,
+//! a `Header` as a `HeaderValue` and a `Table` as a `TableValue`, records of texts as bytes,
+//! numbers and lists.
 //!
 //! A watermark is a moment in UTC, in nanoseconds since 1970-01-01T00:00:00Z, of the years 1970 to
 //! 2261. `watermark` reads its text and doesn't allocate, `watermark_text` prints it, and so does
@@ -65,8 +66,8 @@ pub use header::Header;
 pub use id::{LONGEST_ID, is_id};
 pub use kind::Kind;
 pub use laws::{
-    declared_tables_have_their_forms, envelope_refusals_are_5_to_7, printed_watermarks_are_read,
-    refusals_are_least, watermarks_are_moments,
+    declared_tables_have_their_forms, printed_watermarks_are_read, refusals_are_least,
+    watermarks_are_moments,
 };
 pub use members::{MOST_RESEND, text_at};
 pub use moment::{END_OF_YEARS, moment_text, watermark, watermark_text};

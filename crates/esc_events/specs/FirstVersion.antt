@@ -1,6 +1,7 @@
 -- What a store of version 1 stands for.
 use Rattle.std.specs.Prelude.{◌≡◌, ℕ, List, [], ◌∷◌, map, None, Result}
 use Rattle.std.specs.List.{find}
+use Rattle.esc_bundle.specs.declared.refusal.Refusal.{Refusal}
 use Rattle.esc_tables.specs.DepositValue.{DepositValue}
 use Rattle.esc_manifest.specs.declared.row.MRow.{MRow}
 use Rattle.esc_chain.specs.Chain.{Rows, IsLatestChain}
@@ -17,7 +18,7 @@ use Rattle.esc_events.specs.StateAfter.{HaveBodies, arrived_body, deposits_of}
 abbrev pub events_before : List MRow → List ArrivalValue → List EventValue
 events_before m l = listed m ∷ map arrived_early l
 
-module _ (digest : List ℕ → List ℕ) (reads : List ℕ → Result DepositValue ℕ) where
+module _ (digest : List ℕ → List ℕ) (reads : List ℕ → Result DepositValue Refusal) where
   -- the arrivals of version 1 that are no duplicates: the manifest's rows were listed when each
   -- came
   abbrev pub first_arrivals : List MRow → List ArrivalValue → List Coming

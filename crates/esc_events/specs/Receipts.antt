@@ -4,6 +4,8 @@ use Rattle.std.specs.Prelude.{ℕ, Bool, false, ◌&&◌, ◌==◌, nat_eq, not,
 use Rattle.std.specs.Prelude.{[], ◌∷◌, ◌++◌, Option, Some, None, Result}
 use Rattle.std.specs.List.{list_any}
 use Rattle.std.specs.Str.{bytes_eq}
+use Rattle.esc_bundle.specs.declared.refusal.Refusal.{Refusal}
+use Rattle.esc_bundle.specs.Codes.{refusal_number}
 use Rattle.esc_tables.specs.DepositValue.{DepositValue}
 use Rattle.esc_store.specs.declared.reply.Verdict.{Verdict}
 use Rattle.esc_store.specs.declared.reply.Verdict.TheVariants.{A1, A2, A3, A4, A5}
@@ -47,7 +49,8 @@ refusal number digest verdict row = record {
 -- says of a deposit that is held whether an earlier receipt has the row with A1
 abbrev pub receipt_by : List ℕ → List ℕ → Bool → Assessment → Bool → ReceiptValue
 receipt_by number digest early Unlisted again = refusal number digest (unlisted_verdict early) None
-receipt_by number digest early (Unreadable r n) again = refusal number digest (A3 n) (Some r)
+receipt_by number digest early (Unreadable r why) again =
+    refusal number digest (A3 (refusal_number why)) (Some r)
 receipt_by number digest early (Differing r) again = refusal number digest A4 (Some r)
 receipt_by number digest early (Holding r d) again = record {
   number = number;
@@ -58,7 +61,7 @@ receipt_by number digest early (Holding r d) again = record {
   orphans = Some d.orphans;
 }
 
-module _ (digest : List ℕ → List ℕ) (reads : List ℕ → Result DepositValue ℕ) where
+module _ (digest : List ℕ → List ℕ) (reads : List ℕ → Result DepositValue Refusal) where
   -- equal in number and in the digest of the body
   abbrev pub alike : Coming → Coming → Bool
   alike a b = bytes_eq a.number b.number && bytes_eq (digest a.body) (digest b.body)

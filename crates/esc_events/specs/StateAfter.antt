@@ -5,6 +5,7 @@ use Rattle.std.specs.Prelude.{is_none, IsSome}
 use Rattle.std.specs.List.{find, Any}
 use Rattle.std.specs.Str.{bytes_eq}
 use Rattle.std.specs.FinSet as set
+use Rattle.esc_bundle.specs.declared.refusal.Refusal.{Refusal}
 use Rattle.esc_tables.specs.DepositValue.{DepositValue}
 use Rattle.esc_manifest.specs.declared.row.MRow.{MRow}
 use Rattle.esc_manifest.specs.ManifestRows.{no_row}
@@ -26,17 +27,17 @@ no_deposit = record {
   orphans = 0;
 }
 
-abbrev pub or_no_deposit : Result DepositValue ℕ → DepositValue
+abbrev pub or_no_deposit : Result DepositValue Refusal → DepositValue
 or_no_deposit (Ok d) = d
 or_no_deposit (Err n) = no_deposit
 
 -- the deposit that reads from a body
-abbrev pub deposit_of : (List ℕ → Result DepositValue ℕ) → Option (List ℕ) → DepositValue
+abbrev pub deposit_of : (List ℕ → Result DepositValue Refusal) → Option (List ℕ) → DepositValue
 deposit_of reads None = no_deposit
 deposit_of reads (Some body) = or_no_deposit (reads body)
 
 -- the deposits of rows, by the bodies that are held
-abbrev pub deposits_of : (List ℕ → Result DepositValue ℕ) → (ℕ → Option (List ℕ)) → List ℕ
+abbrev pub deposits_of : (List ℕ → Result DepositValue Refusal) → (ℕ → Option (List ℕ)) → List ℕ
     → List DepositValue
 deposits_of reads bodies rows = map (λ r. deposit_of reads (bodies r)) rows
 
@@ -57,7 +58,7 @@ arrived_body c = option_map (λ (c : Coming). c.body) c
 abbrev pub HaveBodies : (ℕ → Option (List ℕ)) → Rows → Type 0
 HaveBodies bodies held = (r : ℕ) → set.contains held r ≡ is_some (bodies r)
 
-module _ (digest : List ℕ → List ℕ) (reads : List ℕ → Result DepositValue ℕ) where
+module _ (digest : List ℕ → List ℕ) (reads : List ℕ → Result DepositValue Refusal) where
   -- the body of the arrival was not kept: it is an early one, and no row listed its body then
   abbrev pub is_lost : Coming → Bool
   is_lost c = c.early && is_none (row_with_digest c.rows (digest c.body))

@@ -12,6 +12,7 @@ use Rattle.std.proofs.lemmas.Slice.Eq.{bytes_eq-Decides}
 use Rattle.std.proofs.lemmas.Map.Made.{is_some-lookup}
 use Rattle.std.proofs.lemmas.Map.Keys.{IsDistinct-from_sorted}
 use Rattle.sha2.specs.Sha256.{sha256}
+use Rattle.esc_bundle.specs.declared.refusal.Refusal.{Refusal}
 use Rattle.esc_manifest.specs.declared.row.MRow.{MRow}
 use Rattle.esc_manifest.specs.ManifestRows.{resend_at, place_at}
 use Rattle.esc_tables.specs.DepositValue.{DepositValue}
@@ -72,7 +73,7 @@ no_other q held =
       | inr never ↦ absurd (true≢false (sym never))
     ]
 
-module _ (digest : List ℕ → List ℕ) (reads : List ℕ → Result DepositValue ℕ) (id : List ℕ) (w : ℤ) (es : List Entry) (body number : List ℕ)
+module _ (digest : List ℕ → List ℕ) (reads : List ℕ → Result DepositValue Refusal) (id : List ℕ) (w : ℤ) (es : List Entry) (body number : List ℕ)
     (full : reads body ≡ Ok (full_of id w es)) where
   abbrev row : MRow
   row = record { header = first_full_header id w; digest = digest body }

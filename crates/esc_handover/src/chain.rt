@@ -1,13 +1,10 @@
-//! What the bodies of a store say: whether they are as listed, and what those of the chain make.
+//! What the deposits of a chain make.
 
-use crate::progress::Progress;
 use crate::rebuild::apply_deposit;
 use esc_bundle::Fault;
 use esc_envelope::{Envelope, Table};
-use esc_store::{SFault, Store};
+use esc_store::StoreFault;
 use esc_tables::{Key, Object, read_bundled_envelope, read_deposit};
-use sha2::{Digest, Sha256};
-use sqlite::Alter;
 use std::alloc::Global;
 use std::collections::BTreeMap;
 
@@ -24,51 +21,6 @@ pub struct ChainFacts {
     pub are_read: bool,
 }
 
-// Whether the body that a store keeps for a row has the SHA-256 that the row lists.
-fn is_as_listed<S: Alter>(alloc: Global, store: &mut Store<S>, row: usize) -> Result<bool, SFault> {
-    let listed = store.manifest().rows().get(row).map(|row| row.digest);
-    let digest = store
-        .body_of(alloc, row)?
-        .map(|body| Sha256::digest(body.as_slice()));
-    Ok(digest.is_some() && digest == listed)
-}
-
-/// The rows among these whose body isn't there, or has another SHA-256 than listed. The bodies are
-/// read one at a time.
-pub(crate) fn spoiled_rows<S: Alter>(
-    alloc: Global,
-    store: &mut Store<S>,
-    held: &[usize],
-    progress: &mut Progress<'_>,
-) -> Result<Vec<usize>, SFault> {
-    let mut spoiled = Vec::new(alloc);
-    for (count, row) in held.iter().enumerate() {
-        progress.tell_read("bodies", count as u64, "bodies");
-        if !is_as_listed(alloc, store, *row)? {
-            spoiled.push(*row)?;
-        }
-    }
-    Ok(spoiled)
-}
-
-/// Adds what the deposits of a store's chain say. The bodies are read one at a time.
-pub(crate) fn read_chain<S: Alter>(
-    alloc: Global,
-    store: &mut Store<S>,
-    facts: &mut ChainFacts,
-    progress: &mut Progress<'_>,
-) -> Result<(), SFault> {
-    let steps = store.chain(alloc)?;
-    for (count, step) in steps.iter().enumerate() {
-        progress.tell_read("tables", count as u64, "bodies");
-        match store.body_of(alloc, step.row)? {
-            Some(body) => facts.add(alloc, &body)?,
-            None => facts.are_read = false,
-        }
-    }
-    Ok(())
-}
-
 impl ChainFacts {
     /// What no deposits say.
     pub(crate) fn new(alloc: Global) -> ChainFacts {
@@ -80,15 +32,15 @@ impl ChainFacts {
         }
     }
 
-    // Adds what the next body of the chain says.
-    fn add(&mut self, alloc: Global, body: &[u8]) -> Result<(), SFault> {
+    /// Adds what the next body of the chain says. `S2`.
+    pub fn add(&mut self, alloc: Global, body: &[u8]) -> Result<(), StoreFault> {
         match self.add_deposit(alloc, body) {
             Ok(()) => Ok(()),
             Err(Fault::Refused(_)) => {
                 self.are_read = false;
                 Ok(())
             }
-            Err(Fault::NoMemory) => Err(SFault::S2),
+            Err(Fault::NoMemory) => Err(StoreFault::NoMemory),
         }
     }
 

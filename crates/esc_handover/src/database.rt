@@ -8,7 +8,7 @@ use crate::table_text::text_in;
 use crate::writing_fault::WritingFault;
 use esc_apply::Objects;
 use esc_bundle::NoMemory;
-use esc_store::SFault;
+use esc_store::StoreFault;
 use esc_tables::{Key, Object, Row};
 use sqlite::types::ValueRef;
 use sqlite::{Alter, Connection, Error, ErrorCode, File, FileStore, Statement};
@@ -40,7 +40,7 @@ impl Database {
         progress: &mut Progress<'_>,
     ) -> Result<(), Stop>
     where
-        O: Objects<Error = SFault> + Drop,
+        O: Objects<Error = StoreFault> + Drop,
     {
         let filled = self.fill(folder.alloc(), objects, layout, progress);
         folder.or_stop_writing(filled)
@@ -70,7 +70,7 @@ impl Database {
         folder.add_sum(REGISTRY)
     }
 
-    fn close(self) -> Result<(), WritingFault<SFault>> {
+    fn close(self) -> Result<(), WritingFault<StoreFault>> {
         let Database { mut connection } = self;
         connection.execute("COMMIT", &[])?;
         connection.close()?;
@@ -79,7 +79,7 @@ impl Database {
 }
 
 // A new database in a file, where a transaction is begun.
-fn database_at(rt: &HostRuntime, path: &str) -> Result<Database, WritingFault<SFault>> {
+fn database_at(rt: &HostRuntime, path: &str) -> Result<Database, WritingFault<StoreFault>> {
     let mut connection = Connection::open(rt, path)?;
     connection.execute("BEGIN", &[])?;
     Ok(Database { connection })

@@ -120,13 +120,13 @@ fn findings_detail(alloc: Global, seen: &Seen<'_>) -> Result<String, NoMemory> {
     let Some(first) = seen.findings.first() else {
         return Ok(String::new(alloc));
     };
-    let code = first.code;
+    let rule = first.rule;
     let kind = first.kind.name();
     let key = one_line(alloc, first.key.as_str())?;
     let field = first.field.as_str();
     let gap = if key.is_empty() { "" } else { " " };
     Ok(format!(in alloc;
-        "{count}, the first V{code} {kind}{gap}{key} {field}; see `restore report links`"
+        "{count}, the first {rule} {kind}{gap}{key} {field}; see `restore report links`"
     )?)
 }
 

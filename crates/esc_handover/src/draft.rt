@@ -2,19 +2,12 @@
 //! again (`bundle_of`).
 
 use crate::refusal::BundleRefusal;
-use esc_bundle::{NoMemory, write_bundle};
+use esc_bundle::{NoMemory, Refusal, write_bundle};
 use esc_csv::Lines;
 use esc_envelope::{Kind, is_id, watermark_text};
 use esc_tables::{Key, MOST_ROWS, Object, Row};
 use std::alloc::Global;
 use std::collections::BTreeMap;
-
-/// U4: there are over 63 tables, and so over 64 sections.
-const OVER_LIMIT: u8 = 4;
-/// U6: the id or the watermark has another form.
-const WRONG_MEMBER: u8 = 6;
-/// U11: there are over 100,000 rows.
-const TOO_MANY_ROWS: u8 = 11;
 
 /// The most tables of a bundle: each is a section after the envelope.
 const MOST_TABLES: usize = 63;
@@ -96,12 +89,12 @@ impl<'a> Draft<'a> {
 
     fn add_row(&mut self, key: &Key, is_parent: bool, row: &'a Row) -> Result<(), BundleRefusal> {
         if self.rows >= MOST_ROWS {
-            return Err(BundleRefusal::Refused(TOO_MANY_ROWS));
+            return Err(BundleRefusal::Refused(Refusal::TooManyRows));
         }
         self.rows += 1;
         let at = self.sheet_for(key.kind, is_parent, row)?;
         let Some(sheet) = self.sheets.get_mut(at) else {
-            return Err(BundleRefusal::Refused(OVER_LIMIT));
+            return Err(BundleRefusal::Refused(Refusal::OverLimit));
         };
         if !sheet.takes(key.kind, is_parent, row) {
             return Err(BundleRefusal::Mixed(String::from_str(self.alloc, row.table())?));
@@ -125,7 +118,7 @@ impl<'a> Draft<'a> {
         }
         let at = self.sheets.len();
         if at >= MOST_TABLES {
-            return Err(BundleRefusal::Refused(OVER_LIMIT));
+            return Err(BundleRefusal::Refused(Refusal::OverLimit));
         }
         self.sheets.push(Sheet {
             kind,
@@ -170,10 +163,10 @@ fn push_header(
     watermark: i64,
 ) -> Result<(), BundleRefusal> {
     if !is_id(id) {
-        return Err(BundleRefusal::Refused(WRONG_MEMBER));
+        return Err(BundleRefusal::Refused(Refusal::WrongMember));
     }
     let Some(moment) = watermark_text(alloc, watermark)? else {
-        return Err(BundleRefusal::Refused(WRONG_MEMBER));
+        return Err(BundleRefusal::Refused(Refusal::WrongMember));
     };
     write!(
         text,

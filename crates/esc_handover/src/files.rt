@@ -1,7 +1,7 @@
 //! Writes a file in one step, and says why one can't be opened.
 
 use crate::stop::{Stop, or_stop};
-use esc_store::SFault;
+use esc_store::{Cause, StoreFault};
 use std::fs::{self, File};
 use std::io::{Error, ErrorKind, Write};
 
@@ -11,7 +11,7 @@ pub fn unopened_stop(rt: &HostRuntime, path: &str) -> Stop {
     let opened = File::options().read(true).write(true).open(rt, path);
     or_stop(rt, path, opened)
         .err()
-        .unwrap_or(Stop::Store(SFault::S1))
+        .unwrap_or(Stop::Store(StoreFault::Failed(Cause::Unopened)))
 }
 
 /// Writes a new file: beside its place first, and from there to its place in one step, so that

@@ -5,7 +5,7 @@ use crate::stop::{Stop, or_stop};
 use crate::sums::digest_of;
 use crate::writing_fault::WritingFault;
 use esc_cli::path_in;
-use esc_store::SFault;
+use esc_store::StoreFault;
 use std::alloc::Global;
 use std::fs::{self, File};
 use std::io::{Error, ErrorKind};
@@ -121,7 +121,7 @@ impl<'a> NewFolder<'a> {
     /// What came of a table in it, or the stop for that.
     pub(crate) fn or_stop_writing<T>(
         &self,
-        written: Result<T, WritingFault<SFault>>,
+        written: Result<T, WritingFault<StoreFault>>,
     ) -> Result<T, Stop> {
         match written {
             Ok(value) => Ok(value),

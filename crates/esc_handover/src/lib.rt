@@ -26,16 +26,15 @@
 //! little memory. `text_in` gives the text of a field in a row, and `repeated` finds names that are
 //! the same but for case. `digest_of` is the SHA-256 of what a reader gives.
 //!
-//! What `handover` does without its desk is here, too. [`StoreFacts`] is what a desk and the bodies
-//! of its store say: `gaps_of`, `read_findings`, `read_bodies` and `are_made_by` find it, and
-//! `answer_of` makes the lines or the page of it. `bundle_or_stop` gives the bundle, and
+//! What `handover` does without its store is here, too. [`StoreFacts`] is what a store and its
+//! bodies say: `gaps_of`, `read_findings` and `are_made_by` find it, and `answer_of` makes the lines
+//! or the page of it. `bundle_or_stop` gives the bundle, and
 //! `place_file` writes a file in one step. `check_layouts` says whether tables can be files; then
 //! `write_table_file` and a [`Database`] write them to a [`NewFolder`], with their sums. A
 //! [`Progress`] tells on standard error how far that is, where it takes long. A [`Stop`] says what
 //! all of this stops for, in a line and a status.
 //!
 //! ```text
-//! let tables = desk.tables(alloc)?;
 //! let body = bundle_of(alloc, "F20", end.watermark, &tables)?;   // the next deposit
 //!
 //! for line in &lines_of(alloc, &seen)? {
@@ -44,10 +43,10 @@
 //! }
 //! let page = page_of(alloc, &seen, &receipts, &parked)?;         // HTML, for a browser
 //!
-//! let names = table_names_from(alloc, &mut desk.walk(alloc, None)?, Kind::Domain)?;
-//! for layout in &layouts_from(alloc, &mut desk.walk(alloc, None)?, names)? {
+//! let names = table_names_from(alloc, &mut walk(alloc, reader, None)?, Kind::Domain)?;
+//! for layout in &layouts_from(alloc, &mut walk(alloc, reader, None)?, names)? {
 //!     // domain with the columns name, clID; domainNs with domainName, hostName
-//!     write_table(alloc, &mut output, &mut desk.walk(alloc, None)?, layout)?;
+//!     write_table(alloc, &mut output, &mut walk(alloc, reader, None)?, layout)?;
 //! }
 //! ```
 //!
@@ -140,7 +139,7 @@ pub use refusal::BundleRefusal;
 pub use registry_bundle::{bundle_or_stop, check_object_count};
 pub use seen::Seen;
 pub use stop::{REFUSED, Stop, or_stop, tell_stop};
-pub use store_facts::{Answer, Form, StoreFacts, answer_of, entries_of, read_bodies};
+pub use store_facts::{Answer, Form, StoreFacts, answer_of, entries_of};
 pub use sums::digest_of;
 pub use table_file::write_table_file;
 pub use table_name::{TableName, table_names_from};

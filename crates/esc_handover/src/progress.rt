@@ -51,7 +51,7 @@ impl<'a> Progress<'a> {
 
     /// Tells how many of these things were read for a file, a kind or a test, unless a line was
     /// told shortly before.
-    pub(crate) fn tell_read(&mut self, name: &str, count: u64, things: &str) {
+    pub fn tell_read(&mut self, name: &str, count: u64, things: &str) {
         if self.is_asked && self.is_due() {
             let line = format!(in self.rt.alloc(); "{name}: {count} {things} read\n");
             self.tell(line);

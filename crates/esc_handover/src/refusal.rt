@@ -3,7 +3,7 @@
 ghost use Rattle.std.specs.Prelude.{◌≡◌};
 ghost use Rattle.esc_handover.specs.declared.refusal.BundleRefusal.TheVariants.{NoMemory as no_memory};
 
-use esc_bundle::{Fault, NoMemory};
+use esc_bundle::{Fault, NoMemory, Refusal};
 use std::alloc::{AllocError, AllocFailed};
 use std::error::Error;
 use std::fmt;
@@ -11,10 +11,10 @@ use std::fmt;
 /// Why the tables of a registry are no bundle.
 #[derive(Debug, Drop)]
 pub enum BundleRefusal {
-    /// What was made is no deposit, by the refusal of this number from U1 to U11. 4: it would have
-    /// over 16,777,216 bytes, or over 63 tables. 6: the id or the watermark has another form. 11:
-    /// it would have over 100,000 rows.
-    Refused(u8),
+    /// What was made is no deposit, by this refusal. `OverLimit`: it would have over 16,777,216
+    /// bytes, or over 63 tables. `WrongMember`: the id or the watermark has another form.
+    /// `TooManyRows`: it would have over 100,000 rows.
+    Refused(Refusal),
     /// Two rows of this table can't be declared together: they have different fields, are of
     /// different kinds, or one is a parent row and the other isn't.
     Mixed(String),
@@ -31,7 +31,7 @@ pub enum BundleRefusal {
 impl fmt::Display for BundleRefusal {
     fn fmt<W: fmt::Write>(&self, f: &mut fmt::Formatter<W>) -> fmt::Result {
         match self {
-            BundleRefusal::Refused(code) => write!(f, "U{code}"),
+            BundleRefusal::Refused(refusal) => write!(f, "{refusal}"),
             BundleRefusal::Mixed(table) => write!(f, "rows of {table} with different fields"),
             BundleRefusal::Unkeyed(table) => write!(f, "no key field in {table}"),
             BundleRefusal::Marked(table) => write!(f, "byte order mark in {table}"),
@@ -46,7 +46,7 @@ impl Error for BundleRefusal {}
 impl From<Fault> for BundleRefusal {
     fn from(fault: Fault) -> BundleRefusal {
         match fault {
-            Fault::Refused(code) => BundleRefusal::Refused(code),
+            Fault::Refused(refusal) => BundleRefusal::Refused(refusal),
             Fault::NoMemory => BundleRefusal::NoMemory,
         }
     }

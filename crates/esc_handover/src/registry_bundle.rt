@@ -3,13 +3,11 @@
 use crate::bundle::bundle_of;
 use crate::refusal::BundleRefusal;
 use crate::stop::Stop;
+use esc_bundle::Refusal;
 use esc_envelope::Kind;
 use esc_tables::{Key, MOST_ROWS, Object};
 use std::alloc::Global;
 use std::collections::BTreeMap;
-
-/// U11: there are over 100,000 rows.
-const TOO_MANY_ROWS: u8 = 11;
 
 /// `U11` of a bundle at this path, if there are more objects than it has rows. They needn't be read
 /// for that.
@@ -22,7 +20,7 @@ pub fn check_object_count(
         .values()
         .fold(0u64, |count, number| count.saturating_add(*number));
     if count > MOST_ROWS as u64 {
-        let refusal = BundleRefusal::Refused(TOO_MANY_ROWS);
+        let refusal = BundleRefusal::Refused(Refusal::TooManyRows);
         return Err(Stop::unbundled(alloc, refusal, path));
     }
     Ok(())

@@ -4,7 +4,7 @@ use crate::refusal::BundleRefusal;
 use esc_bundle::NoMemory;
 use esc_check::StreamFault;
 use esc_cli::OneLine;
-use esc_store::SFault;
+use esc_store::StoreFault;
 use std::alloc::{AllocError, AllocFailed, Global};
 use std::fmt;
 use std::io::{Error, ErrorKind, Write};
@@ -21,7 +21,7 @@ pub enum Stop {
     /// `E1`: a file or folder can't be read or written. Standard output is `-`.
     Unreadable(String),
     /// `S1` to `S3`: the store fails, or memory was refused.
-    Store(SFault),
+    Store(StoreFault),
     /// The tables are no bundle, which was to be at this path.
     Unbundled {
         refusal: BundleRefusal,
@@ -37,7 +37,7 @@ pub enum Stop {
 
 impl Stop {
     /// Out of memory: `S2`.
-    pub const NO_MEMORY: Stop = Stop::Store(SFault::S2);
+    pub const NO_MEMORY: Stop = Stop::Store(StoreFault::NoMemory);
 
     // The stop for a path that can't be read or written.
     fn at(rt: &HostRuntime, path: &str, error: &Error) -> Stop {
@@ -88,7 +88,7 @@ fn fmt_unbundled<W: fmt::Write>(
     path: OneLine<'_>,
 ) -> fmt::Result {
     match refusal {
-        BundleRefusal::Refused(code) => write!(f, "U{code} {path}"),
+        BundleRefusal::Refused(refusal) => write!(f, "{refusal} {path}"),
         BundleRefusal::Mixed(table) => write!(f, "H4 {}", OneLine(table.as_str())),
         BundleRefusal::Unkeyed(table) => write!(f, "H5 {}", OneLine(table.as_str())),
         BundleRefusal::Marked(table) => write!(f, "H6 {}", OneLine(table.as_str())),
@@ -97,14 +97,14 @@ fn fmt_unbundled<W: fmt::Write>(
     }
 }
 
-impl From<SFault> for Stop {
-    fn from(fault: SFault) -> Stop {
+impl From<StoreFault> for Stop {
+    fn from(fault: StoreFault) -> Stop {
         Stop::Store(fault)
     }
 }
 
-impl From<StreamFault<SFault>> for Stop {
-    fn from(fault: StreamFault<SFault>) -> Stop {
+impl From<StreamFault<StoreFault>> for Stop {
+    fn from(fault: StreamFault<StoreFault>) -> Stop {
         match fault {
             StreamFault::Source(fault) => Stop::Store(fault),
             StreamFault::NoMemory => Stop::NO_MEMORY,

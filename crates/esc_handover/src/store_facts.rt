@@ -4,10 +4,9 @@ ghost use Rattle.std.specs.Prelude.{◌≡◌, IfOk};
 ghost use Rattle.esc_html.specs.Markup.{IsHtmlPage};
 
 use crate::acceptance::is_accepted;
-use crate::chain::{ChainFacts, read_chain, spoiled_rows};
+use crate::chain::ChainFacts;
 use crate::line::lines_of;
 use crate::page::page_of;
-use crate::progress::Progress;
 use crate::seen::Seen;
 use crate::stop::REFUSED;
 use esc_bundle::NoMemory;
@@ -16,8 +15,7 @@ use esc_check::Finding;
 use esc_cli::DONE;
 use esc_envelope::{Kind, Place};
 use esc_events::ParkedBody;
-use esc_store::{Reply, SFault, Store};
-use sqlite::Alter;
+use esc_store::Reply;
 use std::alloc::Global;
 use std::collections::BTreeMap;
 
@@ -111,18 +109,6 @@ pub fn entries_of(
         entries.push((*kind, *number))?;
     }
     Ok(entries)
-}
-
-/// Reads what the bodies of a store say: which of the held rows are spoiled, and what the deposits
-/// of the chain make.
-pub fn read_bodies<S: Alter>(
-    alloc: Global,
-    store: &mut Store<S>,
-    facts: &mut StoreFacts,
-    progress: &mut Progress<'_>,
-) -> Result<(), SFault> {
-    facts.spoiled = spoiled_rows(alloc, store, &facts.held, progress)?;
-    read_chain(alloc, store, &mut facts.chain, progress)
 }
 
 /// The lines or the page of what was seen of a store.

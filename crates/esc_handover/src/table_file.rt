@@ -8,7 +8,7 @@ use crate::table_text::write_table;
 use crate::writing_fault::WritingFault;
 use esc_apply::Objects;
 use esc_bundle::NoMemory;
-use esc_store::SFault;
+use esc_store::StoreFault;
 use std::alloc::Global;
 use std::fs::File;
 use std::io::{BufWriter, Error};
@@ -22,7 +22,7 @@ pub fn write_table_file<O>(
     progress: &mut Progress<'_>,
 ) -> Result<(), Stop>
 where
-    O: Objects<Error = SFault> + Drop,
+    O: Objects<Error = StoreFault> + Drop,
 {
     let name = file_name(folder.alloc(), layout)?;
     let file = folder.create_file(name.as_str())?;

@@ -6,7 +6,7 @@ use Rattle.std.specs.Io.KnownBytes.{Consumes, prepend_known}
 use Rattle.sqlite_trees.specs.declared.store.Store.{Ghosts}
 use Rattle.httparse.specs.Grammar.{RequestHead, print_request}
 use Rattle.httparse.proofs.GrammarLemmas.{ReadsRequest-append}
-use Rattle.esc_store.specs.declared.fault.SFault.TheVariants.{S2}
+use Rattle.esc_store.specs.declared.fault.StoreFault.TheVariants.{NoMemory}
 use Rattle.esc_store.specs.StandingLaws.{survives_same, was_clean}
 use Rattle.esc_events.specs.ArrivalValue.{ArrivalValue}
 use Rattle.esc_events.specs.Events.{EventValue}
@@ -114,7 +114,7 @@ module _ {S : Type 0} (g : Ghosts S) (desk : Desk S) where
   lost_by_memory : (a : ArrivalValue) → LosesArrival g desk desk a out_of_memory
   lost_by_memory a = record {
     kept = λ e serves. serves;
-    fault = S2;
+    fault = NoMemory;
     is_one = inr (inr (inr refl));
     cause = λ clean e serves. tt;
     left = λ e doubtful serves left. doubted g desk e doubtful (arrived a) left;
@@ -125,7 +125,7 @@ module _ {S : Type 0} (g : Ghosts S) (desk : Desk S) where
   pub memory_answers : (request : Request) → IsAnswered g desk desk request out_of_memory
   memory_answers (refused refusal) = (refl, inr refl)
   memory_answers (arrives a) = inr (lost_by_memory a)
-  memory_answers (wants report) = (stays_itself, leaves_still g desk desk stays_itself, inr (record { fault = S2; cause = inr refl; sends = inr refl }))
+  memory_answers (wants report) = (stays_itself, leaves_still g desk desk stays_itself, inr (record { fault = NoMemory; cause = inr refl; sends = inr refl }))
 
   -- so it does whatever the input is
   pub memory_answers_some : (o : Option (List ℕ)) (plan : RequestPlan) → (request : Request) × IfSome o (λ rest. request ≡ request_with_body plan rest) × IsAnswered g desk desk request out_of_memory

@@ -5,8 +5,8 @@ use Rattle.std.specs.Global.{Vec}
 use Rattle.sqlite_trees.specs.declared.store.Store.{Ghosts}
 use Rattle.httparse.specs.Grammar.{RequestHead}
 use Rattle.esc_apply.specs.declared.moves.Work.{Work}
-use Rattle.esc_store.specs.declared.fault.SFault.{SFault}
-use Rattle.esc_store.specs.Faults.{IsS1OrS2, IsS1OrS2OrS4OrS5}
+use Rattle.esc_store.specs.declared.fault.StoreFault.{StoreFault}
+use Rattle.esc_store.specs.Faults.{IsFailure, IsArrivalFault}
 use Rattle.esc_store.specs.ReplyValue.{ReplyValue}
 use Rattle.esc_desk.specs.declared.desk.Desk.{Desk}
 use Rattle.esc_events.specs.ArrivalValue.{ArrivalValue, an_arrival}
@@ -82,13 +82,13 @@ IsOrMemory expected text = (text ≡ expected) ⊎ (text ≡ out_of_memory)
 -- no report was made, by this fault, which the text gives: the store failed (S1), or memory was
 -- refused (S2)
 pub record GivesFault (text : List ℕ) : Type 0 where
-  pub fault : SFault
-  pub cause : IsS1OrS2 fault
+  pub fault : StoreFault
+  pub cause : IsFailure fault
   pub sends : IsOrMemory (fault_response fault) text
 
 module _ {S : Type 0} (g : Ghosts S) (old new : Desk S) where
   -- what a crash leaves after an arrival, by what came of it
-  abbrev pub LeavesAfter : ArrivalValue → Result ReplyValue SFault → Type 0
+  abbrev pub LeavesAfter : ArrivalValue → Result ReplyValue StoreFault → Type 0
   LeavesAfter a result =
       ForEventsInDoubt g old (λ e doubtful. DeskLeavesTaken g new e doubtful a result)
 
@@ -109,8 +109,8 @@ module _ {S : Type 0} (g : Ghosts S) (old new : Desk S) where
   -- S5 only if there is no place to park its body
   pub record LosesArrival (a : ArrivalValue) (text : List ℕ) : Type 0 where
     pub kept : StillReflects g old new
-    pub fault : SFault
-    pub is_one : IsS1OrS2OrS4OrS5 fault
+    pub fault : StoreFault
+    pub is_one : IsArrivalFault fault
     pub cause : ForDeskEvents g old new (λ e. IsCause e a fault)
     pub left : LeavesAfter a (Err fault)
     pub sends : IsOrMemory (fault_response fault) text

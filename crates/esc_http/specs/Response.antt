@@ -1,7 +1,7 @@
 -- The responses with a reply, a report or a refusal of the desk (this project's profile).
 use Rattle.std.specs.Prelude.{ℕ, List, [], codes}
-use Rattle.esc_store.specs.declared.fault.SFault.{SFault}
-use Rattle.esc_store.specs.declared.fault.SFault.TheVariants.{S1, S2, S3, S4, S5}
+use Rattle.esc_store.specs.declared.fault.StoreFault.{StoreFault}
+use Rattle.esc_store.specs.declared.fault.StoreFault.TheVariants.{Failed, NoMemory, NotAStore, NoRoom, NoPlace}
 use Rattle.esc_store.specs.declared.reply.Verdict.{Verdict}
 use Rattle.esc_store.specs.declared.reply.Verdict.TheVariants.{A1, A2, A3, A4, A5}
 use Rattle.esc_store.specs.ReplyValue.{ReplyValue}
@@ -14,12 +14,12 @@ use Rattle.esc_http.specs.declared.serving.ServeFault.{ServeFault}
 use Rattle.esc_http.specs.declared.serving.ServeFault.TheVariants.{Read, Write}
 
 -- a fault of the desk; an open store never returns S3
-abbrev pub fault_response : SFault → List ℕ
-fault_response S1 = unavailable (codes "S1\n")
-fault_response S2 = unavailable (codes "S2\n")
-fault_response S3 = unavailable (codes "S1\n")
-fault_response S4 = unavailable (codes "S4\n")
-fault_response S5 = unavailable (codes "S5\n")
+abbrev pub fault_response : StoreFault → List ℕ
+fault_response (Failed cause) = unavailable (codes "S1\n")
+fault_response NoMemory = unavailable (codes "S2\n")
+fault_response NotAStore = unavailable (codes "S1\n")
+fault_response NoRoom = unavailable (codes "S4\n")
+fault_response NoPlace = unavailable (codes "S5\n")
 
 -- the deposit is held, its body is parked, or neither
 abbrev pub reply_status : Verdict → List ℕ

@@ -5,21 +5,21 @@ ghost use Rattle.std.specs.Prelude.{◌≡◌, IfSome};
 ghost use Rattle.esc_http.specs.Response.{fault_response, reply_status, reply_response};
 ghost use Rattle.esc_http.specs.Response.{report_media, report_response};
 
-use esc_desk::{Reply, SFault, Verdict};
+use esc_desk::{Reply, StoreFault, Verdict};
 use esc_reports::{Report, reply_text};
 use esc_request::response;
 use std::alloc::Global;
 
 /// The response with a fault of the desk: 503, and `S1`, `S2`, `S4` or `S5`. `S3`, which no open
 /// store returns, is `S1`.
-pub(crate) fn fault_response(alloc: Global, fault: SFault) -> Option<Vec<u8>>
+pub(crate) fn fault_response(alloc: Global, fault: StoreFault) -> Option<Vec<u8>>
     ensures { IfSome result (λ text. text.items ≡ fault_response fault) }
 {
     let words: &[u8] = match fault {
-        SFault::S1 | SFault::S3 => b"S1\n",
-        SFault::S2 => b"S2\n",
-        SFault::S4 => b"S4\n",
-        SFault::S5 => b"S5\n",
+        StoreFault::Failed(_) | StoreFault::NotAStore => b"S1\n",
+        StoreFault::NoMemory => b"S2\n",
+        StoreFault::NoRoom => b"S4\n",
+        StoreFault::NoPlace => b"S5\n",
     };
     response(alloc, "503 Service Unavailable", "text/plain", "", words)
 }

@@ -8,6 +8,8 @@ use Rattle.std.proofs.lemmas.List.Elements.{All-filter, filter_passes}
 use Rattle.std.proofs.lemmas.List.Folds.{Any-from_list_any, list_any_at}
 use Rattle.std.proofs.lemmas.List.Kept.{AllPairs-filter}
 use Rattle.std.proofs.lemmas.List.Quantifiers.{position-Some}
+use Rattle.esc_manifest.specs.declared.refusal.ManifestRefusal.{ManifestRefusal}
+use Rattle.esc_manifest.specs.declared.refusal.ManifestRefusal.TheVariants.{OverLimit, NotSixFields, WrongHeading, WrongId, WrongType, WrongWatermark, MissingPrev, WrongResend, WrongDigest, RepeatedRevision, MovedId, LatePrev, RepeatedDigest}
 use Rattle.esc_manifest.specs.declared.row.MRow.{MRow}
 use Rattle.esc_manifest.specs.Accepted.{IsAccepted}
 use Rattle.esc_manifest.specs.Extension.{is_listed, new_rows, extended, is_blamed, row_or_whole, blamed}
@@ -20,15 +22,11 @@ use Rattle.esc_manifest.proofs.Positions.{fails_at}
 
 -- ---- the test by which a row is blamed, and what it says
 
-abbrev test : ℕ → List MRow → MRow → Bool
+abbrev test : ManifestRefusal → List MRow → MRow → Bool
 test code m x = not (is_listed m x) && is_blamed code m x
 
 some_row : (passes : MRow → Bool) (m : List MRow) → list_any passes m ≡ true → (q : ℕ) × (q < length m) × (passes (row_at m q) ≡ true)
 some_row passes m found = let (k, x, lt, is, holds) = Any-from_list_any passes m found in (k, lt, ap passes (get_or_default m k no_row x lt ∙ is) ∙ holds)
-
--- one number of several
-one_number : (code n : ℕ) (here rest : Bool) → (if code == n then here else rest) ≡ true → ((code ≡ n) × (here ≡ true)) ⊎ (rest ≡ true)
-one_number code n here rest holds = elim (cases_Bool (code == n)) [ inl e ↦ inl (eqb-true code n e, rw e at holds) | inr e ↦ inr (rw e at holds) ]
 
 either_names : (m : List MRow) (x : MRow) → (list_any (λ q. follows_later q x) m || list_any (λ q. follows_later x q) m) ≡ true
     → (q : ℕ) × (q < length m) × ((follows_later (row_at m q) x ≡ true) ⊎ (follows_later x (row_at m q) ≡ true))
@@ -37,35 +35,35 @@ either_names m x holds = elim (or_cases (list_any (λ q. follows_later q x) m) (
   | inr e ↦ let (q, lt, is) = some_row (λ q. follows_later x q) m e in (q, lt, inr is)
 ]
 
-contradicts : (code : ℕ) (m : List MRow) (x : MRow) → is_blamed code m x ≡ true → (q : ℕ) × (q < length m) × Contradict code (row_at m q) x
-contradicts code m x holds = elim (one_number code 10 _ _ holds) [
-  | inl e ↦ let (q, lt, is) = some_row (λ q. same_revision q x) m e.1 in (q, lt, inl (e.0, is))
-  | inr after ↦ elim (one_number code 11 _ _ after) [
-    | inl e ↦ let (q, lt, is) = some_row (λ q. moved_id q x) m e.1 in (q, lt, inr (inl (e.0, is)))
-    | inr later ↦ elim (one_number code 12 _ _ later) [
-      | inl e ↦ let (q, lt, is) = either_names m x e.1 in (q, lt, inr (inr (inl (e.0, is))))
-      | inr last ↦ elim (one_number code 13 _ false last) [
-        | inl e ↦ let (q, lt, is) = some_row (λ q. same_digest q x) m e.1 in (q, lt, inr (inr (inr (e.0, is))))
-        | inr none ↦ absurd cc
-      ]
-    ]
-  ]
-]
+contradicts : (code : ManifestRefusal) (m : List MRow) (x : MRow) → is_blamed code m x ≡ true → (q : ℕ) × (q < length m) × Contradict code (row_at m q) x
+contradicts RepeatedRevision m x holds = let (q, lt, is) = some_row (λ q. same_revision q x) m holds in (q, lt, inl (refl, is))
+contradicts MovedId m x holds = let (q, lt, is) = some_row (λ q. moved_id q x) m holds in (q, lt, inr (inl (refl, is)))
+contradicts LatePrev m x holds = let (q, lt, is) = either_names m x holds in (q, lt, inr (inr (inl (refl, is))))
+contradicts RepeatedDigest m x holds = let (q, lt, is) = some_row (λ q. same_digest q x) m holds in (q, lt, inr (inr (inr (refl, is))))
+contradicts OverLimit m x holds = absurd cc
+contradicts NotSixFields m x holds = absurd cc
+contradicts WrongHeading m x holds = absurd cc
+contradicts WrongId m x holds = absurd cc
+contradicts WrongType m x holds = absurd cc
+contradicts WrongWatermark m x holds = absurd cc
+contradicts MissingPrev m x holds = absurd cc
+contradicts WrongResend m x holds = absurd cc
+contradicts WrongDigest m x holds = absurd cc
 
-is_blamed_for : (code : ℕ) (m : List MRow) (x : MRow) (q : ℕ) → q < length m → Contradict code (row_at m q) x → is_blamed code m x ≡ true
-is_blamed_for code m x q lt (inl (e, is)) = subst (λ (n : ℕ). is_blamed n m x ≡ true) (sym e) (list_any_at (λ q. same_revision q x) m q no_row lt is)
-is_blamed_for code m x q lt (inr (inl (e, is))) = subst (λ (n : ℕ). is_blamed n m x ≡ true) (sym e) (list_any_at (λ q. moved_id q x) m q no_row lt is)
+is_blamed_for : (code : ManifestRefusal) (m : List MRow) (x : MRow) (q : ℕ) → q < length m → Contradict code (row_at m q) x → is_blamed code m x ≡ true
+is_blamed_for code m x q lt (inl (e, is)) = subst (λ (n : ManifestRefusal). is_blamed n m x ≡ true) (sym e) (list_any_at (λ q. same_revision q x) m q no_row lt is)
+is_blamed_for code m x q lt (inr (inl (e, is))) = subst (λ (n : ManifestRefusal). is_blamed n m x ≡ true) (sym e) (list_any_at (λ q. moved_id q x) m q no_row lt is)
 is_blamed_for code m x q lt (inr (inr (inl (e, inl is)))) =
-    subst (λ (n : ℕ). is_blamed n m x ≡ true) (sym e) (or_left (list_any (λ q. follows_later q x) m) _ (list_any_at (λ q. follows_later q x) m q no_row lt is))
+    subst (λ (n : ManifestRefusal). is_blamed n m x ≡ true) (sym e) (or_left (list_any (λ q. follows_later q x) m) _ (list_any_at (λ q. follows_later q x) m q no_row lt is))
 is_blamed_for code m x q lt (inr (inr (inl (e, inr is)))) =
-    subst (λ (n : ℕ). is_blamed n m x ≡ true) (sym e) (or_right (list_any (λ q. follows_later q x) m) _ (list_any_at (λ q. follows_later x q) m q no_row lt is))
-is_blamed_for code m x q lt (inr (inr (inr (e, is)))) = subst (λ (n : ℕ). is_blamed n m x ≡ true) (sym e) (list_any_at (λ q. same_digest q x) m q no_row lt is)
+    subst (λ (n : ManifestRefusal). is_blamed n m x ≡ true) (sym e) (or_right (list_any (λ q. follows_later q x) m) _ (list_any_at (λ q. follows_later x q) m q no_row lt is))
+is_blamed_for code m x q lt (inr (inr (inr (e, is)))) = subst (λ (n : ManifestRefusal). is_blamed n m x ≡ true) (sym e) (list_any_at (λ q. same_digest q x) m q no_row lt is)
 
-passes : (code : ℕ) (m more : List MRow) (k : ℕ) → IsBlamed m more code k → test code m (row_at more k) ≡ true
+passes : (code : ManifestRefusal) (m more : List MRow) (k : ℕ) → IsBlamed m more code k → test code m (row_at more k) ≡ true
 passes code m more k (lt, new, (q, in_m, against)) =
     and_from (not (is_listed m (row_at more k))) (is_blamed code m (row_at more k)) (not_from_false (is_listed m (row_at more k)) new) (is_blamed_for code m (row_at more k) q in_m against)
 
-is_blamed_at : (code : ℕ) (m more : List MRow) (r : ℕ) → r < length more → test code m (row_at more r) ≡ true → IsBlamed m more code r
+is_blamed_at : (code : ManifestRefusal) (m more : List MRow) (r : ℕ) → r < length more → test code m (row_at more r) ≡ true → IsBlamed m more code r
 is_blamed_at code m more r lt holds =
     let (new, against) = and_parts (not (is_listed m (row_at more r))) (is_blamed code m (row_at more r)) holds in
     (lt, not-true (is_listed m (row_at more r)) new, contradicts code m (row_at more r) against)
@@ -141,7 +139,7 @@ not_blamed true blame e new = absurd cc
 not_blamed false blame e new = e
 
 -- where no row is blamed, no new row has the fault with a row of m
-new_unblamed : (code : ℕ) (m more : List MRow) → position (test code m) more ≡ None → All (λ x. is_blamed code m x ≡ false) (new_rows m more)
+new_unblamed : (code : ManifestRefusal) (m more : List MRow) → position (test code m) more ≡ None → All (λ x. is_blamed code m x ≡ false) (new_rows m more)
 new_unblamed code m more none =
     let keep : MRow → Bool = λ x. not (is_listed m x) in
     let each = kept_all (λ x. not (is_listed m x) ≡ true → is_blamed code m x ≡ false) keep more
@@ -159,17 +157,17 @@ no_clash against u apart r lt found =
 
 module _ (m more : List MRow) (listed : IsAccepted m) (added : IsAccepted more) where
   -- the new rows are apart from each other, and where no row is blamed for this number also from those of m
-  earlier_apart : (code : ℕ) (against : MRow → MRow → Bool) → Apart against m → Apart against more → position (test code m) more ≡ None
+  earlier_apart : (code : ManifestRefusal) (against : MRow → MRow → Bool) → Apart against m → Apart against more → position (test code m) more ≡ None
       → ((x : MRow) → is_blamed code m x ≡ list_any (λ q. against q x) m) → Apart against (extended m more)
   earlier_apart code against in_m in_more none is =
       let new : List MRow = new_rows m more in
       union_apart against m new in_m (kept_apart against (λ x. not (is_listed m x)) more in_more)
       (λ q r in_q in_r. none_passes (λ y. against y (row_at new r)) m q (sym (is (row_at new r)) ∙ new_unblamed code m more none r no_row in_r) in_q)
 
-  later_apart : position (test 12 m) more ≡ None → Between follows_later (extended m more) (extended m more)
+  later_apart : position (test LatePrev m) more ≡ None → Between follows_later (extended m more) (extended m more)
   later_apart none =
       let new : List MRow = new_rows m more in
-      let parts = λ (r : ℕ) (in_r : r < length new). or_parts (list_any (λ q. follows_later q (row_at new r)) m) (list_any (λ q. follows_later (row_at new r) q) m) (new_unblamed 12 m more none r no_row in_r) in
+      let parts = λ (r : ℕ) (in_r : r < length new). or_parts (list_any (λ q. follows_later q (row_at new r)) m) (list_any (λ q. follows_later (row_at new r) q) m) (new_unblamed LatePrev m more none r no_row in_r) in
       union_between follows_later m new
       (any_fails follows_later m (have_no_fault m listed).later)
       (kept_between follows_later (λ x. not (is_listed m x)) more (any_fails follows_later more (have_no_fault more added).later))
@@ -182,61 +180,42 @@ module _ (m more : List MRow) (listed : IsAccepted m) (added : IsAccepted more) 
       union_free fails m (new_rows m more) (fails_at fails m no_row in_m)
       (kept_all (λ x. fails x ≡ false) (λ x. not (is_listed m x)) more (fails_at fails more no_row in_more))
 
-  -- where no row is blamed for a number, no row of the union has that fault
-  unblamed : (code r : ℕ) → r < length (extended m more) → position (test code m) more ≡ None → has_fault (extended m more) code r ≡ true → ⊥
-  unblamed code r lt none holds =
-      let p = have_no_fault m listed in
-      let q = have_no_fault more added in
-      elim (one_number code 4 _ _ holds) [
-        | inl e ↦ let free = own_free has_bad_id p.ids q.ids r lt in let is = e.1 in absurd cc
-        | inr after_4 ↦ elim (one_number code 6 _ _ after_4) [
-          | inl e ↦ let free = own_free has_bad_watermark p.watermarks q.watermarks r lt in let is = e.1 in absurd cc
-          | inr after_6 ↦ elim (one_number code 7 _ _ after_6) [
-            | inl e ↦ let free = own_free lacks_prev p.prevs q.prevs r lt in let is = e.1 in absurd cc
-            | inr after_7 ↦ elim (one_number code 8 _ _ after_7) [
-              | inl e ↦ let free = own_free has_bad_resend p.resends q.resends r lt in let is = e.1 in absurd cc
-              | inr after_8 ↦ against_others code r lt none after_8
-            ]
-          ]
-        ]
-      ]
-    where
-      against_others : (code r : ℕ) → r < length (extended m more) → position (test code m) more ≡ None
-          → (if code == 10 then list_any (λ q. same_revision q (row_at (extended m more) r)) (take r (extended m more))
-          else if code == 11 then list_any (λ q. moved_id q (row_at (extended m more) r)) (take r (extended m more))
-          else if code == 12 then list_any (λ q. follows_later q (row_at (extended m more) r)) (extended m more)
-          else if code == 13 then list_any (λ q. same_digest q (row_at (extended m more) r)) (take r (extended m more))
-          else false) ≡ true → ⊥
-      against_others code r lt none holds =
-          let p = have_no_fault m listed in
-          let q = have_no_fault more added in
-          let u : List MRow = extended m more in
-          elim (one_number code 10 _ _ holds) [
-            | inl e ↦
-                let free = subst (λ (n : ℕ). position (test n m) more ≡ None) e.0 none in
-                no_clash same_revision u (earlier_apart 10 same_revision (earlier_fails same_revision m p.revisions) (earlier_fails same_revision more q.revisions) free (λ x. refl)) r lt e.1
-            | inr after_10 ↦ elim (one_number code 11 _ _ after_10) [
-              | inl e ↦
-                  let free = subst (λ (n : ℕ). position (test n m) more ≡ None) e.0 none in
-                  no_clash moved_id u (earlier_apart 11 moved_id (earlier_fails moved_id m p.places) (earlier_fails moved_id more q.places) free (λ x. refl)) r lt e.1
-              | inr after_11 ↦ elim (one_number code 12 _ _ after_11) [
-                | inl e ↦
-                    let free = subst (λ (n : ℕ). position (test n m) more ≡ None) e.0 none in
-                    let (i, in_u, is) = some_row (λ x. follows_later x (row_at u r)) u e.1 in
-                    let apart = later_apart free i r in_u lt in
-                    absurd cc
-                | inr after_12 ↦ elim (one_number code 13 _ false after_12) [
-                  | inl e ↦
-                      let free = subst (λ (n : ℕ). position (test n m) more ≡ None) e.0 none in
-                      no_clash same_digest u (earlier_apart 13 same_digest (earlier_fails same_digest m p.digests) (earlier_fails same_digest more q.digests) free (λ x. refl)) r lt e.1
-                  | inr never ↦ absurd cc
-                ]
-              ]
-            ]
-          ]
+  -- where no row is blamed for a refusal, no row of the union has that fault
+  unblamed : (code : ManifestRefusal) (r : ℕ) → r < length (extended m more) → position (test code m) more ≡ None → has_fault (extended m more) code r ≡ true → ⊥
+  unblamed WrongId r lt none holds =
+      let is : has_bad_id (row_at (extended m more) r) ≡ true = holds in
+      let free = own_free has_bad_id (have_no_fault m listed).ids (have_no_fault more added).ids r lt in
+      absurd cc
+  unblamed WrongWatermark r lt none holds =
+      let is : has_bad_watermark (row_at (extended m more) r) ≡ true = holds in
+      let free = own_free has_bad_watermark (have_no_fault m listed).watermarks (have_no_fault more added).watermarks r lt in
+      absurd cc
+  unblamed MissingPrev r lt none holds =
+      let is : lacks_prev (row_at (extended m more) r) ≡ true = holds in
+      let free = own_free lacks_prev (have_no_fault m listed).prevs (have_no_fault more added).prevs r lt in
+      absurd cc
+  unblamed WrongResend r lt none holds =
+      let is : has_bad_resend (row_at (extended m more) r) ≡ true = holds in
+      let free = own_free has_bad_resend (have_no_fault m listed).resends (have_no_fault more added).resends r lt in
+      absurd cc
+  unblamed RepeatedRevision r lt none holds =
+      no_clash same_revision (extended m more) (earlier_apart RepeatedRevision same_revision (earlier_fails same_revision m (have_no_fault m listed).revisions) (earlier_fails same_revision more (have_no_fault more added).revisions) none (λ x. refl)) r lt holds
+  unblamed MovedId r lt none holds =
+      no_clash moved_id (extended m more) (earlier_apart MovedId moved_id (earlier_fails moved_id m (have_no_fault m listed).places) (earlier_fails moved_id more (have_no_fault more added).places) none (λ x. refl)) r lt holds
+  unblamed LatePrev r lt none holds =
+      let (i, in_u, is) = some_row (λ x. follows_later x (row_at (extended m more) r)) (extended m more) holds in
+      let apart = later_apart none i r in_u lt in
+      absurd cc
+  unblamed RepeatedDigest r lt none holds =
+      no_clash same_digest (extended m more) (earlier_apart RepeatedDigest same_digest (earlier_fails same_digest m (have_no_fault m listed).digests) (earlier_fails same_digest more (have_no_fault more added).digests) none (λ x. refl)) r lt holds
+  unblamed OverLimit r lt none holds = absurd cc
+  unblamed NotSixFields r lt none holds = absurd cc
+  unblamed WrongHeading r lt none holds = absurd cc
+  unblamed WrongType r lt none holds = absurd cc
+  unblamed WrongDigest r lt none holds = absurd cc
 
   -- the row that is blamed, if one is
-  at_row : (code r : ℕ) → r < length (extended m more) → has_fault (extended m more) code r ≡ true → (o : Option ℕ) → position (test code m) more ≡ o → IsReportedAt m more code (row_or_whole o)
+  at_row : (code : ManifestRefusal) (r : ℕ) → r < length (extended m more) → has_fault (extended m more) code r ≡ true → (o : Option ℕ) → position (test code m) more ≡ o → IsReportedAt m more code (row_or_whole o)
   at_row code r lt holds None is = absurd (unblamed code r lt is holds)
   at_row code r lt holds (Some k) is =
       let (within, here, before) = position-Some (test code m) more k no_row is in
@@ -248,22 +227,22 @@ module _ (m more : List MRow) (listed : IsAccepted m) (added : IsAccepted more) 
         | inr after ↦ after
       ]
 
-  of_whole : blamed 1 m more ≡ 0
-  of_whole = ap row_or_whole (no_first (test 1 m) more no_row (λ k lt. and_right (not (is_listed m (row_at more k))) false refl))
+  of_whole : blamed OverLimit m more ≡ 0
+  of_whole = ap row_or_whole (no_first (test OverLimit m) more no_row (λ k lt. and_right (not (is_listed m (row_at more k))) false refl))
 
-  pub reported_at : (code s : ℕ) → IsManifestFault (extended m more) code s → IsReportedAt m more code (blamed code m more)
-  reported_at code s (inl (one, whole, many)) = inl (one, subst (λ (n : ℕ). blamed n m more ≡ 0) (sym one) of_whole)
+  pub reported_at : (code : ManifestRefusal) (s : ℕ) → IsManifestFault (extended m more) code s → IsReportedAt m more code (blamed code m more)
+  reported_at code s (inl (one, whole, many)) = inl (one, subst (λ (n : ManifestRefusal). blamed n m more ≡ 0) (sym one) of_whole)
   reported_at code s (inr (r, lt, is, holds)) = at_row code r lt holds (position (test code m) more) refl
 
 -- ---- a fault is reported at one row
 
-never_whole : (code : ℕ) (q r : MRow) → code ≡ 1 → Contradict code q r → ⊥
-never_whole code q r one (inl e) = let ten = e.0 in absurd (omega arith)
-never_whole code q r one (inr (inl e)) = let eleven = e.0 in absurd (omega arith)
-never_whole code q r one (inr (inr (inl e))) = let twelve = e.0 in absurd (omega arith)
-never_whole code q r one (inr (inr (inr e))) = let thirteen = e.0 in absurd (omega arith)
+never_whole : (code : ManifestRefusal) (q r : MRow) → code ≡ OverLimit → Contradict code q r → ⊥
+never_whole code q r one (inl e) = let ten = e.0 in absurd cc
+never_whole code q r one (inr (inl e)) = let eleven = e.0 in absurd cc
+never_whole code q r one (inr (inr (inl e))) = let twelve = e.0 in absurd cc
+never_whole code q r one (inr (inr (inr e))) = let thirteen = e.0 in absurd cc
 
-pub reported_once : (m more : List MRow) (code a b : ℕ) → IsReportedAt m more code a → IsReportedAt m more code b → a ≡ b
+pub reported_once : (m more : List MRow) (code : ManifestRefusal) (a b : ℕ) → IsReportedAt m more code a → IsReportedAt m more code b → a ≡ b
 reported_once m more code a b (inl (one, p)) (inl (also, q)) = p ∙ sym q
 reported_once m more code a b (inl (one, p)) (inr (r, is, (lt, new, (q, in_m, against)), first)) = absurd (never_whole code (row_at m q) (row_at more r) one against)
 reported_once m more code a b (inr (r, is, (lt, new, (q, in_m, against)), first)) (inl (one, p)) = absurd (never_whole code (row_at m q) (row_at more r) one against)

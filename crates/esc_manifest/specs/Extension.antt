@@ -3,6 +3,10 @@ use Rattle.std.specs.Prelude.{ℕ, suc, Bool, true, false, not, ◌&&◌, ◌||�
 use Rattle.std.specs.Prelude.{position, Option, None, Some, Result, Ok, Err, if◌then◌else◌}
 use Rattle.std.specs.List.{list_any}
 use Rattle.std.specs.Str.{bytes_eq}
+use Rattle.esc_manifest.specs.declared.refusal.ManifestRefusal.{ManifestRefusal}
+use Rattle.esc_manifest.specs.declared.refusal.ManifestRefusal.TheVariants.{RepeatedRevision}
+use Rattle.esc_manifest.specs.declared.refusal.ManifestRefusal.TheVariants.{MovedId, LatePrev}
+use Rattle.esc_manifest.specs.declared.refusal.ManifestRefusal.TheVariants.{RepeatedDigest}
 use Rattle.esc_manifest.specs.declared.row.MRow.{MRow}
 use Rattle.esc_manifest.specs.RowFaults.{same_place, same_revision, moved_id, follows_later}
 use Rattle.esc_manifest.specs.RowFaults.{same_digest, rows_fault}
@@ -34,16 +38,14 @@ new_rows m more = filter (λ r. not (is_listed m r)) more
 abbrev pub extended : List MRow → List MRow → List MRow
 extended m more = m ++ new_rows m more
 
--- the row repeats or contradicts one of m, by the fault of this number: M10, M11 or M13; or M12,
--- where a Differential, one of the two, names the other, which isn't earlier
-abbrev pub is_blamed : ℕ → List MRow → MRow → Bool
-is_blamed code m r =
-    if code == 10 then list_any (λ q. same_revision q r) m
-    else if code == 11 then list_any (λ q. moved_id q r) m
-    else if code == 12 then list_any (λ q. follows_later q r) m
-    || list_any (λ q. follows_later r q) m
-    else if code == 13 then list_any (λ q. same_digest q r) m
-    else false
+-- the row repeats or contradicts one of m, by this refusal: M10, M11 or M13; or M12, where a
+-- Differential, one of the two, names the other, which isn't earlier
+abbrev pub is_blamed : ManifestRefusal → List MRow → MRow → Bool
+is_blamed RepeatedRevision m r = list_any (λ q. same_revision q r) m
+is_blamed MovedId m r = list_any (λ q. moved_id q r) m
+is_blamed LatePrev m r = list_any (λ q. follows_later q r) m || list_any (λ q. follows_later r q) m
+is_blamed RepeatedDigest m r = list_any (λ q. same_digest q r) m
+is_blamed refusal m r = false
 
 -- an index as a row counted from 1; no index is 0, the whole
 abbrev pub row_or_whole : Option ℕ → ℕ
@@ -52,14 +54,16 @@ row_or_whole (Some index) = suc index
 
 -- the row of `more` that a fault of the union is reported at: the least that isn't listed yet and
 -- has it (as `more` is accepted by itself, each of these faults is against a row of m)
-abbrev pub blamed : ℕ → List MRow → List MRow → ℕ
-blamed code m more = row_or_whole (position (λ r. not (is_listed m r) && is_blamed code m r) more)
+abbrev pub blamed : ManifestRefusal → List MRow → List MRow → ℕ
+blamed refusal m more =
+    row_or_whole (position (λ r. not (is_listed m r) && is_blamed refusal m r) more)
 
--- the union, or the number of its fault and the row of `more` that it is reported at
-abbrev pub union_or : List MRow → List MRow → Option (ℕ × ℕ) → Result (List MRow) (ℕ × ℕ)
+-- the union, or its refusal and the row of `more` that it is reported at
+abbrev pub union_or : List MRow → List MRow → Option (ManifestRefusal × ℕ)
+    → Result (List MRow) (ManifestRefusal × ℕ)
 union_or m more None = Ok (extended m more)
 union_or m more (Some fault) = Err (fault.0, blamed fault.0 m more)
 
 -- the union of an accepted manifest's rows with more rows, or its least fault
-unfoldable pub extension : List MRow → List MRow → Result (List MRow) (ℕ × ℕ)
+unfoldable pub extension : List MRow → List MRow → Result (List MRow) (ManifestRefusal × ℕ)
 extension m more = union_or m more (rows_fault (extended m more))

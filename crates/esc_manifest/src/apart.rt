@@ -9,6 +9,7 @@ ghost use Rattle.esc_manifest.specs.Lookups.{place_in, HavePlaces, is_no_earlier
 ghost use Rattle.esc_manifest.specs.RowFaults.{same_revision, moved_id, follows_later, same_digest};
 ghost use Rattle.esc_manifest.specs.RowFaults.{first_against_earlier, first_against_any};
 
+use crate::refusal::ManifestRefusal;
 use crate::row::MRow;
 use crate::rows::{first_after_later, first_against_earlier};
 use esc_bundle::NoMemory;
@@ -116,7 +117,7 @@ pub(crate) fn repeated_revision(alloc: Global, rows: &[MRow]) -> Option<usize>
 {
     match have_own_revisions(alloc, rows) {
         Ok(true) => None,
-        _ => first_against_earlier(10, rows),
+        _ => first_against_earlier(ManifestRefusal::RepeatedRevision, rows),
     }
 }
 
@@ -127,7 +128,7 @@ pub(crate) fn repeated_digest(alloc: Global, rows: &[MRow]) -> Option<usize>
 {
     match have_own_digests(alloc, rows) {
         Ok(true) => None,
-        _ => first_against_earlier(13, rows),
+        _ => first_against_earlier(ManifestRefusal::RepeatedDigest, rows),
     }
 }
 
@@ -152,7 +153,7 @@ pub(crate) fn id_in_two_places(
 {
     match places {
         Some(_) => None,
-        None => first_against_earlier(11, rows),
+        None => first_against_earlier(ManifestRefusal::MovedId, rows),
     }
 }
 

@@ -2,14 +2,15 @@
 
 ghost use Rattle.std.specs.Prelude.{◌≡◌, ◌≤◌, ◌<◌, ◌&&◌, ℕ, length, not, position, IfOk, IfSome};
 ghost use Rattle.std.specs.Prelude.{Ok, Err, option_map, string_bytes};
-ghost use Rattle.esc_manifest.specs.declared.fault.MFault.TheVariants as MFault;
+ghost use Rattle.esc_manifest.specs.declared.fault.ManifestFault.TheVariants as ManifestFault;
 ghost use Rattle.esc_manifest.specs.Accepted.{IsAccepted};
 ghost use Rattle.esc_manifest.specs.LeastFault.{IsLeastOfUnion};
 ghost use Rattle.esc_manifest.specs.Extension.{same_prev, same_row, is_listed, extended, is_blamed};
 ghost use Rattle.esc_manifest.specs.Extension.{blamed, extension};
 
-use crate::fault::MFault;
+use crate::fault::ManifestFault;
 use crate::manifest::Manifest;
+use crate::refusal::ManifestRefusal;
 use crate::row::{MRow, copy_rows};
 use crate::rows::{is_blamed, is_same_place, rows_fault};
 use esc_bundle::NoMemory;
@@ -56,23 +57,22 @@ fn union_of(alloc: Global, rows: &[MRow], more: &[MRow]) -> Result<Vec<MRow>, No
     Ok(union)
 }
 
-fn first_blamed(code: u8, rows: &[MRow], more: &[MRow]) -> Option<usize>
+fn first_blamed(refusal: ManifestRefusal, rows: &[MRow], more: &[MRow]) -> Option<usize>
     ensures first { result ≡ position
-        (λ r. not (is_listed rows.now r) && is_blamed code rows.now r)
+        (λ r. not (is_listed rows.now r) && is_blamed refusal rows.now r)
         more.now }
     ensures within { IfSome result (λ r. r < length more.now) }
 {
-    more.iter()
-        .position(|row| !is_listed(rows, row) && is_blamed(code, rows, row))
+    more.iter().position(|row| !is_listed(rows, row) && is_blamed(refusal, rows, row))
 }
 
-// The row of `more` that the fault of a number is reported at, from 1; 0 is the whole.
-fn blamed(code: u8, rows: &[MRow], more: &[MRow]) -> u32
+// The row of `more` that a refusal is reported at, from 1; 0 is the whole.
+fn blamed(refusal: ManifestRefusal, rows: &[MRow], more: &[MRow]) -> u32
     requires few { length more.now ≤ 4096 }
-    ensures blamed { result ≡ blamed code rows.now more.now }
+    ensures blamed { result ≡ blamed refusal rows.now more.now }
     ensures within { result ≤ 4096 }
 {
-    match first_blamed(code, rows, more) {
+    match first_blamed(refusal, rows, more) {
         Some(row) => row as u32 + 1,
         None => 0,
     }
@@ -81,13 +81,15 @@ fn blamed(code: u8, rows: &[MRow], more: &[MRow]) -> u32
 impl Manifest {
     // The union of two manifests, or its fault.
     #[tactic(auto, unfolding(crate::specs::Extension::extension))]
-    fn union_with(&self, alloc: Global, more: &Manifest) -> Result<Manifest, MFault>
+    fn union_with(&self, alloc: Global, more: &Manifest) -> Result<Manifest, ManifestFault>
         ensures accepted { IfOk result (λ m. extension self.now more.now ≡ Ok m) }
         ensures union { IfOk result (λ m. m ≡ extended self.now more.now) }
-        ensures within { (code row : ℕ) → result ≡ Err (MFault.Refused code row)
+        ensures within { (refusal : ManifestRefusal) (row : ℕ) →
+            result ≡ Err (ManifestFault.Refused refusal row)
             → row ≤ 4096 }
-        ensures refused { (code row : ℕ) → result ≡ Err (MFault.Refused code row) →
-            extension self.now more.now ≡ Err (code, row) }
+        ensures refused { (refusal : ManifestRefusal) (row : ℕ) →
+            result ≡ Err (ManifestFault.Refused refusal row) →
+            extension self.now more.now ≡ Err (refusal, row) }
         ensures both { IsAccepted self.now × IsAccepted more.now }
     {
         let rows = self.rows();
@@ -95,9 +97,9 @@ impl Manifest {
         let union = union_of(alloc, rows, added)?;
         match rows_fault(alloc, union.as_slice()) {
             None => Ok(Manifest::of_accepted(union)),
-            Some((code, _)) => {
-                let row = blamed(code, rows, added);
-                Err(MFault::Refused { code, row })
+            Some((refusal, _)) => {
+                let row = blamed(refusal, rows, added);
+                Err(ManifestFault::Refused { refusal, row })
             }
         }
     }
@@ -112,15 +114,17 @@ impl Manifest {
     /// repeats or contradicts a row of this manifest. For M12 that is the first that is a faulty
     /// Differential, or whose id a faulty Differential of this manifest names. `NoMemory` out of
     /// memory.
-    pub fn extend(&self, alloc: Global, more: &Manifest) -> Result<Manifest, MFault>
+    pub fn extend(&self, alloc: Global, more: &Manifest) -> Result<Manifest, ManifestFault>
         ensures accepted { IfOk result (λ m. extension self.now more.now ≡ Ok m) }
         ensures union { IfOk result (λ m. m ≡ extended self.now more.now) }
-        ensures refused { (code row : ℕ) → result ≡ Err (MFault.Refused code row) →
-            extension self.now more.now ≡ Err (code, row) }
-        ensures least { (code row : ℕ) → result ≡ Err (MFault.Refused code row) →
-            IsLeastOfUnion self.now more.now code row }
-        ensures numbers { (code row : ℕ) → result ≡ Err (MFault.Refused code row) →
-            (1 ≤ code) × (code ≤ 13) × (row ≤ 4096) }
+        ensures refused { (refusal : ManifestRefusal) (row : ℕ) →
+            result ≡ Err (ManifestFault.Refused refusal row) →
+            extension self.now more.now ≡ Err (refusal, row) }
+        ensures least { (refusal : ManifestRefusal) (row : ℕ) →
+            result ≡ Err (ManifestFault.Refused refusal row) →
+            IsLeastOfUnion self.now more.now refusal row }
+        ensures row { (refusal : ManifestRefusal) (row : ℕ) →
+            result ≡ Err (ManifestFault.Refused refusal row) → row ≤ 4096 }
     {
         self.union_with(alloc, more)
     }

@@ -5,10 +5,10 @@
 //! `read_manifest` takes the bytes of a manifest, which is CSV. The first record is the heading
 //! `id,type,watermark,prevId,resend,sha256`; each further record is one row: a deposit that was
 //! released, with its place (watermark and type), its resend, and the SHA-256 of its bundle. It
-//! returns a `Manifest`, a list of typed rows in the order of the text, or an `MFault`. `from_rows`
-//! returns the `Manifest` of typed rows, as a store keeps them. `Manifest::extend` returns the
-//! union of two manifests: the rows of the first, and after them those of the second that the first
-//! doesn't list yet. It is for a manifest that is released in parts.
+//! returns a `Manifest`, a list of typed rows in the order of the text, or a `ManifestFault`.
+//! `from_rows` returns the `Manifest` of typed rows, as a store keeps them. `Manifest::extend`
+//! returns the union of two manifests: the rows of the first, and after them those of the second
+//! that the first doesn't list yet. It is for a manifest that is released in parts.
 //!
 //! ```text
 //! let manifest = read_manifest(alloc, bytes)?;
@@ -17,8 +17,8 @@
 //! }
 //! ```
 //!
-//! A fault has a number from M1 to M13 and a row, counted from 1; row 0 is the heading or the whole
-//! file:
+//! A fault is a refusal, from M1 to M13, with a row, counted from 1; row 0 is the heading or the
+//! whole file:
 //!
 //! - M1: more than 4,096 rows, or more than 4,194,304 bytes (row 0);
 //! - M2: a record does not have six fields; M3: the heading is missing or different (row 0);
@@ -38,17 +38,18 @@
 //!
 //! # What the contracts mean
 //!
-//! `specs/Manifest.antt` and `specs/RowFaults.antt` say for each number which records and rows have
-//! that fault, and `specs/LeastFault.antt` which fault is the least: no other fault of the text has
-//! a lesser number, nor the same number at a lesser row (`IsLeastInText`, `IsLeastManifestFault`).
-//! `read_manifest` and `from_rows` refuse with exactly that one. Out of memory, `read_manifest` and
-//! `Manifest::extend` return `MFault::NoMemory`; `from_rows` never does.
-//! `manifest_of` and `rows_fault` are the same as functions; by a law they give the least fault.
-//! What the rows of an accepted manifest are is the one fact `IsAccepted` of `specs/Accepted.antt`,
-//! which each `Manifest` carries and `Manifest::rows` returns; by a law it holds of exactly the
-//! rows without a fault. `specs/Extension.antt` has the union of two manifests, or its fault:
-//! `Manifest::extend` returns exactly that, and `IsLeastOfUnion` says which fault it is, by the
-//! faults that the union has, and at which row it is reported, by the rows that contradict others.
+//! `specs/Manifest.antt` and `specs/RowFaults.antt` say for each refusal which records and rows
+//! have that fault, and `specs/LeastFault.antt` which fault is the least: no other fault of the
+//! text has a lesser number, nor the same number at a lesser row (`IsLeastInText`,
+//! `IsLeastManifestFault`). `read_manifest` and `from_rows` refuse with exactly that one. Out of
+//! memory, `read_manifest` and `Manifest::extend` return `ManifestFault::NoMemory`; `from_rows`
+//! never does. `manifest_of` and `rows_fault` are the same as functions; by a law they give the
+//! least fault. What the rows of an accepted manifest are is the one fact `IsAccepted` of
+//! `specs/Accepted.antt`, which each `Manifest` carries and `Manifest::rows` returns; by a law it
+//! holds of exactly the rows without a fault. `specs/Extension.antt` has the union of two
+//! manifests, or its fault: `Manifest::extend` returns exactly that, and `IsLeastOfUnion` says
+//! which fault it is, by the faults that the union has, and at which row it is reported, by the
+//! rows that contradict others.
 //!
 //! # Time
 //!
@@ -65,12 +66,14 @@ mod laws;
 mod manifest;
 mod reading;
 mod records;
+mod refusal;
 mod row;
 mod rows;
 
-pub use fault::MFault;
+pub use fault::ManifestFault;
 pub use laws::{accepted_texts_are_read_whole, faults_are_least, rows_without_fault_are_accepted};
 pub use manifest::Manifest;
 pub use reading::{MOST_MANIFEST_BYTES, read_manifest};
+pub use refusal::ManifestRefusal;
 pub use row::{MRow, copy_rows};
 pub use rows::{MOST_LISTED_ROWS, from_rows};

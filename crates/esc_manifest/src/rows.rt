@@ -4,7 +4,7 @@ ghost use Rattle.std.specs.Prelude.{◌≡◌, ◌<◌, ◌≤◌, ℕ, length, 
 ghost use Rattle.std.specs.Prelude.{Ok, Err};
 ghost use Rattle.std.specs.List.{list_any};
 ghost use Rattle.esc_envelope.specs.Id.{is_id};
-ghost use Rattle.esc_manifest.specs.declared.fault.MFault.TheVariants as MFault;
+ghost use Rattle.esc_manifest.specs.declared.fault.ManifestFault.TheVariants as ManifestFault;
 ghost use Rattle.esc_manifest.specs.Extension.{is_blamed};
 ghost use Rattle.esc_manifest.specs.LeastFault.{IsLeastManifestFault};
 ghost use Rattle.esc_manifest.specs.ManifestRows.{row_at};
@@ -16,8 +16,9 @@ ghost use Rattle.esc_manifest.specs.RowFaults.{first_against_any, rows_fault};
 use crate::apart::{
     after_later, id_in_two_places, places_of_ids, repeated_digest, repeated_revision,
 };
-use crate::fault::MFault;
+use crate::fault::ManifestFault;
 use crate::manifest::Manifest;
+use crate::refusal::ManifestRefusal;
 use crate::row::MRow;
 use esc_envelope::{DepositType, END_OF_YEARS, MOST_RESEND, Place, is_id};
 use std::alloc::Global;
@@ -122,15 +123,15 @@ fn repeats_digest(rows: &[MRow], row: &MRow) -> bool
     rows.iter().any(|q| has_same_digest(q, row))
 }
 
-/// Whether a row repeats or contradicts one of these rows, by the fault of this number.
-pub(crate) fn is_blamed(code: u8, rows: &[MRow], row: &MRow) -> bool
-    ensures { result ≡ is_blamed code rows.now row.now }
+/// Whether a row repeats or contradicts one of these rows, by this refusal.
+pub(crate) fn is_blamed(refusal: ManifestRefusal, rows: &[MRow], row: &MRow) -> bool
+    ensures { result ≡ is_blamed refusal rows.now row.now }
 {
-    match code {
-        10 => repeats_revision(rows, row),
-        11 => moves_id(rows, row),
-        12 => follows_any_later(rows, row) || is_named_late(rows, row),
-        13 => repeats_digest(rows, row),
+    match refusal {
+        ManifestRefusal::RepeatedRevision => repeats_revision(rows, row),
+        ManifestRefusal::MovedId => moves_id(rows, row),
+        ManifestRefusal::LatePrev => follows_any_later(rows, row) || is_named_late(rows, row),
+        ManifestRefusal::RepeatedDigest => repeats_digest(rows, row),
         _ => false,
     }
 }
@@ -163,14 +164,14 @@ fn first_bad_resend(rows: &[MRow]) -> Option<usize>
     rows.iter().position(|row| row.header.resend > MOST_RESEND)
 }
 
-/// The least row that repeats or contradicts an earlier one, by the fault of this number.
-pub(crate) fn first_against_earlier(code: u8, rows: &[MRow]) -> Option<usize>
-    ensures first { result ≡ least (λ r. is_blamed code (take r rows.now) (row_at rows.now r))
+/// The least row that repeats or contradicts an earlier one, by this refusal.
+pub(crate) fn first_against_earlier(refusal: ManifestRefusal, rows: &[MRow]) -> Option<usize>
+    ensures first { result ≡ least (λ r. is_blamed refusal (take r rows.now) (row_at rows.now r))
         (length rows.now) }
     ensures within { IfSome result (λ r. r < length rows.now) }
 {
     for (i, row) in rows.iter().enumerate() {
-        if is_blamed(code, &rows[..i], row) {
+        if is_blamed(refusal, &rows[..i], row) {
             return Some(i);
         }
     }
@@ -185,48 +186,49 @@ pub(crate) fn first_after_later(rows: &[MRow]) -> Option<usize>
 }
 
 #[tactic(auto, unfolding(crate::specs::RowFaults::rows_fault))]
-pub(crate) fn rows_fault(alloc: Global, rows: &[MRow]) -> Option<(u8, u32)>
+pub(crate) fn rows_fault(alloc: Global, rows: &[MRow]) -> Option<(ManifestRefusal, u32)>
     ensures { result ≡ rows_fault rows.now }
 {
     if rows.len() > MOST_LISTED_ROWS {
-        return Some((1, 0));
+        return Some((ManifestRefusal::OverLimit, 0));
     }
     if let Some(row) = first_bad_id(rows) {
-        return Some((4, row as u32 + 1));
+        return Some((ManifestRefusal::WrongId, row as u32 + 1));
     }
     if let Some(row) = first_bad_watermark(rows) {
-        return Some((6, row as u32 + 1));
+        return Some((ManifestRefusal::WrongWatermark, row as u32 + 1));
     }
     if let Some(row) = first_without_prev(rows) {
-        return Some((7, row as u32 + 1));
+        return Some((ManifestRefusal::MissingPrev, row as u32 + 1));
     }
     if let Some(row) = first_bad_resend(rows) {
-        return Some((8, row as u32 + 1));
+        return Some((ManifestRefusal::WrongResend, row as u32 + 1));
     }
     if let Some(row) = repeated_revision(alloc, rows) {
-        return Some((10, row as u32 + 1));
+        return Some((ManifestRefusal::RepeatedRevision, row as u32 + 1));
     }
     let places = places_of_ids(alloc, rows);
     if let Some(row) = id_in_two_places(&places, rows) {
-        return Some((11, row as u32 + 1));
+        return Some((ManifestRefusal::MovedId, row as u32 + 1));
     }
     if let Some(row) = after_later(&places, rows) {
-        return Some((12, row as u32 + 1));
+        return Some((ManifestRefusal::LatePrev, row as u32 + 1));
     }
     if let Some(row) = repeated_digest(alloc, rows) {
-        return Some((13, row as u32 + 1));
+        return Some((ManifestRefusal::RepeatedDigest, row as u32 + 1));
     }
     None
 }
 
 /// The manifest of these rows, or their fault.
-pub(crate) fn tested(alloc: Global, rows: Vec<MRow>) -> Result<Manifest, MFault>
+pub(crate) fn tested(alloc: Global, rows: Vec<MRow>) -> Result<Manifest, ManifestFault>
     ensures accepted { rows_fault rows.items ≡ None → result ≡ Ok rows.items }
-    ensures refused { (code row : ℕ) → rows_fault rows.items ≡ Some (code, row) →
-        result ≡ Err (MFault.Refused code row) }
+    ensures refused { (refusal : ManifestRefusal) (row : ℕ) →
+        rows_fault rows.items ≡ Some (refusal, row) →
+        result ≡ Err (ManifestFault.Refused refusal row) }
 {
     match rows_fault(alloc, rows.as_slice()) {
-        Some((code, row)) => Err(MFault::Refused { code, row }),
+        Some((refusal, row)) => Err(ManifestFault::Refused { refusal, row }),
         None => Ok(Manifest::of_accepted(rows)),
     }
 }
@@ -238,16 +240,19 @@ pub(crate) fn tested(alloc: Global, rows: Vec<MRow>) -> Result<Manifest, MFault>
 ///
 /// `Refused` with the least of M1 (more than 4,096 rows), M4, M6 to M8 and M10 to M13 that the rows
 /// have, at its least row from 1 (0 for M1). A `prev` with an empty text is M4. Never `NoMemory`.
-pub fn from_rows(alloc: Global, rows: Vec<MRow>) -> Result<Manifest, MFault>
+pub fn from_rows(alloc: Global, rows: Vec<MRow>) -> Result<Manifest, ManifestFault>
     ensures accepted { rows_fault rows.items ≡ None → result ≡ Ok rows.items }
-    ensures refused { (code row : ℕ) → rows_fault rows.items ≡ Some (code, row) →
-        result ≡ Err (MFault.Refused code row) }
-    ensures told { (code row : ℕ) → IsLeastManifestFault rows.items code row →
-        result ≡ Err (MFault.Refused code row) }
-    ensures least { (code row : ℕ) → result ≡ Err (MFault.Refused code row) →
-        IsLeastManifestFault rows.items code row }
-    ensures numbers { (code row : ℕ) → result ≡ Err (MFault.Refused code row) →
-        (1 ≤ code) × (code ≤ 13) × (row ≤ 4096) }
+    ensures refused { (refusal : ManifestRefusal) (row : ℕ) →
+        rows_fault rows.items ≡ Some (refusal, row) →
+        result ≡ Err (ManifestFault.Refused refusal row) }
+    ensures told { (refusal : ManifestRefusal) (row : ℕ) →
+        IsLeastManifestFault rows.items refusal row →
+        result ≡ Err (ManifestFault.Refused refusal row) }
+    ensures least { (refusal : ManifestRefusal) (row : ℕ) →
+        result ≡ Err (ManifestFault.Refused refusal row) →
+        IsLeastManifestFault rows.items refusal row }
+    ensures row { (refusal : ManifestRefusal) (row : ℕ) →
+        result ≡ Err (ManifestFault.Refused refusal row) → row ≤ 4096 }
 {
     tested(alloc, rows)
 }

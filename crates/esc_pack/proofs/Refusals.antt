@@ -9,6 +9,7 @@ use Rattle.std.proofs.lemmas.List.{length-take}
 use Rattle.std.proofs.lemmas.Option.{slice_get-get_or, slice_get_read}
 use Rattle.std.proofs.lemmas.Slice.Zip.{length-zip}
 use Rattle.esc_csv.specs.Lines.{Line}
+use Rattle.esc_bundle.specs.declared.refusal.Refusal.{Refusal}
 use Rattle.esc_bundle.specs.declared.fault.Fault.{Fault}
 use Rattle.esc_bundle.specs.declared.fault.Fault.TheVariants.{Refused as refused_by, NoMemory as no_memory}
 use Rattle.esc_envelope.specs.EnvelopeValue.{TableValue}
@@ -99,7 +100,7 @@ pub pairs_many : {A B : Type 0} (xs : List A) (ys : List B) → length xs ≤ le
 pairs_many xs ys le = omega (arith, length-zip xs (take (length xs) ys), length-take (length xs) ys)
 
 -- what a body, a frame or an envelope is refused for, files are refused for
-pub fault_refused : (P : BundleFault → Type 0) (f : Fault) → ((n : ℕ) → f ≡ refused_by n → P (Refused n))
+pub fault_refused : (P : BundleFault → Type 0) (f : Fault) → ((n : Refusal) → f ≡ refused_by n → P (Refused n))
     → OrNoMemory P (of_fault f)
 fault_refused P (refused_by n) told = told n refl
 fault_refused P no_memory told = tt

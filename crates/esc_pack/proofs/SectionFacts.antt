@@ -19,6 +19,8 @@ use Rattle.csv.specs.Writing.{read_back}
 use Rattle.esc_csv.specs.Lines.{Line, text_of}
 use Rattle.esc_csv.specs.Records.{records_of, IsUnmarked}
 use Rattle.esc_bundle.specs.Bundle.{Named}
+use Rattle.esc_bundle.specs.declared.refusal.Refusal.{Refusal}
+use Rattle.esc_bundle.specs.declared.refusal.Refusal.TheVariants.{WrongFiles}
 use Rattle.esc_bundle.specs.Frame.{frame}
 use Rattle.esc_bundle.specs.Tests.{◌>>=◌, check}
 use Rattle.esc_envelope.specs.EnvelopeValue.{TableValue, EnvelopeValue}
@@ -208,7 +210,7 @@ rows_read first ts gs same distinct back =
     tables_read (sections_of ts gs) ts gs same (named_bytes (zip ts gs) apart) back
 
 -- what two tests let through, if anything
-passed : {A D : Type 0} (a b : Result A ℕ) (x y : D) → (a >>= λ _. b >>= λ _. Ok x) ≡ Ok y
+passed : {A D : Type 0} (a b : Result A Refusal) (x y : D) → (a >>= λ _. b >>= λ _. Ok x) ≡ Ok y
     → (a >>= λ _. b >>= λ _. Ok x) ≡ Ok x
 passed (Ok u) (Ok v) x y e = refl
 passed (Ok u) (Err n) x y e = absurd cc
@@ -218,7 +220,7 @@ only_deposit : (files : List Named) (e : EnvelopeValue) (d : DepositValue) → d
     → deposit_in files e ≡ Ok (deposit_of_files files e)
 unfolding deposit_in
 only_deposit files e d read =
-    let filed = check (are_filed files (tables_of e)) 8 in
+    let filed = check (are_filed files (tables_of e)) WrongFiles in
     passed filed (check_rows (rows_in files (tables_of e))) (deposit_of_files files e) d read
 
 -- a body that reads is the deposit of its files and its envelope

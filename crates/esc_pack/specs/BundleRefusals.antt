@@ -4,6 +4,7 @@ use Rattle.std.specs.Prelude.{◌≡◌, ◌⊎◌, ◌+◌, ℕ, List, Bool, tr
 use Rattle.std.specs.Prelude.{length, slice_get}
 use Rattle.std.specs.List.{list_all, zip}
 use Rattle.std.specs.Str.{is_utf8}
+use Rattle.esc_bundle.specs.declared.refusal.Refusal.{Refusal}
 use Rattle.esc_bundle.specs.declared.fault.Fault.{Fault}
 use Rattle.esc_bundle.specs.declared.fault.Fault.TheVariants.{Refused as refused_by}
 use Rattle.esc_bundle.specs.declared.fault.Fault.TheVariants.{NoMemory as no_memory}
@@ -23,7 +24,7 @@ use Rattle.esc_pack.specs.Bundling.{AreSectionsOf}
 
 -- the refusal of a body, a frame or an envelope, as that of files
 abbrev pub of_fault : Fault → BundleFault
-of_fault (refused_by code) = Refused code
+of_fault (refused_by refusal) = Refused refusal
 of_fault no_memory = NoMemory
 
 -- a refusal is one of these, or memory was refused
@@ -69,20 +70,20 @@ IsGivenRefusal envelope given e =
     ⊎ IsTablesRefusal (zip (tables_of envelope) given) 0 e
 
 -- there is no deposit of these sections: no bundle has them, or the one that has is none
-abbrev pub HaveNoDeposit : List Named → ℕ → Type 0
-HaveNoDeposit sections code = IsUnwritten sections code
-    ⊎ ((body : List ℕ) × IsBundle body sections × (reading body ≡ Err code))
+abbrev pub HaveNoDeposit : List Named → Refusal → Type 0
+HaveNoDeposit sections refusal = IsUnwritten sections refusal
+    ⊎ ((body : List ℕ) × IsBundle body sections × (reading body ≡ Err refusal))
 
 -- why there are no sections of a description and of files: it is no envelope, or the files are not
 -- those that it declares
 abbrev pub IsSectionsRefusal : List ℕ → List GivenTable → BundleFault → Type 0
 IsSectionsRefusal description given e =
-    ((code : ℕ) × (e ≡ Refused code) × (envelope_of description ≡ Err code))
+    ((refusal : Refusal) × (e ≡ Refused refusal) × (envelope_of description ≡ Err refusal))
     ⊎ ((envelope : EnvelopeValue) × (envelope_of description ≡ Ok envelope)
     × IsGivenRefusal envelope given e)
 
 -- why there is no bundle of them: there are no sections, or they are no deposit
 abbrev pub IsBundleRefusal : List ℕ → List GivenTable → BundleFault → Type 0
 IsBundleRefusal description given e = IsSectionsRefusal description given e
-    ⊎ ((code : ℕ) × (sections : List Named) × (e ≡ Refused code)
-    × AreSectionsOf description given sections × HaveNoDeposit sections code)
+    ⊎ ((refusal : Refusal) × (sections : List Named) × (e ≡ Refused refusal)
+    × AreSectionsOf description given sections × HaveNoDeposit sections refusal)

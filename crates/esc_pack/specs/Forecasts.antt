@@ -5,6 +5,7 @@ use Rattle.std.specs.Prelude.{Some, None, Result, Ok, Err}
 use Rattle.std.specs.Ordering.{int_eq}
 use Rattle.std.specs.Str.{bytes_eq}
 use Rattle.sha2.specs.Sha256.{sha256}
+use Rattle.esc_bundle.specs.declared.refusal.Refusal.{Refusal}
 use Rattle.esc_envelope.specs.HeaderValue.{HeaderValue}
 use Rattle.esc_envelope.specs.Place.{rank}
 use Rattle.esc_tables.specs.DepositValue.{DepositValue}
@@ -21,17 +22,17 @@ use Rattle.esc_pack.specs.declared.member.Member.{Member}
 use Rattle.esc_pack.specs.declared.member.Member.TheVariants.{Id, Kind, Watermark, Resend, PrevId}
 
 -- what a deposit says of itself, or the refusal of a body that is none
-abbrev pub said : Result DepositValue ℕ → Result HeaderValue ℕ
+abbrev pub said : Result DepositValue Refusal → Result HeaderValue Refusal
 said (Ok d) = Ok d.header
-said (Err n) = Err n
+said (Err why) = Err why
 
 -- what is found at row r of a deposit with this header, or of the refusal of a body that is none
-abbrev pub row_forecast : List MRow → ℕ → Result HeaderValue ℕ → Forecast
+abbrev pub row_forecast : List MRow → ℕ → Result HeaderValue Refusal → Forecast
 row_forecast m r (Ok h) = if as_listed (row_at m r).header h then Holding r else Differing r h
-row_forecast m r (Err n) = Unreadable r n
+row_forecast m r (Err why) = Unreadable r why
 
 -- the same where a row has the body's SHA-256, or none has
-abbrev pub forecast_at : List MRow → Option ℕ → Result HeaderValue ℕ → Forecast
+abbrev pub forecast_at : List MRow → Option ℕ → Result HeaderValue Refusal → Forecast
 forecast_at m None h = Unlisted h
 forecast_at m (Some r) h = row_forecast m r h
 
@@ -48,14 +49,14 @@ is_at_row r (Some q) = q == r
 -- the row that lists the body, if any
 abbrev pub forecast_listed_row : Forecast → Option ℕ
 forecast_listed_row (Unlisted h) = None
-forecast_listed_row (Unreadable r n) = Some r
+forecast_listed_row (Unreadable r why) = Some r
 forecast_listed_row (Differing r h) = Some r
 forecast_listed_row (Holding r) = Some r
 
 -- the row whose deposit the body is, if any
 abbrev pub forecast_held_row : Forecast → Option ℕ
 forecast_held_row (Unlisted h) = None
-forecast_held_row (Unreadable r n) = None
+forecast_held_row (Unreadable r why) = None
 forecast_held_row (Differing r h) = None
 forecast_held_row (Holding r) = Some r
 

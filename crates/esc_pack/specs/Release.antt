@@ -4,13 +4,14 @@ use Rattle.std.specs.List.Sorted.{IsPermutation, IsSortedBy}
 use Rattle.std.specs.Ordering.{nat_cmp, int_cmp, on, then_cmp, is_lt}
 use Rattle.std.specs.declared.cmp.Ordering.{Ordering}
 use Rattle.sha2.specs.Sha256.{sha256}
+use Rattle.esc_bundle.specs.declared.refusal.Refusal.{Refusal}
 use Rattle.esc_bundle.specs.Tests.{◌>>=◌}
 use Rattle.esc_envelope.specs.Place.{rank}
 use Rattle.esc_manifest.specs.declared.row.MRow.{MRow}
 use Rattle.esc_tables.specs.Reading.{reading}
 
 -- the row of a body: what its deposit says of itself, and the SHA-256 of its bytes; or its fault
-abbrev pub row_of_body : List ℕ → Result MRow ℕ
+abbrev pub row_of_body : List ℕ → Result MRow Refusal
 row_of_body body = reading body >>= λ d. Ok (record { header = d.header; digest = sha256 body })
 
 -- the order of rows: by place, and at one place by resend

@@ -4,7 +4,7 @@ ghost use Rattle.std.specs.Prelude.{◌≡◌};
 ghost use Rattle.esc_pack.specs.declared.bundle_fault.BundleFault.TheVariants.{NoMemory as no_memory};
 ghost use Rattle.esc_pack.specs.BundleRefusals.{of_fault};
 
-use esc_bundle::{Fault, NoMemory};
+use esc_bundle::{Fault, NoMemory, Refusal};
 use std::alloc::{AllocError, AllocFailed};
 use std::error::Error;
 use std::fmt;
@@ -13,11 +13,8 @@ use std::fmt;
 /// deletes, the files of a table from 0, and the rows of a file from 1, after its heading.
 #[derive(Clone, Copy, Debug, PartialEq, Eq)]
 pub enum BundleFault {
-    /// The refusal with this number: 5 to 7 for U5 to U7 of the description, 1 to 4 for U1 to U4 of
-    /// the frame, 8, 10 and 11 for U8, U10 and U11 of the rows.
-    Refused {
-        code: u8,
-    },
+    /// The description is refused (U5 to U7), or the frame (U1 to U4), or the rows (U8, U10, U11).
+    Refused(Refusal),
     /// There are files for another number of tables than the description declares.
     Unmatched,
     /// A file with a heading begins with a row that does not name the declared fields.
@@ -42,7 +39,7 @@ pub enum BundleFault {
 impl fmt::Display for BundleFault {
     fn fmt<W: fmt::Write>(&self, f: &mut fmt::Formatter<W>) -> fmt::Result {
         match *self {
-            BundleFault::Refused { code } => write!(f, "U{code}"),
+            BundleFault::Refused(refusal) => write!(f, "{refusal}"),
             BundleFault::Unmatched => f.write_str("other tables than declared"),
             BundleFault::Heading { table, file } => write!(
                 f,
@@ -88,7 +85,7 @@ impl From<Fault> for BundleFault {
 
     fn from(fault: Fault) -> BundleFault {
         match fault {
-            Fault::Refused(code) => BundleFault::Refused { code },
+            Fault::Refused(refusal) => BundleFault::Refused(refusal),
             Fault::NoMemory => BundleFault::NoMemory,
         }
     }

@@ -7,16 +7,10 @@
 ghost use Rattle.std.specs.Prelude.{◌≤◌, length, IfOk};
 
 use crate::spot::no_spot;
-use esc_bundle::{Fault, NoMemory};
+use esc_bundle::{Fault, NoMemory, Refusal};
 use esc_envelope::{array_of, read_envelope, text_at};
 use serde_json::{Error, Value};
 use std::alloc::Global;
-
-/// U6: a member other than those of a table is missing, or not of its form.
-const WRONG_MEMBER: u8 = 6;
-
-/// U7: the declaration of a table is not valid.
-const WRONG_TABLE: u8 = 7;
 
 /// The members that an envelope has to have, and those that a table has to have.
 const RIGHT_HEADER: &str = "\"id\":\"F1\",\"type\":\"FULL\",\"watermark\":\"1970-01-01T00:00:00Z\"";
@@ -76,15 +70,15 @@ fn is_right(alloc: Global, envelope: &Value, member: &str) -> Result<bool, NoMem
         return Ok(!matches!(member, "id" | "type" | "watermark"));
     };
     let value = value.to_string(alloc)?;
-    is_read(alloc, member, value.as_str(), WRONG_MEMBER)
+    is_read(alloc, member, value.as_str(), Refusal::WrongMember)
 }
 
-// Whether an envelope, right but for this member, is not refused by this number.
-fn is_read(alloc: Global, member: &str, value: &str, refusal: u8) -> Result<bool, NoMemory> {
+// Whether an envelope, right but for this member, does not have this refusal.
+fn is_read(alloc: Global, member: &str, value: &str, refusal: Refusal) -> Result<bool, NoMemory> {
     let text = format!(in alloc; "{{{RIGHT_HEADER},{member:?}:{value}}}")?;
     match read_envelope(alloc, text.as_bytes()) {
         Ok(_) => Ok(true),
-        Err(Fault::Refused(number)) => Ok(number != refusal),
+        Err(Fault::Refused(other)) => Ok(other != refusal),
         Err(Fault::NoMemory) => Err(NoMemory),
     }
 }
@@ -115,7 +109,7 @@ fn are_read(alloc: Global, list: &str, tables: &[Value]) -> Result<bool, NoMemor
         array.push_str(table.to_string(alloc)?.as_str())?;
     }
     array.push_str("]")?;
-    is_read(alloc, list, array.as_str(), WRONG_TABLE)
+    is_read(alloc, list, array.as_str(), Refusal::WrongTable)
 }
 
 // The index of the first table with which those up to it are refused, where all of them are: the
@@ -171,7 +165,7 @@ fn is_right_in(alloc: Global, list: &str, table: &Value, member: &str) -> Result
         _ => String::new(alloc),
     };
     let array = format!(in alloc; "[{{{RIGHT_TABLE},{member:?}:{value}{more}}}]")?;
-    is_read(alloc, list, array.as_str(), WRONG_TABLE)
+    is_read(alloc, list, array.as_str(), Refusal::WrongTable)
 }
 
 fn first_as_key(alloc: Global, table: &Value) -> Result<String, NoMemory> {

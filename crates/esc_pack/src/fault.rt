@@ -4,15 +4,16 @@ ghost use Rattle.std.specs.Prelude.{◌≡◌};
 ghost use Rattle.esc_pack.specs.declared.fault.ReleaseFault.TheVariants.{NoMemory as no_memory};
 
 use esc_bundle::NoMemory;
+use esc_manifest::ManifestRefusal;
 use std::error::Error;
 use std::fmt;
 
 /// Why bundles have no release manifest.
 #[derive(Clone, Copy, Debug, PartialEq, Eq)]
 pub enum ReleaseFault {
-    /// Their rows, in the order of places, are no manifest: the refusal with this number, 1 to 13
-    /// for M1 to M13, at this row. Rows count from 1, and row 0 is the whole.
-    Unlisted { code: u8, row: u32 },
+    /// Their rows, in the order of places, are no manifest: they are refused at this row. Rows
+    /// count from 1, and row 0 is the whole.
+    Unlisted { refusal: ManifestRefusal, row: u32 },
     /// Memory was refused.
     NoMemory,
 }
@@ -20,7 +21,7 @@ pub enum ReleaseFault {
 impl fmt::Display for ReleaseFault {
     fn fmt<W: fmt::Write>(&self, f: &mut fmt::Formatter<W>) -> fmt::Result {
         match *self {
-            ReleaseFault::Unlisted { code, row } => write!(f, "M{code} row {row}"),
+            ReleaseFault::Unlisted { refusal, row } => write!(f, "{refusal} row {row}"),
             ReleaseFault::NoMemory => f.write_str("out of memory"),
         }
     }

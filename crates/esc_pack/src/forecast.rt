@@ -9,7 +9,7 @@ ghost use Rattle.esc_pack.specs.Forecasts.{forecast_listed_row, forecast_held_ro
 ghost use Rattle.esc_pack.specs.Forecasts.{differs};
 
 use crate::member::Member;
-use esc_bundle::{Fault, NoMemory};
+use esc_bundle::{Fault, NoMemory, Refusal};
 use esc_envelope::{DepositType, Header};
 use esc_manifest::{MRow, Manifest};
 use esc_tables::read_deposit;
@@ -19,11 +19,10 @@ use std::alloc::Global;
 /// What is found of a body by the rows of a manifest, which are indices from 0.
 #[derive(Debug, Drop)]
 pub enum Forecast {
-    /// No row has its SHA-256: `A5`. What its deposit says of itself, or the number of the refusal,
-    /// 1 to 11 for U1 to U11, if it is none.
-    Unlisted(Result<Header, u8>),
-    /// This row has its SHA-256, but it is no deposit, by the refusal of this number: `A3`.
-    Unreadable(usize, u8),
+    /// No row has its SHA-256: `A5`. What its deposit says of itself, or the refusal if it is none.
+    Unlisted(Result<Header, Refusal>),
+    /// This row has its SHA-256, but it is no deposit, by this refusal: `A3`.
+    Unreadable(usize, Refusal),
     /// This row has its SHA-256, but its deposit says something else of itself: `A4`.
     Differing(usize, Header),
     /// It is the deposit of this row: `A1`.
@@ -42,26 +41,26 @@ pub fn forecast_of(alloc: Global, manifest: &Manifest, body: &[u8]) -> Result<Fo
     })
 }
 
-// What the deposit of a body says of itself, or the number of its refusal.
-fn header_of(alloc: Global, body: &[u8]) -> Result<Result<Header, u8>, NoMemory>
+// What the deposit of a body says of itself, or its refusal.
+fn header_of(alloc: Global, body: &[u8]) -> Result<Result<Header, Refusal>, NoMemory>
     ensures { IfOk result (λ h. h ≡ said (reading body.now)) }
 {
     match read_deposit(alloc, body) {
         Ok(deposit) => Ok(Ok(deposit.header)),
-        Err(Fault::Refused(number)) => Ok(Err(number)),
+        Err(Fault::Refused(refusal)) => Ok(Err(refusal)),
         Err(Fault::NoMemory) => Err(NoMemory),
     }
 }
 
 // What is found at a row.
-fn found(rows: &[MRow], row: usize, said: Result<Header, u8>) -> Forecast
+fn found(rows: &[MRow], row: usize, said: Result<Header, Refusal>) -> Forecast
     requires { row < length rows.now }
     ensures { result ≡ row_forecast rows.now row said }
 {
     match said {
         Ok(header) if is_as_listed(&rows[row].header, &header) => Forecast::Holding(row),
         Ok(header) => Forecast::Differing(row, header),
-        Err(number) => Forecast::Unreadable(row, number),
+        Err(refusal) => Forecast::Unreadable(row, refusal),
     }
 }
 

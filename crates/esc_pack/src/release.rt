@@ -2,6 +2,7 @@
 
 ghost use Rattle.std.specs.Prelude.{◌≡◌, ℕ, [], Ok, Err, None, OnOk, IfOk, IfErr};
 ghost use Rattle.std.specs.List.Sorted.{IsPermutation, IsSortedBy};
+ghost use Rattle.esc_bundle.specs.declared.refusal.Refusal.{Refusal};
 ghost use Rattle.esc_tables.specs.Reading.{reading};
 ghost use Rattle.esc_manifest.specs.RowFaults.{rows_fault};
 ghost use Rattle.esc_pack.specs.Release.{row_of_body, AddsRow, row_cmp, comes_before};
@@ -11,7 +12,9 @@ use crate::fault::ReleaseFault;
 use crate::written::manifest_text;
 use esc_bundle::{Fault, NoMemory};
 use esc_csv::written_lines_read_back;
-use esc_manifest::{MFault, MOST_MANIFEST_BYTES, MRow, Manifest, copy_rows, from_rows};
+use esc_manifest::{
+    MOST_MANIFEST_BYTES, MRow, Manifest, ManifestFault, ManifestRefusal, copy_rows, from_rows,
+};
 use esc_tables::read_deposit;
 use sha2::{Digest, Sha256};
 use std::alloc::Global;
@@ -45,13 +48,12 @@ impl Release {
     }
 
     /// Reads one more bundle: its row has what its deposit says of itself, and the SHA-256 of its
-    /// bytes. At `Err` the release is as it was: `Refused` with 1 to 11 for U1 to U11, where it is
-    /// no deposit, or `NoMemory`.
+    /// bytes. At `Err` the release is as it was: `Refused` where it is no deposit, or `NoMemory`.
     pub fn read(&mut self, alloc: Global, body: &[u8]) -> Result<(), Fault>
         ensures read { OnOk result (AddsRow body.now self.old self.new) }
         ensures unchanged { IfErr result (λ e. self.new ≡ self.old) }
-        ensures refused { IfErr result (λ e. (n : ℕ) → e ≡ Fault.Refused n
-            → reading body.now ≡ Err n) }
+        ensures refused { IfErr result (λ e. (why : Refusal) → e ≡ Fault.Refused why
+            → reading body.now ≡ Err why) }
     {
         let row = row_of_body(alloc, body)?;
         self.rows.push(row)?;
@@ -81,7 +83,10 @@ impl Release {
         let text = manifest_text(alloc, &manifest)?;
         written_lines_read_back();
         if text.len() > MOST_MANIFEST_BYTES {
-            return Err(ReleaseFault::Unlisted { code: 1, row: 0 });
+            return Err(ReleaseFault::Unlisted {
+                refusal: ManifestRefusal::OverLimit,
+                row: 0,
+            });
         }
         Ok(text)
     }
@@ -90,8 +95,8 @@ impl Release {
 // The row of a body.
 fn row_of_body(alloc: Global, body: &[u8]) -> Result<MRow, Fault>
     ensures row { IfOk result (λ row. row_of_body body.now ≡ Ok row) }
-    ensures refused { IfErr result (λ e. (n : ℕ) → e ≡ Fault.Refused n
-        → reading body.now ≡ Err n) }
+    ensures refused { IfErr result (λ e. (why : Refusal) → e ≡ Fault.Refused why
+        → reading body.now ≡ Err why) }
 {
     let deposit = read_deposit(alloc, body)?;
     Ok(MRow {
@@ -127,7 +132,9 @@ fn accepted(alloc: Global, rows: Vec<MRow>) -> Result<Manifest, ReleaseFault>
 {
     match from_rows(alloc, rows) {
         Ok(manifest) => Ok(manifest),
-        Err(MFault::Refused { code, row }) => Err(ReleaseFault::Unlisted { code, row }),
-        Err(MFault::NoMemory) => Err(ReleaseFault::NoMemory),
+        Err(ManifestFault::Refused { refusal, row }) => {
+            Err(ReleaseFault::Unlisted { refusal, row })
+        }
+        Err(ManifestFault::NoMemory) => Err(ReleaseFault::NoMemory),
     }
 }

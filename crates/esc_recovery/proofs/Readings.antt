@@ -9,7 +9,7 @@ use Rattle.esc_scan.specs.Opening.{IsHeldBy, ReadsStore}
 use Rattle.esc_store.specs.ReadingLaws.{are_read_as}
 use Rattle.esc_events.specs.Events.{EventValue}
 use Rattle.esc_desk.specs.declared.desk.Desk.{Desk}
-use Rattle.esc_desk.specs.declared.reader.DeskReader.{DeskReader}
+use Rattle.esc_store.specs.declared.reader.StoreReader.{StoreReader}
 use Rattle.esc_desk.specs.Crashes.{IsStoreFor}
 use Rattle.esc_desk.specs.Readers.{ReaderReflects}
 use Rattle.esc_recovery.specs.FileImages.{IsOpenedFrom}
@@ -25,7 +25,7 @@ read_for image trees reads db held e is = record {
 }
 
 -- a reader over these trees is one of the store of the two files
-pub reader_from : {S : Type 0} (g : Ghosts S) (image : Image) (trees : Trees) (reader : DeskReader S) → ReadsStore image trees → ((e : List EventValue) → AreReadFor trees e → ReaderReflects g reader e) → IsReaderFrom g image reader
+pub reader_from : {S : Type 0} (g : Ghosts S) (image : Image) (trees : Trees) (reader : StoreReader S) → ReadsStore image trees → ((e : List EventValue) → AreReadFor trees e → ReaderReflects g reader e) → IsReaderFrom g image reader
 reader_from g image trees reader reads reflects = record {
   serves = λ e it. reflects e (read_for image trees reads it.0 it.1 e it.2);
   found = λ e doubtful one. ∥∥₁_map one (λ it.

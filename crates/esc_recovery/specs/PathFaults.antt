@@ -2,13 +2,13 @@
 use Rattle.sqlite.specs.declared.error.Error.{Error}
 use Rattle.sqlite.specs.declared.error.Error.TheVariants.{SqliteFailure}
 use Rattle.sqlite.specs.declared.error.ErrorCode.TheVariants.{CannotOpen}
-use Rattle.esc_store.specs.declared.fault.SFault.{SFault}
+use Rattle.esc_store.specs.declared.fault.StoreFault.{StoreFault}
 use Rattle.esc_store.specs.Faults.{fault_of}
 use Rattle.esc_recovery.specs.declared.path.PathFault.{PathFault}
 use Rattle.esc_recovery.specs.declared.path.PathFault.TheVariants.{Unopened, Store}
 
 -- the store's fault
-abbrev pub of_store : SFault → PathFault
+abbrev pub of_store : StoreFault → PathFault
 of_store fault = Store fault
 
 -- an error of the database: the files can't be opened, or the store's fault
@@ -17,6 +17,6 @@ path_fault_of (SqliteFailure CannotOpen) = Unopened
 path_fault_of error = Store (fault_of error)
 
 -- the files can't be opened, or this holds of the store's fault
-abbrev pub IsUnopenedOr : (SFault → Type 0) → PathFault → Type 0
+abbrev pub IsUnopenedOr : (StoreFault → Type 0) → PathFault → Type 0
 IsUnopenedOr Is Unopened = Unit {0}
 IsUnopenedOr Is (Store fault) = Is fault

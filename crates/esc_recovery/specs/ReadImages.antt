@@ -7,13 +7,13 @@ use Rattle.sqlite_trees.specs.declared.store.Store.{Ghosts}
 use Rattle.sqlite_trees.specs.Tree.{Trees}
 use Rattle.sqlite.specs.Files.{over_files}
 use Rattle.esc_tables.specs.Reading.{reading}
-use Rattle.esc_store.specs.Reading.{AreReadAs}
+use Rattle.esc_store.specs.Reading.{AreReadAs, IsHonestReader}
 use Rattle.esc_store.specs.StoreState.{StoreState}
 use Rattle.esc_events.specs.Events.{EventValue}
 use Rattle.esc_events.specs.StateAfter.{IsStateAfter}
-use Rattle.esc_desk.specs.declared.reader.DeskReader.{DeskReader}
+use Rattle.esc_store.specs.declared.reader.StoreReader.{StoreReader}
 use Rattle.esc_desk.specs.Calls.{IsHonestDesk}
-use Rattle.esc_desk.specs.Readers.{IsHonestDeskReader, ReaderReflects}
+use Rattle.esc_desk.specs.Readers.{ReaderReflects}
 use Rattle.esc_recovery.specs.declared.reading.StoreAt.{StoreAt}
 use Rattle.esc_recovery.specs.declared.reading.StoreAt.TheVariants as store_at
 use Rattle.esc_recovery.specs.FileImages.{HoldsOneOf, HoldsStoreFor, IsOneOf, IsOpenedFrom}
@@ -25,14 +25,14 @@ pub record AreReadFor (trees : Trees) (e : List EventValue) : Type 0 where
   pub stands_for : IsStateAfter sha256 reading e kept
 
 -- a reader reflects these events, or them and one of those in doubt
-abbrev pub ReflectsOneOf : {S : Type 0} → Ghosts S → DeskReader S → List EventValue
+abbrev pub ReflectsOneOf : {S : Type 0} → Ghosts S → StoreReader S → List EventValue
     → List EventValue → Type 0
 ReflectsOneOf g reader e doubtful = ∥ ((x : List EventValue) × IsOneOf x e doubtful
     × ReaderReflects g reader x) ∥₁
 
 -- the reader is over the store that the two files hold: it reflects the events of that; of what a
 -- crash left it reflects the events, or them and one of those in doubt
-pub record IsReaderFrom {S : Type 0} (g : Ghosts S) (image : Image) (reader : DeskReader S)
+pub record IsReaderFrom {S : Type 0} (g : Ghosts S) (image : Image) (reader : StoreReader S)
     : Type 0 where
   pub serves : (e : List EventValue) → HoldsStoreFor image e → ReaderReflects g reader e
   pub found : (e doubtful : List EventValue) → HoldsOneOf image e doubtful
@@ -41,7 +41,7 @@ pub record IsReaderFrom {S : Type 0} (g : Ghosts S) (image : Image) (reader : De
 module _ {D : Type 0} {g : disk.Ghosts D} where
   -- the disk gave back what was written to it
   abbrev pub IsHonestStore : StoreAt D g → Type 0
-  IsHonestStore (store_at.Reader reader) = IsHonestDeskReader over_files reader
+  IsHonestStore (store_at.Reader reader) = IsHonestReader over_files reader
   IsHonestStore (store_at.Desk desk) = IsHonestDesk over_files desk
 
   -- what was opened is over the store that the two files hold

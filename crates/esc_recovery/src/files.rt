@@ -8,7 +8,7 @@ ghost use Rattle.sqlite_wal.specs.Files.{outcomes};
 ghost use Rattle.sqlite_wal.specs.Reads.{AreClean};
 ghost use Rattle.sqlite_wal.specs.Recovery.{Image};
 ghost use Rattle.sqlite.specs.Files.{over_files, image_of};
-ghost use Rattle.esc_store.specs.Faults.{IsS1OrS2, IsS1ToS3};
+ghost use Rattle.esc_store.specs.Faults.{IsFailure, IsOpenFault};
 ghost use Rattle.esc_desk.specs.Calls.{ForDeskEvents, DeskLeaves, IsHonestDesk};
 ghost use Rattle.esc_events.specs.Events.{EventValue};
 ghost use Rattle.esc_desk.specs.Reflection.{DeskReflects};
@@ -16,7 +16,7 @@ ghost use Rattle.esc_recovery.specs.FileImages.{HoldsStoreFor, HoldsOneOf, IsOpe
 
 use crate::leaving::{connection_of, store_below};
 use crate::opening::desk_or_fault;
-use esc_desk::{Desk, SFault};
+use esc_desk::{Desk, StoreFault};
 use sqlite::{Connection, Error, FileStore, Files, Options};
 use sqlite_disk::Disk;
 use std::alloc::Global;
@@ -39,14 +39,14 @@ pub fn desk_of_files<D: Disk + Drop>(
     alloc: Global,
     files: Files<D>,
     options: Options,
-) -> Result<Desk<FileStore<D>>, SFault>
+) -> Result<Desk<FileStore<D>>, StoreFault>
     requires log { IsTrue (D.Disk.is_usable files.log) }
     requires db { IsTrue (D.Disk.is_usable files.db) }
     ensures honest { IfOk result (λ desk. IsHonestDesk over_files desk
         → AreClean D.Disk files.log files.db) }
     ensures opened { IfOk result (λ desk. IsHonestDesk over_files desk
         → IsOpenedFrom over_files (image_of D.Disk files) desk) }
-    ensures cause { IfErr result IsS1ToS3 }
+    ensures cause { IfErr result IsOpenFault }
 {
     let connection = match Connection::open_files(alloc, files, options) {
         Ok(connection) => connection,
@@ -58,7 +58,7 @@ pub fn desk_of_files<D: Disk + Drop>(
 /// Closes a desk: what is still in its log is copied into its database. Then, and after a crash,
 /// the two files hold a store of the events that the desk reflected. At `Err`, which is `S1` or
 /// `S2`, the files are as a crash may leave those of the desk.
-pub fn close_desk<D: Disk + Drop>(desk: Desk<FileStore<D>>) -> Result<Files<D>, SFault>
+pub fn close_desk<D: Disk + Drop>(desk: Desk<FileStore<D>>) -> Result<Files<D>, StoreFault>
     ensures usable { IfOk result
         (λ files. IsTrue (D.Disk.is_usable files.log) × IsTrue (D.Disk.is_usable files.db)) }
     ensures holds { IfOk result (λ files. AreClean D.Disk files.log files.db
@@ -67,7 +67,7 @@ pub fn close_desk<D: Disk + Drop>(desk: Desk<FileStore<D>>) -> Result<Files<D>, 
     ensures left { IfOk result (λ files. AreClean D.Disk files.log files.db
         → (e : List EventValue) → DeskReflects over_files desk e
         → (image : Image) → outcomes D.Disk files.log files.db image → HoldsStoreFor image e) }
-    ensures cause { IfErr result IsS1OrS2 }
+    ensures cause { IfErr result IsFailure }
 {
     match connection_of(desk).close_files() {
         Ok(files) => Ok(files),
@@ -85,20 +85,20 @@ pub fn reopen_desk<D: Disk + Drop>(
     alloc: Global,
     desk: Desk<FileStore<D>>,
     options: Options,
-) -> Result<Desk<FileStore<D>>, SFault>
+) -> Result<Desk<FileStore<D>>, StoreFault>
     ensures serves { IfOk result (λ again. ForDeskEvents over_files desk again
         (λ e. DeskReflects over_files again e)) }
     ensures left { IfOk result (λ again. ForDeskEvents over_files desk again
         (λ e. DeskLeaves over_files again e [])) }
-    ensures cause { IfErr result IsS1ToS3 }
+    ensures cause { IfErr result IsOpenFault }
 {
     let files = close_desk(desk)?;
     desk_of_files(alloc, files, options)
 }
 
 // The desk's fault for an error of `sqlite`.
-fn fault_of(error: Error) -> SFault
-    ensures { IsS1OrS2 result }
+fn fault_of(error: Error) -> StoreFault
+    ensures { IsFailure result }
 {
-    SFault::from(error)
+    StoreFault::from(error)
 }

@@ -25,8 +25,8 @@
 //!   written.
 //!
 //! What goes in are paths, connections (`sqlite`) or files, and manifests; what comes out are desks
-//! ([`Desk`](esc_desk::Desk)), readers ([`DeskReader`](esc_desk::DeskReader)) and files. Where the
-//! database fails, or is no store, the result is the `SFault`.
+//! ([`Desk`](esc_desk::Desk)), readers ([`StoreReader`](esc_store::StoreReader)) and files. Where the
+//! database fails, or is no store, the result is the `StoreFault`.
 //!
 //! # Example
 //!

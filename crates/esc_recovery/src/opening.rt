@@ -4,7 +4,7 @@ ghost use Rattle.std.specs.Prelude.{◌≡◌, List, IsTrue, IfOk, IfErr, MatchR
 ghost use Rattle.sqlite.specs.Held.{state};
 ghost use Rattle.sqlite.specs.State.{HasCleanDisk};
 ghost use Rattle.esc_manifest.specs.declared.row.MRow.{MRow};
-ghost use Rattle.esc_store.specs.Faults.{IsS1ToS3};
+ghost use Rattle.esc_store.specs.Faults.{IsOpenFault};
 ghost use Rattle.esc_store.specs.FirstVersion.{IsFirstStore, LeavesFirstOr};
 ghost use Rattle.esc_store.specs.StoreState.{StoreState, fresh};
 ghost use Rattle.esc_store.specs.Opening.{IsAsItWas};
@@ -16,7 +16,7 @@ ghost use Rattle.esc_recovery.specs.Blank.{LeavesBlankOr, DeskLeavesBlankOr};
 ghost use Rattle.esc_recovery.specs.Opened.{IsFirstStoreFor, IsNewOn, IsOpenedOn, IsMigratedOn};
 ghost use Rattle.esc_recovery.specs.Opened.{DeskLeavesFirstOr};
 
-use esc_desk::{Desk, SFault, migrated_store_serves, new_store_stands_for_its_manifest};
+use esc_desk::{Desk, StoreFault, migrated_store_serves, new_store_stands_for_its_manifest};
 use esc_manifest::Manifest;
 use esc_store::Store;
 use sqlite::{Alter, Connection};
@@ -29,17 +29,17 @@ pub fn new_desk<S: Alter>(
     alloc: Global,
     connection: Connection<S>,
     manifest: &Manifest,
-) -> Result<Desk<S>, (SFault, Connection<S>)>
+) -> Result<Desk<S>, (StoreFault, Connection<S>)>
     ensures made { IfOk result
         (λ desk. IsNewOn S.Store (state S.Store connection) desk manifest.now) }
-    ensures refused { IfErr result (λ e. e.0 ≡ SFault.S3 → HasCleanDisk (state S.Store e.1)
+    ensures refused { IfErr result (λ e. e.0 ≡ StoreFault.NotAStore → HasCleanDisk (state S.Store e.1)
         → IsTrue (state S.Store e.1).is_open → IsBlank (state S.Store connection).now → ⊥) }
     ensures crash { MatchResult result
         (λ desk. DeskLeavesBlankOr S.Store connection desk (fresh manifest.now))
         (λ e. LeavesBlankOr S.Store connection e.1 (fresh manifest.now)) }
     ensures unchanged { IfErr result
         (λ e. IsAsItWas (state S.Store connection) (state S.Store e.1)) }
-    ensures cause { IfErr result (λ e. IsS1ToS3 e.0) }
+    ensures cause { IfErr result (λ e. IsOpenFault e.0) }
 {
     new_store_stands_for_its_manifest();
     match Store::create(alloc, connection, manifest) {
@@ -54,14 +54,14 @@ pub fn new_desk<S: Alter>(
 pub fn open_desk<S: Alter>(
     alloc: Global,
     connection: Connection<S>,
-) -> Result<Desk<S>, (SFault, Connection<S>)>
+) -> Result<Desk<S>, (StoreFault, Connection<S>)>
     ensures opened { IfOk result (IsOpenedOn S.Store (state S.Store connection)) }
-    ensures never { IfErr result (λ e. e.0 ≡ SFault.S3 → HasCleanDisk (state S.Store e.1)
+    ensures never { IfErr result (λ e. e.0 ≡ StoreFault.NotAStore → HasCleanDisk (state S.Store e.1)
         → IsTrue (state S.Store e.1).is_open → (events : List EventValue)
         → IsStoreFor (state S.Store connection).committed.trees events → ⊥) }
     ensures unchanged { IfErr result
         (λ e. IsAsItWas (state S.Store connection) (state S.Store e.1)) }
-    ensures cause { IfErr result (λ e. IsS1ToS3 e.0) }
+    ensures cause { IfErr result (λ e. IsOpenFault e.0) }
 {
     match Store::open(alloc, connection) {
         Ok(store) => Ok(Desk::open(store)),
@@ -73,9 +73,9 @@ pub fn open_desk<S: Alter>(
 pub(crate) fn desk_or_fault<S: Alter + Drop>(
     alloc: Global,
     connection: Connection<S>,
-) -> Result<Desk<S>, SFault>
+) -> Result<Desk<S>, StoreFault>
     ensures opened { IfOk result (IsOpenedOn S.Store (state S.Store connection)) }
-    ensures cause { IfErr result IsS1ToS3 }
+    ensures cause { IfErr result IsOpenFault }
 {
     open_desk(alloc, connection).map_err(|(fault, _)| fault)
 }
@@ -87,9 +87,9 @@ pub(crate) fn desk_or_fault<S: Alter + Drop>(
 pub fn migrated_desk<S: Alter>(
     alloc: Global,
     connection: Connection<S>,
-) -> Result<Desk<S>, (SFault, Connection<S>)>
+) -> Result<Desk<S>, (StoreFault, Connection<S>)>
     ensures migrated { IfOk result (IsMigratedOn S.Store (state S.Store connection)) }
-    ensures never { IfErr result (λ e. e.0 ≡ SFault.S3 → HasCleanDisk (state S.Store e.1)
+    ensures never { IfErr result (λ e. e.0 ≡ StoreFault.NotAStore → HasCleanDisk (state S.Store e.1)
         → IsTrue (state S.Store e.1).is_open → (m : List MRow) (l : List ArrivalValue)
         → IsFirstStoreFor (state S.Store connection).committed.trees m l → ⊥) }
     ensures crash { (k : StoreState) → IsFirstStore (state S.Store connection).committed.trees k
@@ -98,7 +98,7 @@ pub fn migrated_desk<S: Alter>(
         (λ e. LeavesFirstOr S.Store connection e.1 k) }
     ensures unchanged { IfErr result
         (λ e. IsAsItWas (state S.Store connection) (state S.Store e.1)) }
-    ensures cause { IfErr result (λ e. IsS1ToS3 e.0) }
+    ensures cause { IfErr result (λ e. IsOpenFault e.0) }
 {
     match Store::migrate(alloc, connection) {
         Ok(store) => {

@@ -3,7 +3,7 @@
 ghost use Rattle.std.specs.Prelude.{◌≡◌, [], ◌∷◌, IfOk, IfErr};
 ghost use Rattle.sqlite_wal.specs.Files.{image_at};
 ghost use Rattle.sqlite.specs.Files.{over_files};
-ghost use Rattle.esc_store.specs.Faults.{IsS1ToS3};
+ghost use Rattle.esc_store.specs.Faults.{IsOpenFault};
 ghost use Rattle.esc_store.specs.StoreTables.{IsBlank};
 ghost use Rattle.esc_desk.specs.Calls.{DeskLeaves, IsHonestDesk};
 ghost use Rattle.esc_desk.specs.Reflection.{DeskReflects};
@@ -13,7 +13,7 @@ ghost use Rattle.esc_recovery.specs.PathFaults.{IsUnopenedOr, path_fault_of, of_
 
 use crate::connecting::connection_at;
 use crate::opening::{desk_or_fault, migrated_desk, new_desk};
-use esc_desk::{Desk, SFault};
+use esc_desk::{Desk, StoreFault};
 use esc_manifest::Manifest;
 use sqlite::{Error, ErrorCode, FileFrom, FileStore, Start};
 use std::fs;
@@ -26,7 +26,7 @@ pub enum PathFault {
     /// means something else to SQLite than a file of that name (`:memory:`, a URI).
     Unopened,
     /// `S1` to `S3` of the store.
-    Store(SFault),
+    Store(StoreFault),
 }
 
 impl From<Error> for PathFault {
@@ -35,15 +35,15 @@ impl From<Error> for PathFault {
     fn from(error: Error) -> PathFault {
         match error {
             Error::SqliteFailure(ErrorCode::CannotOpen) => PathFault::Unopened,
-            error => PathFault::Store(SFault::from(error)),
+            error => PathFault::Store(StoreFault::from(error)),
         }
     }
 }
 
-impl From<SFault> for PathFault {
+impl From<StoreFault> for PathFault {
     ghost from_gives = { λ fault path_fault. path_fault ≡ of_store fault };
 
-    fn from(fault: SFault) -> PathFault {
+    fn from(fault: StoreFault) -> PathFault {
         PathFault::Store(fault)
     }
 }
@@ -58,10 +58,10 @@ pub fn open_desk_at<S: Start>(
 ) -> Result<Desk<FileStore<FileFrom<S>>>, PathFault>
     ensures opened { IfOk result (λ desk. IsHonestDesk over_files desk
         → IsOpenedFrom over_files (image_at S.Start) desk) }
-    ensures cause { IfErr result (IsUnopenedOr IsS1ToS3) }
+    ensures cause { IfErr result (IsUnopenedOr IsOpenFault) }
 {
     if is_missing(rt, path) {
-        return Err(PathFault::Store(SFault::S3));
+        return Err(PathFault::Store(StoreFault::NotAStore));
     }
     let connection = connection_at(rt, path, start)?;
     Ok(desk_or_fault(rt.alloc(), connection)?)
@@ -79,7 +79,7 @@ pub fn new_desk_at<S: Start>(
     ensures left { IfOk result (λ desk. DeskLeaves over_files desk (listed manifest.now ∷ []) []) }
     ensures blank { IfOk result (λ desk. IsHonestDesk over_files desk
         → Holds IsBlank (image_at S.Start)) }
-    ensures cause { IfErr result (IsUnopenedOr IsS1ToS3) }
+    ensures cause { IfErr result (IsUnopenedOr IsOpenFault) }
 {
     let connection = connection_at(rt, path, start)?;
     match new_desk(rt.alloc(), connection, manifest) {
@@ -98,10 +98,10 @@ pub fn migrated_desk_at<S: Start>(
 ) -> Result<Desk<FileStore<FileFrom<S>>>, PathFault>
     ensures migrated { IfOk result (λ desk. IsHonestDesk over_files desk
         → IsMigratedFrom over_files (image_at S.Start) desk) }
-    ensures cause { IfErr result (IsUnopenedOr IsS1ToS3) }
+    ensures cause { IfErr result (IsUnopenedOr IsOpenFault) }
 {
     if is_missing(rt, path) {
-        return Err(PathFault::Store(SFault::S3));
+        return Err(PathFault::Store(StoreFault::NotAStore));
     }
     let connection = connection_at(rt, path, start)?;
     match migrated_desk(rt.alloc(), connection) {

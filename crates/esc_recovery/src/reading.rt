@@ -3,17 +3,17 @@
 ghost use Rattle.std.specs.Prelude.{List, IsTrue, IfOk, IfErr};
 ghost use Rattle.sqlite_wal.specs.Files.{image_at};
 ghost use Rattle.sqlite.specs.Files.{image_of};
-ghost use Rattle.esc_store.specs.Faults.{IsS1ToS3};
-ghost use Rattle.esc_store.specs.Reading.{AreHonest};
+ghost use Rattle.esc_store.specs.Faults.{IsOpenFault};
+ghost use Rattle.esc_store.specs.Reading.{AreHonest, IsHonestReader};
 ghost use Rattle.esc_events.specs.Events.{EventValue};
-ghost use Rattle.esc_desk.specs.Readers.{IsHonestDeskReader, ReaderReflects};
+ghost use Rattle.esc_desk.specs.Readers.{ReaderReflects};
 ghost use Rattle.esc_recovery.specs.PathFaults.{IsUnopenedOr};
 ghost use Rattle.esc_recovery.specs.ReadImages.{AreReadFor, IsHonestStore, IsStoreFrom};
 
 use crate::connecting::{files_at, options};
 use crate::files::desk_of_files;
 use crate::path::{PathFault, is_missing};
-use esc_desk::{Desk, DeskReader, SFault};
+use esc_desk::{Desk, StoreFault};
 use esc_scan::opening::{Opened, open_trees};
 use esc_store::StoreReader;
 use sqlite::{FileFrom, FileStore, Files, Options, Start};
@@ -25,7 +25,7 @@ use std::alloc::Global;
 #[derive(Drop)]
 pub enum StoreAt<D: Disk> {
     /// By its trees, without SQL. The version was tested; another row is tested where it is read.
-    Reader(DeskReader<FileStore<D>>),
+    Reader(StoreReader<FileStore<D>>),
     /// By SQL, where the files aren't opened by trees: their pages keep sums, or there was little
     /// memory. Each row was tested as the store was opened.
     Desk(Desk<FileStore<D>>),
@@ -40,10 +40,10 @@ pub fn reader_at<S: Start>(
     start: S,
 ) -> Result<StoreAt<FileFrom<S>>, PathFault>
     ensures opened { IfOk result (λ it. IsHonestStore it → IsStoreFrom (image_at S.Start) it) }
-    ensures cause { IfErr result (IsUnopenedOr IsS1ToS3) }
+    ensures cause { IfErr result (IsUnopenedOr IsOpenFault) }
 {
     if is_missing(rt, path) {
-        return Err(PathFault::Store(SFault::S3));
+        return Err(PathFault::Store(StoreFault::NotAStore));
     }
     let files = files_at(rt, path, start)?;
     let options = options(rt)?;
@@ -61,7 +61,7 @@ fn store_of_files<D: Disk + Drop>(
     requires db { IsTrue (D.Disk.is_usable files.db) }
     ensures opened { IfOk result
         (λ it. IsHonestStore it → IsStoreFrom (image_of D.Disk files) it) }
-    ensures cause { IfErr result (IsUnopenedOr IsS1ToS3) }
+    ensures cause { IfErr result (IsUnopenedOr IsOpenFault) }
 {
     match open_trees(alloc, files, options)? {
         Opened::Trees(trees) => Ok(StoreAt::Reader(reader_over(alloc, trees)?)),
@@ -70,16 +70,16 @@ fn store_of_files<D: Disk + Drop>(
 }
 
 // A reader over trees, which are dropped where there is none.
-fn reader_over<S: Store + Drop>(alloc: Global, trees: S) -> Result<DeskReader<S>, SFault>
+fn reader_over<S: Store + Drop>(alloc: Global, trees: S) -> Result<StoreReader<S>, StoreFault>
     ensures honest { IfOk result
-        (λ reader. IsHonestDeskReader S.Store reader → AreHonest S.Store trees) }
-    ensures reflects { IfOk result (λ reader. IsHonestDeskReader S.Store reader
+        (λ reader. IsHonestReader S.Store reader → AreHonest S.Store trees) }
+    ensures reflects { IfOk result (λ reader. IsHonestReader S.Store reader
         → (e : List EventValue) → AreReadFor (S.Store.view trees).trees e
         → ReaderReflects S.Store reader e) }
-    ensures cause { IfErr result IsS1ToS3 }
+    ensures cause { IfErr result IsOpenFault }
 {
     match StoreReader::from_trees(alloc, trees) {
-        Ok(store) => Ok(DeskReader::over(store)),
+        Ok(reader) => Ok(reader),
         Err((fault, _)) => Err(fault),
     }
 }

@@ -1,6 +1,5 @@
 pub mod GapsFacts
 pub mod Listed
 pub mod Pieces
-pub mod ReaderFacts
+pub mod Reading
 pub mod StatusLemmas
-pub mod StoreFacts

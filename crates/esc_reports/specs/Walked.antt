@@ -4,8 +4,8 @@ use Rattle.esc_apply.specs.ObjectStreams.{Entry}
 use Rattle.esc_check.specs.FindingValue.{FindingValue}
 use Rattle.esc_check.specs.declared.stream.StreamFault.{StreamFault}
 use Rattle.esc_check.specs.declared.stream.StreamFault.TheVariants.{Source, NoMemory}
-use Rattle.esc_store.specs.declared.fault.SFault.{SFault}
-use Rattle.esc_store.specs.declared.fault.SFault.TheVariants.{S2}
+use Rattle.esc_store.specs.declared.fault.StoreFault.{StoreFault}
+use Rattle.esc_store.specs.declared.fault.StoreFault.TheVariants.{NoMemory as no_memory}
 use Rattle.esc_desk.specs.declared.status.End.{End}
 use Rattle.esc_events.specs.Apart.{WhereApart}
 use Rattle.esc_events.specs.Events.{EventValue}
@@ -18,6 +18,6 @@ AreFoundAt e end findings = WhereApart e ((entries : List Entry) × AreEntries e
     × AreFindings entries end findings)
 
 -- the fault that ends a report over a walk: the walk's own, or S2 where memory was refused
-abbrev pub walk_fault : StreamFault SFault → SFault
+abbrev pub walk_fault : StreamFault StoreFault → StoreFault
 walk_fault (Source fault) = fault
-walk_fault NoMemory = S2
+walk_fault NoMemory = no_memory

@@ -4,7 +4,7 @@ ghost use Rattle.std.specs.Prelude.{◌≡◌, ◌∷◌, [], ◌++◌, IfOk, If
 ghost use Rattle.std.specs.Prelude.{option_map};
 ghost use Rattle.esc_chain.specs.GapTexts.{state_text, blocker_text};
 ghost use Rattle.esc_csv.specs.Lines.{line_text};
-ghost use Rattle.esc_store.specs.Faults.{IsS1OrS2};
+ghost use Rattle.esc_store.specs.Faults.{IsFailure};
 ghost use Rattle.esc_reports.specs.GapsText.{gaps_heading, gap_line, gap_lines_text, gaps_text};
 ghost use Rattle.esc_reports.specs.GapsText.{IsGapsReport};
 ghost use Rattle.esc_reports.specs.ReceiptsText.{or_empty};
@@ -15,7 +15,7 @@ use esc_bundle::NoMemory;
 use esc_chain::{Blocker, GapLine, Held, State, gaps_at};
 use esc_csv::Lines;
 use esc_manifest::Manifest;
-use esc_store::SFault;
+use esc_store::{Cause, StoreFault};
 use std::alloc::{AllocError, Global};
 
 /// The report of gaps of a manifest, by the rows of it that are held, as indices from 0, and the
@@ -26,19 +26,21 @@ pub(crate) fn gaps_report(
     manifest: &Manifest,
     rows: &[usize],
     moment: Option<i64>,
-) -> Result<Vec<u8>, SFault>
+) -> Result<Vec<u8>, StoreFault>
     ensures text { IfOk result (λ text. IsGapsReport manifest.now rows.now moment text.items) }
-    ensures cause { IfErr result IsS1OrS2 }
+    ensures cause { IfErr result IsFailure }
 {
-    let held = Held::from_rows(alloc, manifest, rows)?.ok_or(SFault::S1)?;
+    let held = Held::from_rows(alloc, manifest, rows)?.ok_or(StoreFault::Failed(
+        Cause::Contradiction,
+    ))?;
     let lines = gaps_at(alloc, manifest, &held, moment)?;
     gaps_text(alloc, &lines)
 }
 
 // The heading `watermark,type,used,state,blocker,awaited`, and a line for each of these places.
-fn gaps_text(alloc: Global, gaps: &[GapLine]) -> Result<Vec<u8>, SFault>
+fn gaps_text(alloc: Global, gaps: &[GapLine]) -> Result<Vec<u8>, StoreFault>
     ensures text { IfOk result (λ text. text.items ≡ gaps_text gaps.now) }
-    ensures cause { IfErr result IsS1OrS2 }
+    ensures cause { IfErr result IsFailure }
 {
     let mut lines = Lines::new(alloc);
     write_heading(&mut lines)?;
@@ -46,9 +48,9 @@ fn gaps_text(alloc: Global, gaps: &[GapLine]) -> Result<Vec<u8>, SFault>
     Ok(lines.into_text()?)
 }
 
-fn write_heading(lines: &mut Lines) -> Result<(), SFault>
+fn write_heading(lines: &mut Lines) -> Result<(), StoreFault>
     ensures written { OnOk result (lines.new ≡ lines.old ++ line_text gaps_heading) }
-    ensures cause { IfErr result IsS1OrS2 }
+    ensures cause { IfErr result IsFailure }
 {
     write_fields(
         lines,
@@ -61,9 +63,9 @@ fn write_heading(lines: &mut Lines) -> Result<(), SFault>
     )
 }
 
-fn write_lines(alloc: Global, lines: &mut Lines, gaps: &[GapLine]) -> Result<(), SFault>
+fn write_lines(alloc: Global, lines: &mut Lines, gaps: &[GapLine]) -> Result<(), StoreFault>
     ensures written { OnOk result (lines.new ≡ lines.old ++ gap_lines_text gaps.now) }
-    ensures cause { IfErr result IsS1OrS2 }
+    ensures cause { IfErr result IsFailure }
 {
     for gap in gaps {
         write_line(alloc, lines, gap)?;
@@ -71,9 +73,9 @@ fn write_lines(alloc: Global, lines: &mut Lines, gaps: &[GapLine]) -> Result<(),
     Ok(())
 }
 
-fn write_line(alloc: Global, lines: &mut Lines, gap: &GapLine) -> Result<(), SFault>
+fn write_line(alloc: Global, lines: &mut Lines, gap: &GapLine) -> Result<(), StoreFault>
     ensures written { OnOk result (lines.new ≡ lines.old ++ line_text (gap_line gap.now)) }
-    ensures cause { IfErr result IsS1OrS2 }
+    ensures cause { IfErr result IsFailure }
 {
     let watermark = printed_watermark(alloc, gap.place.watermark)?;
     let used = resend_text(alloc, gap.used)?;
@@ -115,11 +117,11 @@ fn write_fields<'x>(
     state: &'x [u8],
     blocker: &'x [u8],
     awaited: &'x [u8],
-) -> Result<(), SFault>
+) -> Result<(), StoreFault>
     ensures written { OnOk result (lines.new
         ≡ lines.old ++ line_text (watermark.now ∷ kind.now ∷ used.now ∷ state.now ∷ blocker.now
         ∷ awaited.now ∷ [])) }
-    ensures cause { IfErr result IsS1OrS2 }
+    ensures cause { IfErr result IsFailure }
 {
     lines.write(&[watermark, kind, used, state, blocker, awaited])?;
     Ok(())

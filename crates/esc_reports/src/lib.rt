@@ -1,14 +1,13 @@
-//! The reports of a store, by its desk or by a reader, and the texts of replies.
+//! The reports of a store, which a desk or a reader reads, and the texts of replies.
 //!
 //! | Call | Text |
 //! |---|---|
-//! | [`report`] | a [`Report`] of a desk, which HTTP gives |
-//! | [`stored_report`] | the same of a reader, which `restore report` and `restore export` give |
+//! | [`report`] | a [`Report`] of what a desk or a reader reads |
 //! | [`reply_text`] | a reply as JSON: an object of eight members, null where there is no value |
 //! | [`receipts_heading`], [`receipt_line`] | the heading of the receipts, and the line of one reply |
 //! | [`end_line`] | the line of the status that says where a chain ends |
 //!
-//! What goes in is a desk or a reader (`esc_desk`), or a reply or an end that it gave; what comes
+//! What goes in is a desk or a reader (`Reads` of `esc_desk`), or a reply or an end that it gave; what comes
 //! out is a text. The status and the moment are plain lines. The other reports are CSV as `csv`
 //! writes it (RFC 4180, except that lines end with a line feed alone): a heading, and a line for
 //! each listed place (gaps), each finding (links), each reply (receipts), each parked body, or each
@@ -25,9 +24,9 @@
 //! # What is promised
 //!
 //! [`report`] gives exactly the text that `specs/Reports.antt` (`IsReport`) has for the events that
-//! the desk's store stands for, or `S1`, `S2`; the desk is as it was, and reflects what it
-//! reflected. [`stored_report`] gives the same text of a reader: what a desk over the store would
-//! report. What a report says of bodies has the premise that no two different ones have the same
+//! the store stands for, or `S1`, `S2`, whether a desk or a reader reads it (`Reads`). What a read
+//! leaves as it was, it leaves so: a desk is unchanged, and reflects what it reflected. What a
+//! report says of bodies has the premise that no two different ones have the same
 //! digest. The lines are defined in `StatusText.antt`, `GapsText.antt`, `LinksText.antt`,
 //! `ReceiptsText.antt`, `ParkedText.antt`, `MomentText.antt` and `ReplyText.antt`, with the words
 //! of `Words.antt`. `S1` also stands for a watermark without a text: no manifest has such a place,
@@ -48,7 +47,6 @@ mod receipts;
 mod reply;
 mod reports;
 mod status;
-mod stored;
 mod walked;
 mod watermark;
 mod words;
@@ -58,5 +56,4 @@ pub use receipts::{receipt_line, receipts_heading};
 pub use reply::reply_text;
 pub use reports::report;
 pub use status::end_line;
-pub use stored::stored_report;
 pub use watermark::printed_watermark;

@@ -2,7 +2,7 @@
 
 ghost use Rattle.std.specs.Prelude.{◌≡◌, ◌∷◌, [], ◌++◌, IfOk, OnOk, string_bytes};
 ghost use Rattle.esc_csv.specs.Lines.{line_text};
-ghost use Rattle.esc_reports.specs.LinksText.{code_text, links_heading, finding_line};
+ghost use Rattle.esc_reports.specs.LinksText.{links_heading, finding_line};
 ghost use Rattle.esc_reports.specs.LinksText.{findings_text, links_text};
 
 use esc_bundle::NoMemory;
@@ -40,7 +40,7 @@ fn write_findings(alloc: Global, lines: &mut Lines, findings: &[Finding]) -> Res
 fn write_finding(alloc: Global, lines: &mut Lines, finding: &Finding) -> Result<(), NoMemory>
     ensures { OnOk result (lines.new ≡ lines.old ++ line_text (finding_line finding.now)) }
 {
-    let code = code_text(alloc, finding.code)?;
+    let code = format!(in alloc; "{}", finding.rule)?;
     write_fields(
         lines,
         code.as_bytes(),
@@ -50,12 +50,6 @@ fn write_finding(alloc: Global, lines: &mut Lines, finding: &Finding) -> Result<
         finding.value.as_bytes(),
         finding.other.as_bytes(),
     )
-}
-
-fn code_text(alloc: Global, code: u8) -> Result<String, NoMemory>
-    ensures { IfOk result (λ text. string_bytes text ≡ code_text code) }
-{
-    Ok(format!(in alloc; "V{code}")?)
 }
 
 fn write_fields<'x>(

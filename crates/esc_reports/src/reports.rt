@@ -1,8 +1,8 @@
-//! The reports of a desk.
+//! The reports of a store.
 
-ghost use Rattle.std.specs.Prelude.{Some, IfOk, IfErr};
-ghost use Rattle.esc_store.specs.Faults.{IsS1OrS2};
-ghost use Rattle.esc_desk.specs.Calls.{OkForStoreEvents, IsUnchangedDesk};
+ghost use Rattle.std.specs.Prelude.{Some, IfErr};
+ghost use Rattle.esc_store.specs.Faults.{IsFailure};
+ghost use Rattle.esc_desk.specs.Reading.{IsReadOf, OkForEvents};
 ghost use Rattle.esc_reports.specs.declared.catalog.Report.TheVariants as what;
 ghost use Rattle.esc_reports.specs.Reports.{IsReport};
 ghost use Rattle.esc_reports.specs.Walked.{AreFoundAt};
@@ -17,145 +17,156 @@ use crate::status::status_text;
 use crate::walked::walk_fault;
 use esc_apply::tables_are_listed;
 use esc_check::{Finding, export_from, verify_from};
-use esc_desk::{Desk, End, SFault, tables_are_of_events};
+use esc_desk::{Cause, End, Reads, StoreFault, Walk, tables_are_of_events};
 use esc_envelope::Kind;
-use sqlite::Alter;
 use std::alloc::Global;
 
-/// The text of a report: what the program prints, and the body of an HTTP response. `S1`, `S2`.
-pub fn report<S: Alter>(
+/// The text of a report of a store, which a desk or a reader reads: what the program prints, and
+/// the body of an HTTP response. `S1`, `S2`.
+pub fn report<R: Reads>(
     alloc: Global,
-    desk: &mut Desk<S>,
+    reader: &mut R,
     report: Report,
-) -> Result<Vec<u8>, SFault>
-    ensures stays { IsUnchangedDesk S.Store desk.old desk.new }
-    ensures text { OkForStoreEvents S.Store desk.old desk.new result
+) -> Result<Vec<u8>, StoreFault>
+    ensures read { IsReadOf R.follows R.reflects reader.old reader.new result }
+    ensures text { OkForEvents R.is_honest R.reflects reader.old reader.new result
         (λ e text. IsReport e report text.items) }
-    ensures cause { IfErr result IsS1OrS2 }
+    ensures cause { IfErr result IsFailure }
 {
     match report {
-        Report::Status => report_status(alloc, desk),
-        Report::Gaps => report_gaps(alloc, desk),
-        Report::Links => report_links(alloc, desk),
-        Report::Receipts => report_receipts(alloc, desk),
-        Report::Parked => report_parked(alloc, desk),
-        Report::Moment => report_moment(alloc, desk),
-        Report::Export(kind) => report_export(alloc, desk, kind),
+        Report::Status => report_status(alloc, reader),
+        Report::Gaps => report_gaps(alloc, reader),
+        Report::Links => report_links(alloc, reader),
+        Report::Receipts => report_receipts(alloc, reader),
+        Report::Parked => report_parked(alloc, reader),
+        Report::Moment => report_moment(alloc, reader),
+        Report::Export(kind) => report_export(alloc, reader, kind),
     }
 }
 
-#[tactic(auto, using(crate::proofs::StoreFacts::stays_then))]
-fn report_gaps<S: Alter>(alloc: Global, desk: &mut Desk<S>) -> Result<Vec<u8>, SFault>
-    ensures stays { IsUnchangedDesk S.Store desk.old desk.new }
-    ensures text { OkForStoreEvents S.Store desk.old desk.new result
+#[tactic(auto, using(crate::proofs::Reading::reads_stay))]
+fn report_gaps<R: Reads>(alloc: Global, reader: &mut R) -> Result<Vec<u8>, StoreFault>
+    ensures read { IsReadOf R.follows R.reflects reader.old reader.new result }
+    ensures text { OkForEvents R.is_honest R.reflects reader.old reader.new result
         (λ e text. IsReport e what.Gaps text.items) }
-    ensures cause { IfErr result IsS1OrS2 }
+    ensures cause { IfErr result IsFailure }
 {
-    let moment = desk.moment()?;
-    let rows = desk.held(alloc)?;
-    gaps_report(alloc, desk.manifest(), &rows, moment)
+    let moment = reader.moment(alloc)?;
+    let rows = reader.held(alloc)?;
+    gaps_report(alloc, reader.manifest(), &rows, moment)
 }
 
-fn report_status<S: Alter>(alloc: Global, desk: &mut Desk<S>) -> Result<Vec<u8>, SFault>
-    ensures stays { IsUnchangedDesk S.Store desk.old desk.new }
-    ensures text { OkForStoreEvents S.Store desk.old desk.new result
+#[tactic(auto, using(crate::proofs::Reading::reads_stay))]
+fn report_status<R: Reads>(alloc: Global, reader: &mut R) -> Result<Vec<u8>, StoreFault>
+    ensures read { IsReadOf R.follows R.reflects reader.old reader.new result }
+    ensures text { OkForEvents R.is_honest R.reflects reader.old reader.new result
         (λ e text. IsReport e what.Status text.items) }
-    ensures cause { IfErr result IsS1OrS2 }
+    ensures cause { IfErr result IsFailure }
 {
-    let status = desk.status(alloc)?;
+    let status = reader.status(alloc)?;
     Ok(status_text(alloc, &status)?.into_bytes())
 }
 
-#[tactic(auto, using(crate::proofs::StoreFacts::stays_then))]
-fn report_links<S: Alter>(alloc: Global, desk: &mut Desk<S>) -> Result<Vec<u8>, SFault>
-    ensures stays { IsUnchangedDesk S.Store desk.old desk.new }
-    ensures text { OkForStoreEvents S.Store desk.old desk.new result
+#[tactic(auto, using(crate::proofs::Reading::reads_stay))]
+fn report_links<R: Reads>(alloc: Global, reader: &mut R) -> Result<Vec<u8>, StoreFault>
+    ensures read { IsReadOf R.follows R.reflects reader.old reader.new result }
+    ensures text { OkForEvents R.is_honest R.reflects reader.old reader.new result
         (λ e text. IsReport e what.Links text.items) }
-    ensures cause { IfErr result IsS1OrS2 }
+    ensures cause { IfErr result IsFailure }
 {
-    let end = desk.end(alloc)?;
-    let findings = findings_at(alloc, desk, &end)?;
+    let end = reader.end(alloc)?;
+    let findings = findings_at(alloc, reader, &end)?;
     Ok(links_text(alloc, &findings)?)
 }
 
 // The findings in the tables, by what the end of their chain says. Without a chain there are none.
-fn findings_at<S: Alter>(
+#[tactic(auto, using(crate::proofs::Reading::reads_stay))]
+fn findings_at<R: Reads>(
     alloc: Global,
-    desk: &mut Desk<S>,
+    reader: &mut R,
     end: &Option<End>,
-) -> Result<Vec<Finding>, SFault>
-    ensures stays { IsUnchangedDesk S.Store desk.old desk.new }
-    ensures findings { OkForStoreEvents S.Store desk.old desk.new result
+) -> Result<Vec<Finding>, StoreFault>
+    ensures read { IsReadOf R.follows R.reflects reader.old reader.new result }
+    ensures findings { OkForEvents R.is_honest R.reflects reader.old reader.new result
         (λ e findings. AreFoundAt e end.now findings.items) }
-    ensures cause { IfErr result IsS1OrS2 }
+    ensures cause { IfErr result IsFailure }
 {
     tables_are_listed();
     tables_are_of_events();
     match end {
-        Some(end) => findings(alloc, desk, end),
+        Some(end) => findings(alloc, reader, end),
         None => Ok(Vec::new(alloc)),
     }
 }
 
-// The findings in the tables, by what the last deposit of their chain says.
-#[tactic(auto, using(crate::proofs::StoreFacts::walked))]
-fn findings<S: Alter>(alloc: Global, desk: &mut Desk<S>, end: &End) -> Result<Vec<Finding>, SFault>
-    ensures stays { IsUnchangedDesk S.Store desk.old desk.new }
-    ensures findings { OkForStoreEvents S.Store desk.old desk.new result
+// The findings in the tables, by what the last deposit of their chain says. That the walk hasn't
+// failed is asked, since a list of findings alone doesn't say so.
+#[tactic(auto, using(crate::proofs::Reading::reads_stay))]
+fn findings<R: Reads>(alloc: Global, reader: &mut R, end: &End) -> Result<Vec<Finding>, StoreFault>
+    ensures read { IsReadOf R.follows R.reflects reader.old reader.new result }
+    ensures findings { OkForEvents R.is_honest R.reflects reader.old reader.new result
         (λ e findings. AreFoundAt e (Some end.now) findings.items) }
-    ensures cause { IfErr result IsS1OrS2 }
+    ensures cause { IfErr result IsFailure }
 {
     tables_are_listed();
     tables_are_of_events();
-    let mut walk = desk.walk(alloc, None)?;
+    let place = reader.start_walk(alloc, None)?;
+    let mut walk = Walk::new(reader, place);
     match verify_from(alloc, &mut walk, end.watermark, &end.counts) {
-        Ok(findings) => Ok(findings),
+        Ok(findings) if !walk.has_failed() => Ok(findings),
+        Ok(_) => Err(StoreFault::Failed(Cause::WalkEnded)),
         Err(fault) => Err(walk_fault(fault)),
     }
 }
 
-fn report_receipts<S: Alter>(alloc: Global, desk: &mut Desk<S>) -> Result<Vec<u8>, SFault>
-    ensures stays { IsUnchangedDesk S.Store desk.old desk.new }
-    ensures text { OkForStoreEvents S.Store desk.old desk.new result
+#[tactic(auto, using(crate::proofs::Reading::reads_stay))]
+fn report_receipts<R: Reads>(alloc: Global, reader: &mut R) -> Result<Vec<u8>, StoreFault>
+    ensures read { IsReadOf R.follows R.reflects reader.old reader.new result }
+    ensures text { OkForEvents R.is_honest R.reflects reader.old reader.new result
         (λ e text. IsReport e what.Receipts text.items) }
-    ensures cause { IfErr result IsS1OrS2 }
+    ensures cause { IfErr result IsFailure }
 {
-    let replies = desk.receipts(alloc)?;
+    let replies = reader.receipts(alloc)?;
     Ok(receipts_text(alloc, &replies)?)
 }
 
-fn report_parked<S: Alter>(alloc: Global, desk: &mut Desk<S>) -> Result<Vec<u8>, SFault>
-    ensures stays { IsUnchangedDesk S.Store desk.old desk.new }
-    ensures text { OkForStoreEvents S.Store desk.old desk.new result
+#[tactic(auto, using(crate::proofs::Reading::reads_stay))]
+fn report_parked<R: Reads>(alloc: Global, reader: &mut R) -> Result<Vec<u8>, StoreFault>
+    ensures read { IsReadOf R.follows R.reflects reader.old reader.new result }
+    ensures text { OkForEvents R.is_honest R.reflects reader.old reader.new result
         (λ e text. IsReport e what.Parked text.items) }
-    ensures cause { IfErr result IsS1OrS2 }
+    ensures cause { IfErr result IsFailure }
 {
-    let bodies = desk.parked(alloc)?;
+    let bodies = reader.parked(alloc)?;
     Ok(parked_text(alloc, &bodies)?)
 }
 
-fn report_moment<S: Alter>(alloc: Global, desk: &mut Desk<S>) -> Result<Vec<u8>, SFault>
-    ensures stays { IsUnchangedDesk S.Store desk.old desk.new }
-    ensures text { OkForStoreEvents S.Store desk.old desk.new result
+#[tactic(auto, using(crate::proofs::Reading::reads_stay))]
+fn report_moment<R: Reads>(alloc: Global, reader: &mut R) -> Result<Vec<u8>, StoreFault>
+    ensures read { IsReadOf R.follows R.reflects reader.old reader.new result }
+    ensures text { OkForEvents R.is_honest R.reflects reader.old reader.new result
         (λ e text. IsReport e what.Moment text.items) }
-    ensures cause { IfErr result IsS1OrS2 }
+    ensures cause { IfErr result IsFailure }
 {
-    let moment = desk.moment()?;
+    let moment = reader.moment(alloc)?;
     Ok(moment_line(alloc, moment)?.into_bytes())
 }
 
-#[tactic(auto, using(crate::proofs::StoreFacts::walked))]
-fn report_export<S: Alter>(alloc: Global, desk: &mut Desk<S>, kind: Kind) -> Result<Vec<u8>, SFault>
-    ensures stays { IsUnchangedDesk S.Store desk.old desk.new }
-    ensures text { OkForStoreEvents S.Store desk.old desk.new result
+// As for the findings, it is asked whether the walk has failed.
+#[tactic(auto, using(crate::proofs::Reading::reads_stay))]
+fn report_export<R: Reads>(alloc: Global, reader: &mut R, kind: Kind) -> Result<Vec<u8>, StoreFault>
+    ensures read { IsReadOf R.follows R.reflects reader.old reader.new result }
+    ensures text { OkForEvents R.is_honest R.reflects reader.old reader.new result
         (λ e text. IsReport e (what.Export kind) text.items) }
-    ensures cause { IfErr result IsS1OrS2 }
+    ensures cause { IfErr result IsFailure }
 {
     tables_are_listed();
     tables_are_of_events();
-    let mut walk = desk.walk(alloc, Some(kind))?;
+    let place = reader.start_walk(alloc, Some(kind))?;
+    let mut walk = Walk::new(reader, place);
     match export_from(alloc, &mut walk, kind) {
-        Ok(text) => Ok(text),
+        Ok(text) if !walk.has_failed() => Ok(text),
+        Ok(_) => Err(StoreFault::Failed(Cause::WalkEnded)),
         Err(fault) => Err(walk_fault(fault)),
     }
 }

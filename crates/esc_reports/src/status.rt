@@ -1,22 +1,22 @@
 //! The status report.
 
 ghost use Rattle.std.specs.Prelude.{◌≡◌, ◌++◌, IfOk, IfErr, OnOk, string_bytes};
-ghost use Rattle.esc_store.specs.Faults.{IsS1OrS2};
+ghost use Rattle.esc_store.specs.Faults.{IsFailure};
 ghost use Rattle.esc_reports.specs.StatusText.{number_line, end_text, end_line, objects_text};
 ghost use Rattle.esc_reports.specs.StatusText.{counts_text, status_text};
 
 use crate::watermark::printed_watermark;
 use esc_bundle::NoMemory;
-use esc_desk::{SFault, Status};
+use esc_desk::{Status, StoreFault};
 use esc_envelope::{Kind, Place};
 use std::alloc::Global;
 use std::collections::BTreeMap;
 
 /// The status report: eleven lines. `S1` if the chain ends at a watermark outside the years 1970 to
 /// 2261, as no listed one is; `S2`.
-pub(crate) fn status_text(alloc: Global, status: &Status) -> Result<String, SFault>
+pub(crate) fn status_text(alloc: Global, status: &Status) -> Result<String, StoreFault>
     ensures text { IfOk result (λ text. string_bytes text ≡ status_text status.now) }
-    ensures cause { IfErr result IsS1OrS2 }
+    ensures cause { IfErr result IsFailure }
 {
     let mut text = String::new(alloc);
     push_counts(alloc, &mut text, status)?;
@@ -53,9 +53,9 @@ fn number_line(alloc: Global, name: &str, number: u64) -> Result<String, NoMemor
 
 /// The line of the status report that says where a chain ends: `end WATERMARK TYPE RESEND`, or
 /// `end none`. `S1` if the watermark is outside the years 1970 to 2261, as no listed one is; `S2`.
-pub fn end_line(alloc: Global, end: Option<(Place, u32)>) -> Result<String, SFault>
+pub fn end_line(alloc: Global, end: Option<(Place, u32)>) -> Result<String, StoreFault>
     ensures line { IfOk result (λ line. string_bytes line ≡ end_line end) }
-    ensures cause { IfErr result IsS1OrS2 }
+    ensures cause { IfErr result IsFailure }
 {
     let mut line = String::new(alloc);
     push_end(alloc, &mut line, end)?;
@@ -63,9 +63,9 @@ pub fn end_line(alloc: Global, end: Option<(Place, u32)>) -> Result<String, SFau
 }
 
 // Writes `end_line` at the end of a text.
-fn push_end(alloc: Global, text: &mut String, end: Option<(Place, u32)>) -> Result<(), SFault>
+fn push_end(alloc: Global, text: &mut String, end: Option<(Place, u32)>) -> Result<(), StoreFault>
     ensures pushed { OnOk result (string_bytes text.new ≡ string_bytes text.old ++ end_line end) }
-    ensures cause { IfErr result IsS1OrS2 }
+    ensures cause { IfErr result IsFailure }
 {
     let Some((place, resend)) = end else {
         text.push_str("end none\n")?;
@@ -76,9 +76,9 @@ fn push_end(alloc: Global, text: &mut String, end: Option<(Place, u32)>) -> Resu
     Ok(())
 }
 
-fn end_text(alloc: Global, place: Place, resend: u32) -> Result<String, SFault>
+fn end_text(alloc: Global, place: Place, resend: u32) -> Result<String, StoreFault>
     ensures line { IfOk result (λ line. string_bytes line ≡ end_text place resend) }
-    ensures cause { IfErr result IsS1OrS2 }
+    ensures cause { IfErr result IsFailure }
 {
     let watermark = printed_watermark(alloc, place.watermark)?;
     let kind = place.kind.name();

@@ -65,7 +65,7 @@ pub use Rattle.esc_store.specs.StandingLaws.{was_clean, goes_then, survives_same
 pub use Rattle.esc_store.specs.StoreTables.{IsStoreDatabase, HoldsTables}
 pub use Rattle.esc_store.specs.TypedRows.{record_at_key, IsRegistry, receipts_from, steps_from, IsBooks, kind_numbered, image_kept, listed_from, indexed_row, verdict_number}
 pub use Rattle.esc_store.specs.declared.remembered.Remembered.{Remembered}
-pub use Rattle.esc_store.specs.declared.fault.SFault.{SFault}
+pub use Rattle.esc_store.specs.declared.fault.StoreFault.{StoreFault}
 pub use Rattle.esc_store.specs.declared.reply.Verdict.{Verdict}
 pub use Rattle.esc_store.specs.declared.reply.Verdict.TheVariants.{A2}
 pub use Rattle.esc_store.specs.declared.store.Store.{Store}

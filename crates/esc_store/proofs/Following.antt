@@ -1,5 +1,5 @@
 -- What a call within a change keeps of the change, what it makes of it, and what a read says.
-use Rattle.esc_store.proofs.Common.{◌≡◌, true, false, List, Option, Some, refl, sym, ap, subst, ◌∙◌, IsTrue, Result, Ok, Err, OnOk, both_ways, unwrap_or, Ghosts, Database, Held, state, HasCleanDisk, Survives, KeepsCommit, MRow, Content, IsPart, SFault, Store, StoreState, BeganIn, HasMadeBooksIn, HasMadeTablesIn}
+use Rattle.esc_store.proofs.Common.{◌≡◌, true, false, List, Option, Some, refl, sym, ap, subst, ◌∙◌, IsTrue, Result, Ok, Err, OnOk, both_ways, unwrap_or, Ghosts, Database, Held, state, HasCleanDisk, Survives, KeepsCommit, MRow, Content, IsPart, StoreFault, Store, StoreState, BeganIn, HasMadeBooksIn, HasMadeTablesIn}
 use Rattle.esc_store.proofs.Common.{IsBooks, IsRegistry, ChangeOf, IsStoreDatabase, IsStep, IsUncommitted, IsChangePart, listed_by, on_ok_weaker, ChangeFollows, IfOk-at_ok, was_clean, if_ok, State as Tables, content_in, Tells, IsLook, IsStoreRead}
 use Rattle.sqlite.specs.State.{State}
 use Rattle.esc_store.proofs.Ends.{begun_committed}
@@ -46,7 +46,7 @@ pub stepped : {S X E : Type 0} {g : Ghosts S} {old new : Store S} {r : Result X 
 stepped manifest writes step turns = record { manifest = manifest; writes = writes; pass = passes_step step turns }
 
 -- a statement, settled
-pub moved : {S X D : Type 0} {g : Ghosts S} {old new : Store S} {conn : Held S} {outcome : Result X D} {result : Result X SFault}
+pub moved : {S X D : Type 0} {g : Ghosts S} {old new : Store S} {conn : Held S} {outcome : Result X D} {result : Result X StoreFault}
     {Made : Database → Database → Type 0} {R : Content → Content → Type 0} → Settled g (record old { conn = conn }) new outcome result
     → IsPart (state g old.conn) (state g conn) Made outcome → ((a b : Database) → Made a b → Turns R a b) → Moves g old new R result
 moved settle part turns = stepped settle.manifest settle.writes (step_is settle.settled part) turns

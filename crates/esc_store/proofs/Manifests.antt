@@ -1,13 +1,14 @@
 -- A manifest in its table.
 use Rattle.esc_store.proofs.Common.{◌≡◌, ℕ, suc, ◌+◌, ◌<◌, List, [], ◌∷◌, ◌++◌, length, take, get_or, map, Option, None, Some, refl, sym, ap, ◌∙◌, arith, Result, Ok, Err, pos, ◌<ℤ◌, AllByRecursion, ints, length-take-le, listed_row}
 use Rattle.esc_store.proofs.Common.{◌≤◌, ap₂, take_more, map-append, IsKeyedBy, MRow, no_row, ListedRow, listed_number, indexed_row, listed_from}
-use Rattle.esc_manifest.specs.declared.fault.MFault.{MFault}
-use Rattle.esc_manifest.specs.declared.fault.MFault.TheVariants.{Refused}
+use Rattle.esc_manifest.specs.declared.refusal.ManifestRefusal.{ManifestRefusal}
+use Rattle.esc_manifest.specs.declared.fault.ManifestFault.{ManifestFault}
+use Rattle.esc_manifest.specs.declared.fault.ManifestFault.TheVariants.{Refused}
 use Rattle.esc_sql.specs.declared.listed.Listed.{Listed}
 use Rattle.esc_store.proofs.Numbered.{from_next, from_size, from_nth}
 
 -- what was accepted is what was given
-pub accepted_is : (fault : Option (ℕ × ℕ)) (r : Result (List MRow) MFault) (m rows : List MRow) → (fault ≡ None → r ≡ Ok rows) → ((code row : ℕ) → fault ≡ Some (code, row) → r ≡ Err (Refused code row)) → r ≡ Ok m → m ≡ rows
+pub accepted_is : (fault : Option (ManifestRefusal × ℕ)) (r : Result (List MRow) ManifestFault) (m rows : List MRow) → (fault ≡ None → r ≡ Ok rows) → ((code : ManifestRefusal) (row : ℕ) → fault ≡ Some (code, row) → r ≡ Err (Refused code row)) → r ≡ Ok m → m ≡ rows
 accepted_is None r m rows good bad is = let e : Ok m ≡ Ok rows = sym is ∙ good refl in cc
 accepted_is (Some (code, row)) r m rows good bad is = let e : Ok m ≡ Err (Refused code row) = sym is ∙ bad code row refl in let no : ⊥ = cc in absurd no
 

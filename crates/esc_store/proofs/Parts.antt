@@ -1,23 +1,23 @@
 -- What a part of a change does to what the change has made.
 use Rattle.esc_store.proofs.Common.{◌≡◌, ◌∙◌, ℕ, List, refl, sym, ap, subst, Result, Ok, Err, IfErr, OnErr, IsErr, IfOk-at_ok, Ghosts, Database, state, HasCleanDisk, Survives, KeepsCommit, survives_then, parked_at, body_of, Settles}
-use Rattle.esc_store.proofs.Common.{Content, object_at, image_at, Becomes, listed_from, receipts_from, steps_from, content_in, HoldsContent, content_is, IsPart, IsRead, SFault, Store, StoreState, IsBooks, IsRegistry, HoldsTables, IsStep, IsLook, was_clean, State as Tables}
+use Rattle.esc_store.proofs.Common.{Content, object_at, image_at, Becomes, listed_from, receipts_from, steps_from, content_in, HoldsContent, content_is, IsPart, IsRead, StoreFault, Store, StoreState, IsBooks, IsRegistry, HoldsTables, IsStep, IsLook, was_clean, State as Tables}
 use Rattle.std.specs.Prelude.{IfOk}
 use Rattle.esc_sql.specs.Content.{moment_set}
 use Rattle.sqlite.specs.State.{State}
-use Rattle.esc_store.specs.Faults.{IsS1OrS2}
+use Rattle.esc_store.specs.Faults.{IsFailure}
 use Rattle.esc_store.specs.Representation.{IsGivenUp}
 use Rattle.esc_store.proofs.Ends.{keeps_then}
 
 -- ---- from statements to steps
 
 -- what holds once the outcome of a statement is settled
-abbrev pub Settled : {S X D : Type 0} → Ghosts S → Store S → Store S → Result X D → Result X SFault → Type 0
+abbrev pub Settled : {S X D : Type 0} → Ghosts S → Store S → Store S → Result X D → Result X StoreFault → Type 0
 Settled g before new outcome result = record {
   manifest : new.manifest ≡ before.manifest;
   writes : new.writes ≡ before.writes;
   remembered : new.remembered ≡ before.remembered;
   settled : Settles g before new outcome result;
-  cause : IfErr result IsS1OrS2;
+  cause : IfErr result IsFailure;
 }
 
 module _ (old : State) {mid new : State} (up : IsGivenUp mid new) where

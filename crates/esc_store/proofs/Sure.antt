@@ -1,5 +1,5 @@
 -- Reads of a store's tables.
-use Rattle.esc_store.proofs.Common.{survives_same, ◌≡◌, Some, refl, sym, subst, ◌∙◌, IsTrue, Result, Ok, Err, Ghosts, Held, state, HasCleanDisk, Database, Content, content_in, Tells, IsRead, Remembered, IsRemembered, SFault, Store, IsSettled}
+use Rattle.esc_store.proofs.Common.{survives_same, ◌≡◌, Some, refl, sym, subst, ◌∙◌, IsTrue, Result, Ok, Err, Ghosts, Held, state, HasCleanDisk, Database, Content, content_in, Tells, IsRead, Remembered, IsRemembered, StoreFault, Store, IsSettled}
 use Rattle.esc_store.proofs.Common.{StoreState, IsStoreDatabase, IsAtRestIfClean, IsStanding, IsStoreRead, IsLook, IsTold, IsHonest, was_clean, Settles, IfOk, ConnState as State}
 use Rattle.std.proofs.Common.{rules, ap, List, Option, None, option_map, IfSome}
 use Rattle.std.specs.Global.{Vec}
@@ -17,7 +17,7 @@ pub read_here : {S X D E : Type 0} {g : Ghosts S} {old new : Store S} {conn : He
     → Settles g (record old { conn = conn }) new outcome result → IsRead (state g old.conn) (state g conn) (Tells P) outcome → IsStoreRead g old new P result
 read_here manifest writes same settled read = record { manifest = manifest; writes = writes; remembered = same; look = look_is settled read }
 
-pub read_settled : {S X D : Type 0} {g : Ghosts S} {old new : Store S} {conn : Held S} {outcome : Result X D} {result : Result X SFault} {P : Content → X → Type 0}
+pub read_settled : {S X D : Type 0} {g : Ghosts S} {old new : Store S} {conn : Held S} {outcome : Result X D} {result : Result X StoreFault} {P : Content → X → Type 0}
     → Settled g (record old { conn = conn }) new outcome result → IsRead (state g old.conn) (state g conn) (Tells P) outcome → IsStoreRead g old new P result
 read_settled settle = read_here settle.manifest settle.writes settle.remembered settle.settled
 

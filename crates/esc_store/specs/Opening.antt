@@ -7,9 +7,10 @@ use Rattle.sqlite.specs.Effect.{Database}
 use Rattle.sqlite.specs.Held.{Held, state}
 use Rattle.sqlite.specs.State.{State, HasCleanDisk}
 use Rattle.esc_sql.specs.Schema.{no_schema}
-use Rattle.esc_store.specs.declared.fault.SFault.{SFault}
-use Rattle.esc_store.specs.declared.fault.SFault.TheVariants.{S1, S2, S3}
+use Rattle.esc_store.specs.declared.fault.StoreFault.{StoreFault}
+use Rattle.esc_store.specs.declared.fault.StoreFault.TheVariants.{NotAStore}
 use Rattle.esc_store.specs.declared.store.Store.{Store}
+use Rattle.esc_store.specs.Faults.{IsFailed, IsOpenFault}
 use Rattle.esc_store.specs.StoreState.{StoreState}
 use Rattle.esc_store.specs.Representation.{Represents, LeavesOnly, IsHonest}
 
@@ -25,21 +26,21 @@ pub record IsAsItWas (old new : State) : Type 0 where
   pub now : HasCleanDisk new → IsTrue new.is_open → new.now ≡ old.now
 
 -- a database that lacks these tables is no store: S1 only where it has them, or a transaction is on
-pub record IsOpeningFault (tables : Schema) (s : State) (fault : SFault) : Type 0 where
-  pub kinds : (fault ≡ S3) ⊎ (fault ≡ S1) ⊎ (fault ≡ S2)
-  pub tested : fault ≡ S1 → (s.in_transaction ≡ true) ⊎ (s.now.schema ≡ tables)
+pub record IsOpeningFault (tables : Schema) (s : State) (fault : StoreFault) : Type 0 where
+  pub kinds : IsOpenFault fault
+  pub tested : IsFailed fault → (s.in_transaction ≡ true) ⊎ (s.now.schema ≡ tables)
 
 -- S1 only in a database without any table, index or view, and S3 only in another one
-pub record IsFoundingFault (db : Database) (fault : SFault) : Type 0 where
-  pub kinds : (fault ≡ S3) ⊎ (fault ≡ S1) ⊎ (fault ≡ S2)
-  pub unused : fault ≡ S1 → db.schema ≡ no_schema
-  pub used : fault ≡ S3 → db.schema ≡ no_schema → ⊥
+pub record IsFoundingFault (db : Database) (fault : StoreFault) : Type 0 where
+  pub kinds : IsOpenFault fault
+  pub unused : IsFailed fault → db.schema ≡ no_schema
+  pub used : fault ≡ NotAStore → db.schema ≡ no_schema → ⊥
 
 -- why no store was opened, where `Is` says what a store is: S3 never where the last commit is one
 pub record IsNoStore (tables : Schema) (Is : Trees → StoreState → Type 0) (old new : State)
-    (fault : SFault) : Type 0 where
+    (fault : StoreFault) : Type 0 where
   pub cause : IsOpeningFault tables old fault
-  pub never : fault ≡ S3 → HasCleanDisk new → IsTrue new.is_open → (k : StoreState)
+  pub never : fault ≡ NotAStore → HasCleanDisk new → IsTrue new.is_open → (k : StoreState)
       → Is old.committed.trees k → ⊥
   pub unchanged : IsAsItWas old new
 

@@ -10,9 +10,10 @@ use Rattle.esc_sql.specs.Content.{content_in, HoldsRows}
 use Rattle.esc_scan.specs.Versions.{version_in}
 use Rattle.esc_scan.specs.declared.parked.ParkedSize.{ParkedSize}
 use Rattle.esc_scan.specs.declared.rows.ScanError.{ScanError}
-use Rattle.esc_scan.specs.declared.rows.ScanError.TheVariants.{Store as of_store}
-use Rattle.esc_store.specs.declared.fault.SFault.{SFault}
-use Rattle.esc_store.specs.declared.fault.SFault.TheVariants.{S1, S2}
+use Rattle.esc_scan.specs.declared.rows.ScanError.TheVariants.{Store as of_store, Foreign}
+use Rattle.esc_store.specs.declared.cause.Cause.TheVariants.{Trees as tree_error, ForeignTree}
+use Rattle.esc_store.specs.declared.fault.StoreFault.{StoreFault}
+use Rattle.esc_store.specs.declared.fault.StoreFault.TheVariants.{Failed, NoMemory}
 use Rattle.esc_store.specs.declared.parked.ParkedBody.{ParkedBody}
 use Rattle.esc_store.specs.declared.reader.StoreReader.{StoreReader}
 use Rattle.esc_store.specs.StoreState.{StoreState}
@@ -66,10 +67,11 @@ pub record IsReadOnly {S X E : Type 0} (g : Ghosts S) (old new : StoreReader S)
   pub unwritten : AreUnwritten g old.trees new.trees
   pub stands : OnOk result ((k : StoreState) → ReaderRepresents g old k → ReaderRepresents g new k)
 
--- an error of a scan as a fault: S2 for out of memory, S1 for every other one
-abbrev pub fault_of_scan : ScanError → SFault
-fault_of_scan (of_store OutOfMemory) = S2
-fault_of_scan _ = S1
+-- an error of a scan as a fault: out of memory, or the cause of a failure
+abbrev pub fault_of_scan : ScanError → StoreFault
+fault_of_scan (of_store OutOfMemory) = NoMemory
+fault_of_scan (of_store error) = Failed (tree_error error)
+fault_of_scan Foreign = Failed ForeignTree
 
 -- a parked body, as a scan reads it
 abbrev pub parked_read : ParkedSize → ParkedBody

@@ -1,11 +1,11 @@
 //! How many objects there are of each kind.
 
 ghost use Rattle.std.specs.Prelude.{◌≡◌, IfOk, IfErr};
-ghost use Rattle.esc_store.specs.Faults.{IsS1OrS2};
+ghost use Rattle.esc_store.specs.Faults.{IsFailure};
 ghost use Rattle.esc_store.specs.Decoded.{times, tallies, count_for, counted};
 
 use crate::codec::object::kind_number;
-use crate::fault::SFault;
+use crate::fault::StoreFault;
 use esc_envelope::Kind;
 use std::alloc::Global;
 use std::collections::BTreeMap;
@@ -37,9 +37,9 @@ impl KindCounts {
     }
 
     // The kinds in their order, each with how many there are of it.
-    pub(crate) fn by_kind(self, alloc: Global) -> Result<BTreeMap<Kind, u64>, SFault>
+    pub(crate) fn by_kind(self, alloc: Global) -> Result<BTreeMap<Kind, u64>, StoreFault>
         ensures counts { IfOk result (λ counts. counts.entries ≡ counted self) }
-        ensures cause { IfErr result IsS1OrS2 }
+        ensures cause { IfErr result IsFailure }
     {
         let mut counts = BTreeMap::new(alloc);
         for kind in Kind::ALL {

@@ -5,7 +5,7 @@ ghost use Rattle.esc_apply.specs.Registry.{State};
 ghost use Rattle.esc_apply.specs.Changes.{with_object, CanBePut};
 ghost use Rattle.esc_apply.specs.declared.registry.Keys.TheVariants.{Vacant};
 ghost use Rattle.esc_sql.specs.Entries.{new_entry, new_image};
-ghost use Rattle.esc_store.specs.Faults.{IsS1OrS2};
+ghost use Rattle.esc_store.specs.Faults.{IsFailure};
 ghost use Rattle.esc_store.specs.Filling.{after_filling, AreImagesNow, FillsRows, PutsRecord};
 ghost use Rattle.esc_store.specs.Filling.{PutsRows};
 ghost use Rattle.esc_store.specs.Pages.{entry_row, record_row};
@@ -14,7 +14,7 @@ ghost use Rattle.esc_store.specs.TypedRows.{record_at_key};
 
 use crate::change::Change;
 use crate::codec::object::{kind_number, record_bytes};
-use crate::fault::SFault;
+use crate::fault::StoreFault;
 use esc_apply::Keys;
 use esc_sql::object::{NewObject, ROWS_AT_ONCE, insert_objects};
 use esc_sql::undo::{NewImage, insert_images};
@@ -24,10 +24,10 @@ use std::alloc::Global;
 use std::collections::BTreeMap;
 
 // The row of a key and its object. `S1` where the object has no record; `S2`.
-fn new_row<'k>(alloc: Global, key: &'k Key, object: &Object) -> Result<NewObject<'k>, SFault>
+fn new_row<'k>(alloc: Global, key: &'k Key, object: &Object) -> Result<NewObject<'k>, StoreFault>
     ensures row { IfOk result (λ row. entry_row (key.now, object.now)
         ≡ record_row (new_entry row)) }
-    ensures cause { IfErr result IsS1OrS2 }
+    ensures cause { IfErr result IsFailure }
 {
     let record = record_bytes(alloc, object)?;
     Ok(NewObject {
@@ -46,14 +46,14 @@ impl<'a, S: Alter> Change<'a, S> {
         step: u32,
         targets: Keys,
         objects: &BTreeMap<Key, Object>,
-    ) -> Result<(), SFault>
+    ) -> Result<(), StoreFault>
         ensures count { self.new.count ≡ self.old.count }
         ensures follows { ChangeFollows S.Store self.old self.new }
         ensures filled { OnOk result (IsHonest S.Store (store_in self.new) → (s : State)
             → CanBePut targets s step (map with_object objects.now.entries)
             → HasMadeTables S.Store self.old s
             → HasMadeTables S.Store self.new (after_filling s step objects.now.entries)) }
-        ensures cause { IfErr result IsS1OrS2 }
+        ensures cause { IfErr result IsFailure }
     {
         let mut rows = Vec::new(alloc);
         for (key, object) in objects.iter() {
@@ -73,13 +73,13 @@ impl<'a, S: Alter> Change<'a, S> {
         step: u32,
         targets: Keys,
         rows: &[NewObject<'_>],
-    ) -> Result<(), SFault>
+    ) -> Result<(), StoreFault>
         requires { length rows.now ≡ ROWS_AT_ONCE }
         ensures count { self.new.count ≡ self.old.count }
         ensures follows { ChangeFollows S.Store self.old self.new }
         ensures filled { OnOk result (FillsRows S.Store step targets (map new_entry rows.now)
             self.old self.new) }
-        ensures cause { IfErr result IsS1OrS2 }
+        ensures cause { IfErr result IsFailure }
     {
         let images = self.find_images(alloc, targets, rows)?;
         let noted = insert_images(alloc, &mut self.store.conn, step, images.as_slice());
@@ -99,14 +99,14 @@ impl<'a, S: Alter> Change<'a, S> {
         alloc: Global,
         targets: Keys,
         rows: &[NewObject<'k>],
-    ) -> Result<Vec<NewImage<'k>>, SFault>
+    ) -> Result<Vec<NewImage<'k>>, StoreFault>
         ensures count { self.new.count ≡ self.old.count }
         ensures follows { ChangeFollows S.Store self.old self.new }
         ensures length { IfOk result (λ images. length images.items ≡ length rows.now) }
         ensures images { IfOk result
             (λ images. AreImagesNow S.Store targets (map new_entry rows.now)
             (map new_image images.items) self.old self.new) }
-        ensures cause { IfErr result IsS1OrS2 }
+        ensures cause { IfErr result IsFailure }
     {
         let mut images = Vec::new(alloc);
         for at in 0..rows.len() {
@@ -122,7 +122,11 @@ impl<'a, S: Alter> Change<'a, S> {
     }
 
     // The record of a row's key, if it has one. Where keys are free none is looked up.
-    fn find_before(&mut self, targets: Keys, row: &NewObject<'_>) -> Result<Option<Vec<u8>>, SFault>
+    fn find_before(
+        &mut self,
+        targets: Keys,
+        row: &NewObject<'_>,
+    ) -> Result<Option<Vec<u8>>, StoreFault>
         ensures count { self.new.count ≡ self.old.count }
         ensures follows { ChangeFollows S.Store self.old self.new }
         ensures found { IfOk result (λ found. IsHonest S.Store (store_in self.new) → (s : State)
@@ -131,7 +135,7 @@ impl<'a, S: Alter> Change<'a, S> {
             → (option_map (λ b. b.items) found
             ≡ record_at_key s.content row.now.kind row.now.key.now)
             × HasMadeTables S.Store self.new s) }
-        ensures cause { IfErr result IsS1OrS2 }
+        ensures cause { IfErr result IsFailure }
     {
         match targets {
             Keys::Vacant => Ok(None),
@@ -140,12 +144,16 @@ impl<'a, S: Alter> Change<'a, S> {
     }
 
     // Puts the objects of these rows one by one, by what is noted that their keys had.
-    fn put_each(&mut self, rows: &[NewObject<'_>], images: &[NewImage<'_>]) -> Result<(), SFault>
+    fn put_each(
+        &mut self,
+        rows: &[NewObject<'_>],
+        images: &[NewImage<'_>],
+    ) -> Result<(), StoreFault>
         requires { length images.now ≡ length rows.now }
         ensures count { self.new.count ≡ self.old.count }
         ensures follows { ChangeFollows S.Store self.old self.new }
         ensures put { OnOk result (PutsRows S.Store (map new_entry rows.now) self.old self.new) }
-        ensures cause { IfErr result IsS1OrS2 }
+        ensures cause { IfErr result IsFailure }
     {
         for at in 0..rows.len() {
             let row = &rows[at];
@@ -155,12 +163,12 @@ impl<'a, S: Alter> Change<'a, S> {
     }
 
     // Puts the object of a row, whose key is known to have one or none.
-    fn put_row(&mut self, row: &NewObject<'_>, has_one: bool) -> Result<(), SFault>
+    fn put_row(&mut self, row: &NewObject<'_>, has_one: bool) -> Result<(), StoreFault>
         ensures count { self.new.count ≡ self.old.count }
         ensures follows { ChangeFollows S.Store self.old self.new }
         ensures written { OnOk result (PutsRecord S.Store row.now.kind row.now.key.now
             row.now.record.items self.old self.new) }
-        ensures cause { IfErr result IsS1OrS2 }
+        ensures cause { IfErr result IsFailure }
     {
         if has_one {
             self.put_stored(row.kind, row.key, row.record.as_slice())
@@ -170,12 +178,17 @@ impl<'a, S: Alter> Change<'a, S> {
     }
 
     // Puts the objects of these rows one by one, each after its before-image.
-    fn fill_each(&mut self, step: u32, targets: Keys, rows: &[NewObject<'_>]) -> Result<(), SFault>
+    fn fill_each(
+        &mut self,
+        step: u32,
+        targets: Keys,
+        rows: &[NewObject<'_>],
+    ) -> Result<(), StoreFault>
         ensures count { self.new.count ≡ self.old.count }
         ensures follows { ChangeFollows S.Store self.old self.new }
         ensures filled { OnOk result (FillsRows S.Store step targets (map new_entry rows.now)
             self.old self.new) }
-        ensures cause { IfErr result IsS1OrS2 }
+        ensures cause { IfErr result IsFailure }
     {
         for at in 0..rows.len() {
             let row = &rows[at];

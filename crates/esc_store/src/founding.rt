@@ -6,14 +6,15 @@ ghost use Rattle.sqlite.specs.Held.{state};
 ghost use Rattle.sqlite.specs.State.{HasCleanDisk, KeepsCommit, Survives};
 ghost use Rattle.esc_sql.specs.Schema.{no_schema};
 ghost use Rattle.esc_sql.specs.Entries.{listed_row};
-ghost use Rattle.esc_store.specs.Faults.{IsS1OrS2};
+ghost use Rattle.esc_store.specs.Faults.{IsFailure};
 ghost use Rattle.esc_store.specs.StoreState.{fresh};
 ghost use Rattle.esc_store.specs.Opening.{IsAsItWas};
 ghost use Rattle.esc_store.specs.TypedRows.{listed_from};
 ghost use Rattle.esc_store.specs.StoreTables.{IsStore, IsStoreDatabase};
 ghost use Rattle.esc_store.specs.Representation.{IsAtRestIfClean, IsGivenUp};
 
-use crate::fault::SFault;
+use crate::cause::Cause;
+use crate::fault::StoreFault;
 use esc_sql::create::build;
 use esc_sql::listed::Listed;
 use esc_sql::transaction::{abandon_in, begin_in, commit_in};
@@ -63,7 +64,10 @@ fn found_whole<S: Alter>(conn: &mut Connection<S>, rows: &[Listed]) -> Result<()
 
 // Makes a store of a manifest's rows, where there is no table, index or view. `S1` also in a
 // transaction, which goes on.
-pub(crate) fn found_here<S: Alter>(conn: &mut Connection<S>, rows: &[Listed]) -> Result<(), SFault>
+pub(crate) fn found_here<S: Alter>(
+    conn: &mut Connection<S>,
+    rows: &[Listed],
+) -> Result<(), StoreFault>
     requires unused { (state S.Store conn.old).now.schema ≡ no_schema }
     ensures survives { (m : _) → map listed_row rows.now ≡ listed_from 0 m
         → Survives (state S.Store conn.old) (state S.Store conn.new)
@@ -76,16 +80,16 @@ pub(crate) fn found_here<S: Alter>(conn: &mut Connection<S>, rows: &[Listed]) ->
         → HasCleanDisk (state S.Store conn.new) → (trees : Trees)
         → (state S.Store conn.new).may_leave trees → IsStore trees (fresh m)) }
     ensures unchanged { OnErr result (IsAsItWas (state S.Store conn.old) (state S.Store conn.new)) }
-    ensures cause { IfErr result IsS1OrS2 }
+    ensures cause { IfErr result IsFailure }
 {
     if !conn.is_autocommit() {
-        return Err(SFault::S1);
+        return Err(StoreFault::Failed(Cause::InTransaction));
     }
     match found_whole(conn, rows) {
         Ok(()) => Ok(()),
         Err(error) => {
             give_up_in(conn);
-            Err(SFault::from(error))
+            Err(StoreFault::from(error))
         }
     }
 }

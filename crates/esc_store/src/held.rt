@@ -1,12 +1,12 @@
 //! Which rows a store holds.
 
 ghost use Rattle.std.specs.Prelude.{ℕ, List, [], ◌∷◌, ◌++◌, IfOk, IfErr, OnOk};
-ghost use Rattle.esc_store.specs.Faults.{IsS1OrS2};
+ghost use Rattle.esc_store.specs.Faults.{IsFailure};
 ghost use Rattle.esc_store.specs.Holding.{HasReceipts, IsInserted, AreFound};
 ghost use Rattle.esc_store.specs.Representation.{Represents, IsHonest, IsAsBefore};
 ghost use Rattle.esc_store.specs.StoreState.{StoreState, AreHeld, IsRising};
 
-use crate::fault::SFault;
+use crate::fault::StoreFault;
 use crate::store::Store;
 use esc_bundle::NoMemory;
 use sqlite::Alter;
@@ -16,11 +16,11 @@ impl<S: Alter> Store<S> {
     /// The indices, from 0, of the listed rows whose body is held, in ascending order: those that
     /// receipts say are held (`A1`), and those that have a body whose digest no row listed when it
     /// arrived. Only bodies of the latter are read, each once. `S1`, `S2`.
-    pub fn held(&mut self, alloc: Global) -> Result<Vec<usize>, SFault>
+    pub fn held(&mut self, alloc: Global) -> Result<Vec<usize>, StoreFault>
         ensures same { IsAsBefore S.Store self.old self.new }
         ensures rows { IsHonest S.Store self.new → (k : StoreState) → Represents S.Store self.old k
             → HasReceipts k → IfOk result (λ rows. AreHeld k.bodies rows.items) }
-        ensures cause { IfErr result IsS1OrS2 }
+        ensures cause { IfErr result IsFailure }
     {
         let told = self.held_by_receipts(alloc)?;
         let digests = self.unlisted_digests(alloc)?;
@@ -34,12 +34,12 @@ impl<S: Alter> Store<S> {
         alloc: Global,
         told: Vec<usize>,
         digests: &[[u8; 32]],
-    ) -> Result<Vec<usize>, SFault>
+    ) -> Result<Vec<usize>, StoreFault>
         ensures same { IsAsBefore S.Store self.old self.new }
         ensures found { IsHonest S.Store self.new → (k : StoreState) → Represents S.Store self.old k
             → IsRising told.items
             → IfOk result (λ rows. AreFound k told.items digests.now rows.items) }
-        ensures cause { IfErr result IsS1OrS2 }
+        ensures cause { IfErr result IsFailure }
     {
         let mut rows = told;
         for digest in digests {
@@ -55,13 +55,13 @@ impl<S: Alter> Store<S> {
         alloc: Global,
         rows: &mut Vec<usize>,
         digest: &[u8; 32],
-    ) -> Result<(), SFault>
+    ) -> Result<(), StoreFault>
         ensures same { IsAsBefore S.Store self.old self.new }
         ensures found { OnOk result (IsHonest S.Store self.new → (k : StoreState)
             → Represents S.Store self.old k → (told : List ℕ) (digests : List (List ℕ))
             → AreFound k told digests rows.old.items
             → AreFound k told (digests ++ digest.now ∷ []) rows.new.items) }
-        ensures cause { IfErr result IsS1OrS2 }
+        ensures cause { IfErr result IsFailure }
     {
         let Some(row) = self.manifest().row_by_digest(digest) else {
             return Ok(());

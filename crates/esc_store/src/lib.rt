@@ -10,7 +10,7 @@
 //! # What goes in and out
 //!
 //! In: a connection over a disk of any kind (`S: Alter`), a manifest, and the parts of a change.
-//! Out: replies, bodies, steps and objects as the desk's values, or an `SFault`: `S1` the database
+//! Out: replies, bodies, steps and objects as the desk's values, or an `StoreFault`: `S1` the database
 //! failed, `S2` out of memory, `S3` the database is not what the call is for, `S4` no room for a
 //! receipt. `S5`, no room for a parked body, is for the desk above, which counts them.
 //!
@@ -39,7 +39,7 @@
 //! what it kept.
 //!
 //! ```text
-//! fn record<S: Alter>(store: &mut Store<S>, receipt: &Receipt<'_>) -> Result<u64, SFault> {
+//! fn record<S: Alter>(store: &mut Store<S>, receipt: &Receipt<'_>) -> Result<u64, StoreFault> {
 //!     let mut change = store.begin()?;
 //!     let number = change.record_receipt(receipt)?;
 //!     change.commit()?;
@@ -75,6 +75,7 @@
 #![tactic(auto, using(crate::proofs::Survival::survivals))]
 
 mod books;
+mod cause;
 mod change;
 mod codec;
 mod counts;
@@ -87,6 +88,7 @@ mod listing;
 mod migrating;
 mod moment;
 mod numbers;
+mod obstacle;
 mod opening;
 mod parked;
 mod reader;
@@ -99,11 +101,13 @@ mod statements;
 mod store;
 
 pub use books::MOST_RECEIPTS;
+pub use cause::{Cause, Table};
 pub use change::Change;
-pub use fault::SFault;
+pub use fault::{Reason, StoreFault};
 pub use form::number;
 pub use held::insert_row;
 pub use numbers::{N1, Number};
+pub use obstacle::Obstacle;
 pub use parked::{MOST_PARKED, ParkedBody};
 pub use reader::StoreReader;
 pub use reader::objects::TableKey;

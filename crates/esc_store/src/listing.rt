@@ -5,7 +5,7 @@ ghost use Rattle.std.specs.Prelude.{OnErr};
 ghost use Rattle.esc_manifest.specs.declared.row.MRow.{MRow};
 ghost use Rattle.esc_apply.specs.Registry.{State};
 ghost use Rattle.esc_sql.specs.Entries.{listed_row};
-ghost use Rattle.esc_store.specs.Faults.{IsS1OrS2};
+ghost use Rattle.esc_store.specs.Faults.{IsFailure};
 ghost use Rattle.esc_store.specs.StoreState.{StoreState, with_listed};
 ghost use Rattle.esc_store.specs.TypedRows.{indexed_row, listed_from};
 ghost use Rattle.esc_store.specs.Representation.{HasMadeBooksIn, HasMadeTables, IsUncommitted};
@@ -13,7 +13,7 @@ ghost use Rattle.esc_store.specs.Representation.{IsChangePart, listed_by};
 
 use crate::change::Change;
 use crate::codec::manifest::stored_manifest;
-use crate::fault::SFault;
+use crate::fault::StoreFault;
 use esc_manifest::Manifest;
 use esc_sql::listed::{Listed, insert_listed};
 use sqlite::Alter;
@@ -23,12 +23,12 @@ impl<'a, S: Alter> Change<'a, S> {
     /// store's manifest once the change is committed. At `Err` (`S1`, `S2`) no other rows are
     /// listed than before.
     #[tactic(auto, using(crate::proofs::Lists::unchanged))]
-    pub fn list(&mut self, union: Manifest) -> Result<(), SFault>
+    pub fn list(&mut self, union: Manifest) -> Result<(), StoreFault>
         requires begins { take (length (listed_by self.now)) union ≡ listed_by self.now }
         ensures part { IsChangePart S.Store self.old self.new result (λ k. with_listed k union) }
         ensures listed { OnOk result (listed_by self.new ≡ union) }
         ensures unlisted { OnErr result (listed_by self.new ≡ listed_by self.old) }
-        ensures cause { IfErr result IsS1OrS2 }
+        ensures cause { IfErr result IsFailure }
     {
         let rows = stored_manifest(self.store.alloc, union.rows())?;
         let from = self.listed_len();
@@ -49,7 +49,7 @@ impl<'a, S: Alter> Change<'a, S> {
 
     // Adds the rows of a union, from an index on, to their table, which has those before it.
     #[tactic(auto, using(crate::specs::StandingLaws::goes_then))]
-    fn list_rows(&mut self, rows: &[Listed], from: usize) -> Result<(), SFault>
+    fn list_rows(&mut self, rows: &[Listed], from: usize) -> Result<(), StoreFault>
         ensures goes_on { IsUncommitted S.Store self.old self.new }
         ensures listing { self.new.listing ≡ self.old.listing }
         ensures count { self.new.count ≡ self.old.count }
@@ -59,7 +59,7 @@ impl<'a, S: Alter> Change<'a, S> {
             → HasMadeBooksIn S.Store self.new.store.now (Some union) before (with_listed k union)) }
         ensures holds { OnOk result ((s : State) → HasMadeTables S.Store self.old s
             → HasMadeTables S.Store self.new s) }
-        ensures cause { IfErr result IsS1OrS2 }
+        ensures cause { IfErr result IsFailure }
     {
         for at in from..rows.len() {
             self.list_row(&rows[at])?;
@@ -68,7 +68,7 @@ impl<'a, S: Alter> Change<'a, S> {
     }
 
     // Puts a row into its table, which has those before it.
-    fn list_row(&mut self, row: &Listed) -> Result<(), SFault>
+    fn list_row(&mut self, row: &Listed) -> Result<(), StoreFault>
         ensures goes_on { IsUncommitted S.Store self.old self.new }
         ensures listing { self.new.listing ≡ self.old.listing }
         ensures count { self.new.count ≡ self.old.count }
@@ -79,7 +79,7 @@ impl<'a, S: Alter> Change<'a, S> {
             (with_listed k (k.listed ++ r ∷ []))) }
         ensures holds { OnOk result ((s : State) → HasMadeTables S.Store self.old s
             → HasMadeTables S.Store self.new s) }
-        ensures cause { IfErr result IsS1OrS2 }
+        ensures cause { IfErr result IsFailure }
     {
         let done = insert_listed(&mut self.store.conn, row);
         self.store.settle(done)

@@ -4,7 +4,7 @@ ghost use Rattle.std.specs.Prelude.{◌≡◌, IsTrue, IfOk, IfErr, OnOk, OnErr,
 ghost use Rattle.sqlite_trees.specs.Tree.{Trees};
 ghost use Rattle.sqlite.specs.Held.{state};
 ghost use Rattle.sqlite.specs.State.{HasCleanDisk, Survives, KeepsCommit, IsUnchanged};
-ghost use Rattle.esc_store.specs.Faults.{IsS1OrS2, IsS1ToS3};
+ghost use Rattle.esc_store.specs.Faults.{IsFailure, IsOpenFault};
 ghost use Rattle.esc_store.specs.StoreState.{StoreState};
 ghost use Rattle.esc_store.specs.Opening.{IsSettled, IsAsItWas, IsOpeningFault, IsNoStore};
 ghost use Rattle.esc_store.specs.Opening.{IsOpened};
@@ -15,8 +15,9 @@ ghost use Rattle.esc_store.specs.FirstVersion.{IsFirstStore, IsFirstDatabase, Is
 ghost use Rattle.esc_store.specs.FirstVersion.{HoldsFirst, SeesFirst, LeavesFirstOr};
 ghost use Rattle.esc_sql.specs.Schema.{first_schema};
 
+use crate::cause::Cause;
 use crate::codec::manifest::kept_manifest;
-use crate::fault::SFault;
+use crate::fault::StoreFault;
 use crate::founding::give_up_in;
 use crate::remembered::NOTHING;
 use crate::store::Store;
@@ -33,7 +34,7 @@ use std::alloc::Global;
 pub(crate) const FIRST_VERSION: i64 = 1;
 
 // Tests that a database with the seven tables is of version 1. `S3` where it is not.
-fn test_first<S: Alter>(conn: &mut Connection<S>) -> Result<(), SFault>
+fn test_first<S: Alter>(conn: &mut Connection<S>) -> Result<(), StoreFault>
     requires tables { (state S.Store conn.old).now.schema ≡ first_schema }
     ensures survives { Survives (state S.Store conn.old) (state S.Store conn.new) (λ _. ⊥) }
     ensures kept { HasCleanDisk (state S.Store conn.new)
@@ -41,15 +42,15 @@ fn test_first<S: Alter>(conn: &mut Connection<S>) -> Result<(), SFault>
     ensures version { OnOk result (HasCleanDisk (state S.Store conn.new)
         → IsUnchanged (state S.Store conn.old) (state S.Store conn.new)
         × IsOfFirstVersion (state S.Store conn.old).now) }
-    ensures never { IfErr result (λ fault. fault ≡ SFault.S3
+    ensures never { IfErr result (λ fault. fault ≡ StoreFault.NotAStore
         → HasCleanDisk (state S.Store conn.new)
         → IsTrue (state S.Store conn.new).is_open → IsSettled (state S.Store conn.old)
         → (k : StoreState)
         → IsFirstStore (state S.Store conn.old).committed.trees k → ⊥) }
-    ensures cause { IfErr result IsS1ToS3 }
+    ensures cause { IfErr result IsOpenFault }
 {
     if find_version(conn)? != Some(FIRST_VERSION) {
-        return Err(SFault::S3);
+        return Err(StoreFault::NotAStore);
     }
     Ok(())
 }
@@ -68,7 +69,7 @@ fn upgrade_here<S: Alter>(conn: &mut Connection<S>) -> Result<(), Error>
 }
 
 // The same as `upgrade_here`. Returns the manifest of the store.
-fn read_upgraded<S: Alter>(alloc: Global, conn: &mut Connection<S>) -> Result<Manifest, SFault>
+fn read_upgraded<S: Alter>(alloc: Global, conn: &mut Connection<S>) -> Result<Manifest, StoreFault>
     ensures survives { Survives (state S.Store conn.old) (state S.Store conn.new) (λ _. ⊥) }
     ensures kept { HasCleanDisk (state S.Store conn.new)
         → KeepsCommit (state S.Store conn.old) (state S.Store conn.new) }
@@ -78,7 +79,7 @@ fn read_upgraded<S: Alter>(alloc: Global, conn: &mut Connection<S>) -> Result<Ma
     ensures manifest { IfOk result (λ manifest. HasCleanDisk (state S.Store conn.new)
         → (k : StoreState)
         → IsFirstDatabase (state S.Store conn.old).now k → manifest ≡ k.listed) }
-    ensures cause { IfErr result IsS1OrS2 }
+    ensures cause { IfErr result IsFailure }
 {
     upgrade_here(conn)?;
     let stored = all_listed(alloc, conn)?;
@@ -86,7 +87,10 @@ fn read_upgraded<S: Alter>(alloc: Global, conn: &mut Connection<S>) -> Result<Ma
 }
 
 // The same as `read_upgraded`, and commits it.
-fn commit_upgraded<S: Alter>(alloc: Global, conn: &mut Connection<S>) -> Result<Manifest, SFault>
+fn commit_upgraded<S: Alter>(
+    alloc: Global,
+    conn: &mut Connection<S>,
+) -> Result<Manifest, StoreFault>
     ensures survives { (k : StoreState) → (HasCleanDisk (state S.Store conn.old)
         → IsFirstDatabase (state S.Store conn.old).now k)
         → Survives (state S.Store conn.old) (state S.Store conn.new) (λ trees. IsStore trees k) }
@@ -101,7 +105,7 @@ fn commit_upgraded<S: Alter>(alloc: Global, conn: &mut Connection<S>) -> Result<
     ensures left { OnOk result ((k : StoreState) → (HasCleanDisk (state S.Store conn.old)
         → IsFirstDatabase (state S.Store conn.old).now k) → HasCleanDisk (state S.Store conn.new)
         → (trees : Trees) → (state S.Store conn.new).may_leave trees → IsStore trees k) }
-    ensures cause { IfErr result IsS1OrS2 }
+    ensures cause { IfErr result IsFailure }
 {
     let manifest = read_upgraded(alloc, conn)?;
     commit_in(conn)?;
@@ -109,7 +113,7 @@ fn commit_upgraded<S: Alter>(alloc: Global, conn: &mut Connection<S>) -> Result<
 }
 
 // The same as `commit_upgraded`, where the version is tested first: `S3` if it is not 1.
-fn migrate_whole<S: Alter>(alloc: Global, conn: &mut Connection<S>) -> Result<Manifest, SFault>
+fn migrate_whole<S: Alter>(alloc: Global, conn: &mut Connection<S>) -> Result<Manifest, StoreFault>
     requires tables { (state S.Store conn.old).now.schema ≡ first_schema }
     ensures survives { (k : StoreState) → SeesFirst (state S.Store conn.old) k
         → Survives (state S.Store conn.old) (state S.Store conn.new) (λ trees. IsStore trees k) }
@@ -126,12 +130,12 @@ fn migrate_whole<S: Alter>(alloc: Global, conn: &mut Connection<S>) -> Result<Ma
     ensures left { OnOk result ((k : StoreState) → SeesFirst (state S.Store conn.old) k
         → HasCleanDisk (state S.Store conn.new)
         → (trees : Trees) → (state S.Store conn.new).may_leave trees → IsStore trees k) }
-    ensures never { IfErr result (λ fault. fault ≡ SFault.S3
+    ensures never { IfErr result (λ fault. fault ≡ StoreFault.NotAStore
         → HasCleanDisk (state S.Store conn.new)
         → IsTrue (state S.Store conn.new).is_open → IsSettled (state S.Store conn.old)
         → (k : StoreState)
         → IsFirstStore (state S.Store conn.old).committed.trees k → ⊥) }
-    ensures cause { IfErr result IsS1ToS3 }
+    ensures cause { IfErr result IsOpenFault }
 {
     test_first(conn)?;
     commit_upgraded(alloc, conn)
@@ -140,7 +144,7 @@ fn migrate_whole<S: Alter>(alloc: Global, conn: &mut Connection<S>) -> Result<Ma
 // The same as `migrate_whole`, on a connection without a transaction, if the database has the seven
 // tables (else `S3`): where it fails the connection is as it was. `S1` also in a transaction, which
 // goes on.
-fn migrate_here<S: Alter>(alloc: Global, conn: &mut Connection<S>) -> Result<Manifest, SFault>
+fn migrate_here<S: Alter>(alloc: Global, conn: &mut Connection<S>) -> Result<Manifest, StoreFault>
     ensures survives { (k : StoreState) → IsFirstStore (state S.Store conn.old).committed.trees k
         → Survives (state S.Store conn.old) (state S.Store conn.new) (λ trees. IsStore trees k) }
     ensures honest { HasCleanDisk (state S.Store conn.new)
@@ -156,7 +160,7 @@ fn migrate_here<S: Alter>(alloc: Global, conn: &mut Connection<S>) -> Result<Man
         → IsFirstStore (state S.Store conn.old).committed.trees k
         → HasCleanDisk (state S.Store conn.new)
         → (trees : Trees) → (state S.Store conn.new).may_leave trees → IsStore trees k) }
-    ensures never { IfErr result (λ fault. fault ≡ SFault.S3
+    ensures never { IfErr result (λ fault. fault ≡ StoreFault.NotAStore
         → HasCleanDisk (state S.Store conn.new)
         → IsTrue (state S.Store conn.new).is_open → (k : StoreState)
         → IsFirstStore (state S.Store conn.old).committed.trees k → ⊥) }
@@ -164,10 +168,10 @@ fn migrate_here<S: Alter>(alloc: Global, conn: &mut Connection<S>) -> Result<Man
     ensures cause { IfErr result (IsOpeningFault first_schema (state S.Store conn.old)) }
 {
     if !conn.is_autocommit() {
-        return Err(SFault::S1);
+        return Err(StoreFault::Failed(Cause::InTransaction));
     }
     if !has_first_tables(conn) {
-        return Err(SFault::S3);
+        return Err(StoreFault::NotAStore);
     }
     match migrate_whole(alloc, conn) {
         Ok(manifest) => Ok(manifest),
@@ -190,7 +194,7 @@ impl<S: Alter> Store<S> {
     pub fn migrate(
         alloc: Global,
         connection: Connection<S>,
-    ) -> Result<Store<S>, (SFault, Connection<S>)>
+    ) -> Result<Store<S>, (StoreFault, Connection<S>)>
         ensures opened { IfOk result (IsOpened S.Store (HoldsFirst S.Store connection)
             IsFirstStore IsOfFirstVersion connection) }
         ensures refused { IfErr result (λ e. IsNoStore first_schema IsFirstStore

@@ -2,13 +2,13 @@
 
 ghost use Rattle.std.specs.Prelude.{◌≡◌, Some, None, IfOk, IfErr};
 ghost use Rattle.esc_sql.specs.Content.{moment_set};
-ghost use Rattle.esc_store.specs.Faults.{IsS1OrS2};
+ghost use Rattle.esc_store.specs.Faults.{IsFailure};
 ghost use Rattle.esc_store.specs.StoreState.{StoreState, with_moment};
 ghost use Rattle.esc_store.specs.Representation.{Represents, IsChangePart, IsAsBefore, IsHonest};
 ghost use Rattle.esc_store.specs.Representation.{IsStoreRead, listed_by};
 
 use crate::change::Change;
-use crate::fault::SFault;
+use crate::fault::StoreFault;
 use crate::store::Store;
 use esc_sql::moment::{clear_moment, find_moment, insert_moment};
 use sqlite::Alter;
@@ -16,10 +16,10 @@ use sqlite::Alter;
 impl<S: Alter> Store<S> {
     // The moment that is set, if one is.
     #[tactic(auto, using(crate::proofs::Sure::read_here))]
-    fn moment_here(&mut self) -> Result<Option<i64>, SFault>
+    fn moment_here(&mut self) -> Result<Option<i64>, StoreFault>
         ensures read { IsStoreRead S.Store self.old self.new
             (λ c found. found ≡ moment_set c.moment) result }
-        ensures cause { IfErr result IsS1OrS2 }
+        ensures cause { IfErr result IsFailure }
     {
         let found = find_moment(&mut self.conn);
         self.settle(found)
@@ -27,12 +27,12 @@ impl<S: Alter> Store<S> {
 
     /// The moment that is set, in nanoseconds since 1970-01-01T00:00:00Z, if one is. `S1`, `S2`.
     #[tactic(auto, using(crate::proofs::Sure::as_before))]
-    pub fn moment(&mut self) -> Result<Option<i64>, SFault>
+    pub fn moment(&mut self) -> Result<Option<i64>, StoreFault>
         ensures same { IsAsBefore S.Store self.old self.new }
         ensures moment { IsHonest S.Store self.new → (k : StoreState)
             → Represents S.Store self.old k
             → IfOk result (λ moment. moment ≡ k.moment) }
-        ensures cause { IfErr result IsS1OrS2 }
+        ensures cause { IfErr result IsFailure }
     {
         self.moment_here()
     }
@@ -41,11 +41,11 @@ impl<S: Alter> Store<S> {
 impl<'a, S: Alter> Change<'a, S> {
     /// Sets the moment, in nanoseconds since 1970-01-01T00:00:00Z, or removes it (`None`). The
     /// chain and the tables stay as they are. `S1`, `S2`.
-    pub fn set_moment(&mut self, moment: Option<i64>) -> Result<(), SFault>
+    pub fn set_moment(&mut self, moment: Option<i64>) -> Result<(), StoreFault>
         ensures part { IsChangePart S.Store self.old self.new result
             (λ k. with_moment k moment) }
         ensures listed { listed_by self.new ≡ listed_by self.old }
-        ensures cause { IfErr result IsS1OrS2 }
+        ensures cause { IfErr result IsFailure }
     {
         self.clear_moment()?;
         match moment {
@@ -55,22 +55,22 @@ impl<'a, S: Alter> Change<'a, S> {
     }
 
     // Removes the moment, if one is set.
-    fn clear_moment(&mut self) -> Result<(), SFault>
+    fn clear_moment(&mut self) -> Result<(), StoreFault>
         ensures part { IsChangePart S.Store self.old self.new result
             (λ k. with_moment k None) }
         ensures listed { listed_by self.new ≡ listed_by self.old }
-        ensures cause { IfErr result IsS1OrS2 }
+        ensures cause { IfErr result IsFailure }
     {
         let done = clear_moment(&mut self.store.conn);
         self.store.settle(done)
     }
 
     // Sets a moment, where none is set.
-    fn put_moment(&mut self, moment: i64) -> Result<(), SFault>
+    fn put_moment(&mut self, moment: i64) -> Result<(), StoreFault>
         ensures part { IsChangePart S.Store self.old self.new result
             (λ k. with_moment k (Some moment)) }
         ensures listed { listed_by self.new ≡ listed_by self.old }
-        ensures cause { IfErr result IsS1OrS2 }
+        ensures cause { IfErr result IsFailure }
     {
         let done = insert_moment(&mut self.store.conn, moment);
         self.store.settle(done)

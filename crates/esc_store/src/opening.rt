@@ -3,14 +3,15 @@
 ghost use Rattle.std.specs.Prelude.{◌≡◌, IsTrue, IfOk, IfErr, OnOk, OnErr};
 ghost use Rattle.sqlite.specs.Held.{state};
 ghost use Rattle.sqlite.specs.State.{HasCleanDisk, Survives, KeepsCommit, IsUnchanged};
-ghost use Rattle.esc_store.specs.Faults.{IsS1ToS3};
+ghost use Rattle.esc_store.specs.Faults.{IsOpenFault};
 ghost use Rattle.esc_store.specs.StoreState.{StoreState};
 ghost use Rattle.esc_sql.specs.Schema.{store_schema};
 ghost use Rattle.esc_store.specs.Opening.{IsSettled, IsAsItWas, IsOpeningFault};
 ghost use Rattle.esc_store.specs.StoreTables.{IsStore, IsStoreDatabase, IsOfVersion};
 
+use crate::cause::Cause;
 use crate::codec::manifest::kept_manifest;
-use crate::fault::SFault;
+use crate::fault::StoreFault;
 use crate::founding::give_up_in;
 use esc_manifest::Manifest;
 use esc_sql::info::find_version;
@@ -23,7 +24,7 @@ use std::alloc::Global;
 pub(crate) const VERSION: i64 = 2;
 
 // Tests that a database with the nine tables is of this version. `S3` where it is not.
-fn test_version<S: Alter>(conn: &mut Connection<S>) -> Result<(), SFault>
+fn test_version<S: Alter>(conn: &mut Connection<S>) -> Result<(), StoreFault>
     requires tables { (state S.Store conn.old).now.schema ≡ store_schema }
     ensures survives { Survives (state S.Store conn.old) (state S.Store conn.new) (λ _. ⊥) }
     ensures kept { HasCleanDisk (state S.Store conn.new)
@@ -31,21 +32,21 @@ fn test_version<S: Alter>(conn: &mut Connection<S>) -> Result<(), SFault>
     ensures version { OnOk result (HasCleanDisk (state S.Store conn.new)
         → IsUnchanged (state S.Store conn.old) (state S.Store conn.new)
         × IsOfVersion (state S.Store conn.old).now) }
-    ensures never { IfErr result (λ fault. fault ≡ SFault.S3
+    ensures never { IfErr result (λ fault. fault ≡ StoreFault.NotAStore
         → HasCleanDisk (state S.Store conn.new)
         → IsTrue (state S.Store conn.new).is_open → IsSettled (state S.Store conn.old)
         → (k : StoreState)
         → IsStore (state S.Store conn.old).committed.trees k → ⊥) }
-    ensures cause { IfErr result IsS1ToS3 }
+    ensures cause { IfErr result IsOpenFault }
 {
     if find_version(conn)? != Some(VERSION) {
-        return Err(SFault::S3);
+        return Err(StoreFault::NotAStore);
     }
     Ok(())
 }
 
 // The manifest of the store that the database is.
-fn read_manifest<S: Alter>(alloc: Global, conn: &mut Connection<S>) -> Result<Manifest, SFault>
+fn read_manifest<S: Alter>(alloc: Global, conn: &mut Connection<S>) -> Result<Manifest, StoreFault>
     requires tables { (state S.Store conn.old).now.schema ≡ store_schema }
     ensures survives { Survives (state S.Store conn.old) (state S.Store conn.new) (λ _. ⊥) }
     ensures kept { HasCleanDisk (state S.Store conn.new)
@@ -56,12 +57,12 @@ fn read_manifest<S: Alter>(alloc: Global, conn: &mut Connection<S>) -> Result<Ma
     ensures manifest { IfOk result (λ manifest. HasCleanDisk (state S.Store conn.new)
         → (k : StoreState)
         → IsStoreDatabase (state S.Store conn.old).now k → manifest ≡ k.listed) }
-    ensures never { IfErr result (λ fault. fault ≡ SFault.S3
+    ensures never { IfErr result (λ fault. fault ≡ StoreFault.NotAStore
         → HasCleanDisk (state S.Store conn.new)
         → IsTrue (state S.Store conn.new).is_open → IsSettled (state S.Store conn.old)
         → (k : StoreState)
         → IsStore (state S.Store conn.old).committed.trees k → ⊥) }
-    ensures cause { IfErr result IsS1ToS3 }
+    ensures cause { IfErr result IsOpenFault }
 {
     test_version(conn)?;
     let stored = all_listed(alloc, conn)?;
@@ -73,7 +74,7 @@ fn read_manifest<S: Alter>(alloc: Global, conn: &mut Connection<S>) -> Result<Ma
 pub(crate) fn find_manifest<S: Alter>(
     alloc: Global,
     conn: &mut Connection<S>,
-) -> Result<Manifest, SFault>
+) -> Result<Manifest, StoreFault>
     ensures survives { Survives (state S.Store conn.old) (state S.Store conn.new) (λ _. ⊥) }
     ensures version { OnOk result (HasCleanDisk (state S.Store conn.new)
         → IsUnchanged (state S.Store conn.old) (state S.Store conn.new)
@@ -82,7 +83,7 @@ pub(crate) fn find_manifest<S: Alter>(
     ensures manifest { IfOk result (λ manifest. HasCleanDisk (state S.Store conn.new)
         → (k : StoreState)
         → IsStoreDatabase (state S.Store conn.old).now k → manifest ≡ k.listed) }
-    ensures never { IfErr result (λ fault. fault ≡ SFault.S3
+    ensures never { IfErr result (λ fault. fault ≡ StoreFault.NotAStore
         → HasCleanDisk (state S.Store conn.new)
         → IsTrue (state S.Store conn.new).is_open → (k : StoreState)
         → IsStore (state S.Store conn.old).committed.trees k → ⊥) }
@@ -90,10 +91,10 @@ pub(crate) fn find_manifest<S: Alter>(
     ensures cause { IfErr result (IsOpeningFault store_schema (state S.Store conn.old)) }
 {
     if !conn.is_autocommit() {
-        return Err(SFault::S1);
+        return Err(StoreFault::Failed(Cause::InTransaction));
     }
     if !has_tables(conn) {
-        return Err(SFault::S3);
+        return Err(StoreFault::NotAStore);
     }
     match read_manifest(alloc, conn) {
         Ok(manifest) => Ok(manifest),

@@ -3,7 +3,7 @@
 ghost use Rattle.std.specs.Prelude.{◌≡◌, ⊤, List, IfOk, IfErr, OnOk, MatchResult};
 ghost use Rattle.esc_scan.specs.Scanning.{IsScan};
 ghost use Rattle.esc_manifest.specs.declared.row.MRow.{MRow};
-ghost use Rattle.esc_store.specs.Faults.{IsS1ToS3};
+ghost use Rattle.esc_store.specs.Faults.{IsOpenFault};
 ghost use Rattle.esc_store.specs.TypedRows.{listed_from};
 ghost use Rattle.esc_store.specs.StoreState.{StoreState};
 ghost use Rattle.esc_store.specs.Reading.{AreHonest, AreOfVersion, AreReadAs, AreUnwritten};
@@ -19,7 +19,7 @@ mod receipts;
 mod tables;
 
 use crate::codec::manifest::kept_manifest;
-use crate::fault::SFault;
+use crate::fault::StoreFault;
 use crate::opening::VERSION;
 use esc_manifest::Manifest;
 use esc_scan::listed::all_listed;
@@ -42,7 +42,7 @@ impl<S: Store> StoreReader<S> {
     ///
     /// The trees are returned. `S3` where the store has no version or another one; `S1`, also if
     /// the rows of the manifest are not those of an accepted one; `S2`.
-    pub fn from_trees(alloc: Global, trees: S) -> Result<StoreReader<S>, (SFault, S)>
+    pub fn from_trees(alloc: Global, trees: S) -> Result<StoreReader<S>, (StoreFault, S)>
         ensures unwritten { MatchResult result
             (λ reader. AreUnwritten S.Store trees (trees_of reader))
             (λ e. AreUnwritten S.Store trees e.1) }
@@ -51,9 +51,9 @@ impl<S: Store> StoreReader<S> {
             → ReaderRepresents S.Store reader k) }
         ensures version { IfOk result (λ reader. IsHonestReader S.Store reader
             → AreOfVersion (S.Store.view trees).trees) }
-        ensures never { IfErr result (λ e. e.0 ≡ SFault.S3 → AreHonest S.Store e.1
+        ensures never { IfErr result (λ e. e.0 ≡ StoreFault.NotAStore → AreHonest S.Store e.1
             → (k : StoreState) → AreReadAs (S.Store.view trees).trees k → ⊥) }
-        ensures cause { IfErr result (λ e. IsS1ToS3 e.0) }
+        ensures cause { IfErr result (λ e. IsOpenFault e.0) }
     {
         let mut trees = trees;
         match read_manifest(alloc, &mut trees) {
@@ -74,30 +74,30 @@ impl<S: Store> StoreReader<S> {
 }
 
 // Tests that trees are those of a store of this version. `S3` where they are not.
-fn test_version<S: Store>(alloc: Global, trees: &mut S) -> Result<(), SFault>
+fn test_version<S: Store>(alloc: Global, trees: &mut S) -> Result<(), StoreFault>
     ensures read { IsScan S.Store trees.old trees.new (λ _ _. ⊤) result }
     ensures version { OnOk result (AreHonest S.Store trees.new
         → AreOfVersion (S.Store.view trees.old).trees) }
-    ensures never { IfErr result (λ fault. fault ≡ SFault.S3 → AreHonest S.Store trees.new
+    ensures never { IfErr result (λ fault. fault ≡ StoreFault.NotAStore → AreHonest S.Store trees.new
         → (k : StoreState) → AreReadAs (S.Store.view trees.old).trees k → ⊥) }
-    ensures cause { IfErr result IsS1ToS3 }
+    ensures cause { IfErr result IsOpenFault }
 {
     if find_version(alloc, trees)? != Some(VERSION) {
-        return Err(SFault::S3);
+        return Err(StoreFault::NotAStore);
     }
     Ok(())
 }
 
 // The manifest of the rows that trees list, if the store is of this version.
-fn read_manifest<S: Store>(alloc: Global, trees: &mut S) -> Result<Manifest, SFault>
+fn read_manifest<S: Store>(alloc: Global, trees: &mut S) -> Result<Manifest, StoreFault>
     ensures read { IsScan S.Store trees.old trees.new
         (λ c manifest. (rows : List MRow) → c.listed ≡ listed_from 0 rows → manifest ≡ rows)
         result }
     ensures version { OnOk result (AreHonest S.Store trees.new
         → AreOfVersion (S.Store.view trees.old).trees) }
-    ensures never { IfErr result (λ fault. fault ≡ SFault.S3 → AreHonest S.Store trees.new
+    ensures never { IfErr result (λ fault. fault ≡ StoreFault.NotAStore → AreHonest S.Store trees.new
         → (k : StoreState) → AreReadAs (S.Store.view trees.old).trees k → ⊥) }
-    ensures cause { IfErr result IsS1ToS3 }
+    ensures cause { IfErr result IsOpenFault }
 {
     test_version(alloc, trees)?;
     let stored = all_listed(alloc, trees)?;

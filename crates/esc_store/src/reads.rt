@@ -2,7 +2,7 @@
 
 ghost use Rattle.std.specs.Prelude.{◌≡◌, ◌≤◌, length, IfOk, IfErr, option_map};
 ghost use Rattle.esc_apply.specs.Registry.{IsEntriesOf};
-ghost use Rattle.esc_store.specs.Faults.{IsS1OrS2};
+ghost use Rattle.esc_store.specs.Faults.{IsFailure};
 ghost use Rattle.esc_store.specs.StoreState.{StoreState, kept_replies, kept_reply, kept_chain};
 ghost use Rattle.esc_store.specs.StoreState.{AreHeldBy, AreUnlisted, AreCounts};
 ghost use Rattle.esc_store.specs.Decoded.{AreOfVerdict, counted};
@@ -15,7 +15,7 @@ use crate::codec::receipt::{distinct_indices_of, replies_of, reply_found, verdic
 use crate::codec::small;
 use crate::codec::step::steps_of;
 use crate::counts::{KindCounts, counts_of};
-use crate::fault::SFault;
+use crate::fault::StoreFault;
 use crate::numbers::Number;
 use crate::parked::digests_of;
 use crate::remembered::copy_of;
@@ -41,11 +41,11 @@ impl<S: Alter> Store<S> {
         alloc: Global,
         number: &Number<'_>,
         digest: &[u8; 32],
-    ) -> Result<Option<Reply>, SFault>
+    ) -> Result<Option<Reply>, StoreFault>
         ensures same { IsAsBefore S.Store self.old self.new }
         ensures found { IsHonest S.Store self.new → (k : StoreState) → Represents S.Store self.old k
             → IfOk result (λ reply. reply ≡ kept_reply k number.now digest.now) }
-        ensures cause { IfErr result IsS1OrS2 }
+        ensures cause { IfErr result IsFailure }
     {
         let found = self.receipt_here(number.text(), digest)?;
         reply_found(alloc, &self.manifest, found)
@@ -53,11 +53,11 @@ impl<S: Alter> Store<S> {
 
     /// The replies of all receipts, in the order of their numbers. `S1`, `S2`.
     #[tactic(auto, using(crate::proofs::Sure::as_before))]
-    pub fn receipts(&mut self, alloc: Global) -> Result<Vec<Reply>, SFault>
+    pub fn receipts(&mut self, alloc: Global) -> Result<Vec<Reply>, StoreFault>
         ensures same { IsAsBefore S.Store self.old self.new }
         ensures all { IsHonest S.Store self.new → (k : StoreState) → Represents S.Store self.old k
             → IfOk result (λ replies. replies.items ≡ kept_replies k) }
-        ensures cause { IfErr result IsS1OrS2 }
+        ensures cause { IfErr result IsFailure }
     {
         let stored = self.receipts_here(alloc)?;
         replies_of(alloc, &self.manifest, stored.as_slice())
@@ -65,11 +65,11 @@ impl<S: Alter> Store<S> {
 
     /// How many receipts there are. `S1`, `S2`.
     #[tactic(auto, using(crate::proofs::Sure::as_before))]
-    pub fn receipt_count(&mut self) -> Result<u64, SFault>
+    pub fn receipt_count(&mut self) -> Result<u64, StoreFault>
         ensures same { IsAsBefore S.Store self.old self.new }
         ensures count { IsHonest S.Store self.new → (k : StoreState) → Represents S.Store self.old k
             → IfOk result (λ count. count ≡ length k.receipts) }
-        ensures cause { IfErr result IsS1OrS2 }
+        ensures cause { IfErr result IsFailure }
     {
         let last = self.last_here()?;
         Ok(u64::from(last))
@@ -77,11 +77,11 @@ impl<S: Alter> Store<S> {
 
     /// The body of the row with this index, from 0, if it is held. `S1`, `S2`.
     #[tactic(auto, using(crate::proofs::Sure::as_before))]
-    pub fn body_of(&mut self, _alloc: Global, row: usize) -> Result<Option<Vec<u8>>, SFault>
+    pub fn body_of(&mut self, _alloc: Global, row: usize) -> Result<Option<Vec<u8>>, StoreFault>
         ensures same { IsAsBefore S.Store self.old self.new }
         ensures found { IsHonest S.Store self.new → (k : StoreState) → Represents S.Store self.old k
             → IfOk result (λ body. option_map (λ b. b.items) body ≡ k.bodies row) }
-        ensures cause { IfErr result IsS1OrS2 }
+        ensures cause { IfErr result IsFailure }
     {
         let row = small(row)?;
         self.body_here(row)
@@ -90,11 +90,11 @@ impl<S: Alter> Store<S> {
     /// The indices, from 0, of the rows whose deposit is held according to a receipt (`A1`), in
     /// ascending order. No body is read. The store remembers them until a change ends. `S1`, `S2`.
     #[tactic(auto, using(crate::proofs::Sure::unread))]
-    pub fn held_by_receipts(&mut self, alloc: Global) -> Result<Vec<usize>, SFault>
+    pub fn held_by_receipts(&mut self, alloc: Global) -> Result<Vec<usize>, StoreFault>
         ensures same { IsAsBefore S.Store self.old self.new }
         ensures rows { IsHonest S.Store self.new → (k : StoreState) → Represents S.Store self.old k
             → IfOk result (λ rows. AreHeldBy k.receipts rows.items) }
-        ensures cause { IfErr result IsS1OrS2 }
+        ensures cause { IfErr result IsFailure }
     {
         if let Some(rows) = copy_of(alloc, &self.remembered.rows_with_receipt)? {
             return Ok(rows);
@@ -104,11 +104,11 @@ impl<S: Alter> Store<S> {
 
     // Reads the rows that receipts say are held, and remembers them.
     #[tactic(auto, using(crate::proofs::Sure::as_before))]
-    fn told_here(&mut self, alloc: Global) -> Result<Vec<usize>, SFault>
+    fn told_here(&mut self, alloc: Global) -> Result<Vec<usize>, StoreFault>
         ensures same { IsAsBefore S.Store self.old self.new }
         ensures rows { IsHonest S.Store self.new → (k : StoreState) → Represents S.Store self.old k
             → IfOk result (λ rows. AreHeldBy k.receipts rows.items) }
-        ensures cause { IfErr result IsS1OrS2 }
+        ensures cause { IfErr result IsFailure }
     {
         let rows = self.rows_here(alloc, verdict_number(Verdict::A1))?;
         let told = distinct_indices_of(alloc, rows.as_slice())?;
@@ -123,13 +123,13 @@ impl<S: Alter> Store<S> {
         &mut self,
         alloc: Global,
         verdict: Verdict,
-    ) -> Result<Vec<[u8; 32]>, SFault>
+    ) -> Result<Vec<[u8; 32]>, StoreFault>
         ensures same { IsAsBefore S.Store self.old self.new }
         ensures digests { IsHonest S.Store self.new → (k : StoreState)
             → Represents S.Store self.old k
             → IfOk result
             (λ digests. AreOfVerdict (verdict_number verdict) k.receipts digests.items) }
-        ensures cause { IfErr result IsS1OrS2 }
+        ensures cause { IfErr result IsFailure }
     {
         let stored = self.verdict_digests_here(alloc, verdict_number(verdict))?;
         digests_of(alloc, stored.as_slice())
@@ -139,12 +139,12 @@ impl<S: Alter> Store<S> {
     /// which did not keep them, and `A5` of this one, which parked them), with repeats, in any
     /// order. No body is read. The store remembers them until a change ends. `S1`, `S2`.
     #[tactic(auto, using(crate::proofs::Sure::unread))]
-    pub fn unlisted_digests(&mut self, alloc: Global) -> Result<Vec<[u8; 32]>, SFault>
+    pub fn unlisted_digests(&mut self, alloc: Global) -> Result<Vec<[u8; 32]>, StoreFault>
         ensures same { IsAsBefore S.Store self.old self.new }
         ensures digests { IsHonest S.Store self.new → (k : StoreState)
             → Represents S.Store self.old k
             → IfOk result (λ digests. AreUnlisted k.receipts digests.items) }
-        ensures cause { IfErr result IsS1OrS2 }
+        ensures cause { IfErr result IsFailure }
     {
         if let Some(digests) = copy_of(alloc, &self.remembered.unlisted_digests)? {
             return Ok(digests);
@@ -153,12 +153,12 @@ impl<S: Alter> Store<S> {
     }
 
     // Reads the digests of the bodies that no row listed, and remembers them.
-    fn unlisted_here(&mut self, alloc: Global) -> Result<Vec<[u8; 32]>, SFault>
+    fn unlisted_here(&mut self, alloc: Global) -> Result<Vec<[u8; 32]>, StoreFault>
         ensures same { IsAsBefore S.Store self.old self.new }
         ensures digests { IsHonest S.Store self.new → (k : StoreState)
             → Represents S.Store self.old k
             → IfOk result (λ digests. AreUnlisted k.receipts digests.items) }
-        ensures cause { IfErr result IsS1OrS2 }
+        ensures cause { IfErr result IsFailure }
     {
         let mut digests = self.digests_of_verdict(alloc, Verdict::A2)?;
         let parked = self.digests_of_verdict(alloc, Verdict::A5)?;
@@ -170,11 +170,11 @@ impl<S: Alter> Store<S> {
 
     /// The steps of the chain, in order. The store remembers them until a change ends. `S1`, `S2`.
     #[tactic(auto, using(crate::proofs::Sure::unread))]
-    pub fn chain(&mut self, alloc: Global) -> Result<Vec<Step>, SFault>
+    pub fn chain(&mut self, alloc: Global) -> Result<Vec<Step>, StoreFault>
         ensures same { IsAsBefore S.Store self.old self.new }
         ensures steps { IsHonest S.Store self.new → (k : StoreState) → Represents S.Store self.old k
             → IfOk result (λ steps. steps.items ≡ kept_chain k) }
-        ensures cause { IfErr result IsS1OrS2 }
+        ensures cause { IfErr result IsFailure }
     {
         if let Some(steps) = copy_of(alloc, &self.remembered.chain)? {
             return Ok(steps);
@@ -184,11 +184,11 @@ impl<S: Alter> Store<S> {
 
     // Reads the steps of the chain, and remembers them.
     #[tactic(auto, using(crate::proofs::Sure::as_before))]
-    fn chain_here(&mut self, alloc: Global) -> Result<Vec<Step>, SFault>
+    fn chain_here(&mut self, alloc: Global) -> Result<Vec<Step>, StoreFault>
         ensures same { IsAsBefore S.Store self.old self.new }
         ensures steps { IsHonest S.Store self.new → (k : StoreState) → Represents S.Store self.old k
             → IfOk result (λ steps. steps.items ≡ kept_chain k) }
-        ensures cause { IfErr result IsS1OrS2 }
+        ensures cause { IfErr result IsFailure }
     {
         let stored = self.steps_here(alloc)?;
         let steps = steps_of(alloc, &self.manifest, stored.as_slice())?;
@@ -199,12 +199,12 @@ impl<S: Alter> Store<S> {
 
     /// The objects of the chain's tables, by their keys. `S1`, `S2`.
     #[tactic(auto, using(crate::proofs::Sure::as_before))]
-    pub fn tables(&mut self, alloc: Global) -> Result<BTreeMap<Key, Object>, SFault>
+    pub fn tables(&mut self, alloc: Global) -> Result<BTreeMap<Key, Object>, StoreFault>
         ensures same { IsAsBefore S.Store self.old self.new }
         ensures objects { IsHonest S.Store self.new → (k : StoreState)
             → Represents S.Store self.old k
             → IfOk result (λ tables. IsEntriesOf k.registry.content tables.entries) }
-        ensures cause { IfErr result IsS1OrS2 }
+        ensures cause { IfErr result IsFailure }
     {
         no_record_begins_another();
         let stored = self.objects_here(alloc)?;
@@ -219,13 +219,13 @@ impl<S: Alter> Store<S> {
         alloc: Global,
         kind: Kind,
         from: &[u8],
-    ) -> Result<Vec<(Key, Object)>, SFault>
+    ) -> Result<Vec<(Key, Object)>, StoreFault>
         ensures same { IsAsBefore S.Store self.old self.new }
         ensures page { IsHonest S.Store self.new → (k : StoreState) → Represents S.Store self.old k
             → IfOk result (λ page. IsPage k.registry.content kind from.now page.items) }
         ensures few { IsHonest S.Store self.new → (k : StoreState) → Represents S.Store self.old k
             → IfOk result (λ page. length page.items ≤ MOST_ON_PAGE) }
-        ensures cause { IfErr result IsS1OrS2 }
+        ensures cause { IfErr result IsFailure }
     {
         no_record_begins_another();
         let stored = self.page_here(alloc, kind_number(kind), from)?;
@@ -234,12 +234,12 @@ impl<S: Alter> Store<S> {
 
     // Reads the kind of each object, and remembers how many there are of each.
     #[tactic(auto, using(crate::proofs::Sure::as_before))]
-    fn count_here(&mut self, alloc: Global) -> Result<KindCounts, SFault>
+    fn count_here(&mut self, alloc: Global) -> Result<KindCounts, StoreFault>
         ensures same { IsAsBefore S.Store self.old self.new }
         ensures counts { IsHonest S.Store self.new → (k : StoreState)
             → Represents S.Store self.old k
             → IfOk result (λ counts. AreCounts k.registry.content (counted counts)) }
-        ensures cause { IfErr result IsS1OrS2 }
+        ensures cause { IfErr result IsFailure }
     {
         let kinds = self.kinds_here(alloc)?;
         let counts = counts_of(kinds.as_slice());
@@ -250,12 +250,12 @@ impl<S: Alter> Store<S> {
     /// How many objects the tables have of each of the six kinds. The store remembers it until a
     /// change ends, so only the first of these calls after a change reads the objects. `S1`, `S2`.
     #[tactic(auto, using(crate::proofs::Sure::unread))]
-    pub fn counts_by_kind(&mut self, alloc: Global) -> Result<BTreeMap<Kind, u64>, SFault>
+    pub fn counts_by_kind(&mut self, alloc: Global) -> Result<BTreeMap<Kind, u64>, StoreFault>
         ensures same { IsAsBefore S.Store self.old self.new }
         ensures counts { IsHonest S.Store self.new → (k : StoreState)
             → Represents S.Store self.old k
             → IfOk result (λ counts. AreCounts k.registry.content counts.entries) }
-        ensures cause { IfErr result IsS1OrS2 }
+        ensures cause { IfErr result IsFailure }
     {
         match self.remembered.counts {
             Some(counts) => counts.by_kind(alloc),

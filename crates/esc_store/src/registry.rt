@@ -2,7 +2,7 @@
 
 use crate::change::Change;
 use crate::codec::object::{images_of, kind_number, object_in, record_bytes};
-use crate::fault::SFault;
+use crate::fault::StoreFault;
 use esc_apply::{Keys, Registry};
 use esc_record::no_record_begins_another;
 use esc_tables::{Key, Object};
@@ -12,19 +12,19 @@ use std::collections::BTreeMap;
 
 impl<'a, S: Alter> Registry for Change<'a, S> {
     ghost use Rattle.esc_apply.specs.Registry.{saturated};
-    ghost use Rattle.esc_store.specs.Faults.{IsS1OrS2};
+    ghost use Rattle.esc_store.specs.Faults.{IsFailure};
     ghost use Rattle.esc_store.specs.Representation.{HasMadeTables, ChangeFollows, IsHonest};
     ghost use Rattle.esc_store.specs.Representation.{store_in, change_count};
     ghost use Rattle.esc_store.specs.StandingLaws.{follows_same, follows_then};
     ghost use Rattle.std.proofs.Common.{inr, arith};
 
-    type Error = SFault;
+    type Error = StoreFault;
 
     ghost holds = { λ r s. HasMadeTables S.Store r s };
 
     ghost count = { λ r. saturated (change_count r) };
 
-    ghost fails = { λ fault. IsS1OrS2 fault };
+    ghost fails = { λ fault. IsFailure fault };
 
     ghost wants_memory = { λ m fault given. inr given };
 
@@ -32,12 +32,12 @@ impl<'a, S: Alter> Registry for Change<'a, S> {
 
     ghost follows = { λ a b. ChangeFollows S.Store a b };
 
-    fn get(&mut self, alloc: Global, key: &Key) -> Result<Option<Object>, SFault> {
+    fn get(&mut self, alloc: Global, key: &Key) -> Result<Option<Object>, StoreFault> {
         let found = self.find_stored(kind_number(key.kind), key.text.as_bytes())?;
         object_in(alloc, found)
     }
 
-    fn put(&mut self, alloc: Global, key: &Key, object: &Object) -> Result<(), SFault> {
+    fn put(&mut self, alloc: Global, key: &Key, object: &Object) -> Result<(), StoreFault> {
         let record = record_bytes(alloc, object)?;
         self.put_stored(
             kind_number(key.kind),
@@ -48,13 +48,13 @@ impl<'a, S: Alter> Registry for Change<'a, S> {
         Ok(())
     }
 
-    fn remove(&mut self, key: &Key) -> Result<(), SFault> {
+    fn remove(&mut self, key: &Key) -> Result<(), StoreFault> {
         self.remove_stored(kind_number(key.kind), key.text.as_bytes())?;
         self.count = self.count.saturating_add(1);
         Ok(())
     }
 
-    fn clear(&mut self) -> Result<(), SFault> {
+    fn clear(&mut self) -> Result<(), StoreFault> {
         self.clear_records()?;
         self.clear_notes()
     }
@@ -65,7 +65,7 @@ impl<'a, S: Alter> Registry for Change<'a, S> {
         step: u32,
         key: &Key,
         before: Option<&Object>,
-    ) -> Result<(), SFault> {
+    ) -> Result<(), StoreFault> {
         let (kind, text) = (kind_number(key.kind), key.text.as_bytes());
         match before {
             Some(object) => {
@@ -82,7 +82,7 @@ impl<'a, S: Alter> Registry for Change<'a, S> {
         step: u32,
         targets: Keys,
         objects: &BTreeMap<Key, Object>,
-    ) -> Result<(), SFault> {
+    ) -> Result<(), StoreFault> {
         self.fill_records(alloc, step, targets, objects)?;
         self.count = self.count.saturating_add(objects.len() as u64);
         Ok(())
@@ -92,7 +92,7 @@ impl<'a, S: Alter> Registry for Change<'a, S> {
         &mut self,
         alloc: Global,
         step: u32,
-    ) -> Result<Vec<(Key, Option<Object>)>, SFault> {
+    ) -> Result<Vec<(Key, Option<Object>)>, StoreFault> {
         no_record_begins_another();
         let found = self.find_notes(alloc, step)?;
         let noted = images_of(alloc, found.as_slice())?;

@@ -6,7 +6,7 @@ ghost use Rattle.std.specs.Borrow.{sem, RestsIfErr};
 ghost use Rattle.std.specs.Option.{unwrap_or};
 ghost use Rattle.sqlite.specs.Held.{state};
 ghost use Rattle.esc_sql.specs.Schema.{store_schema};
-ghost use Rattle.esc_store.specs.Faults.{IsS1OrS2};
+ghost use Rattle.esc_store.specs.Faults.{IsFailed, IsFailure};
 ghost use Rattle.esc_manifest.specs.declared.row.MRow.{MRow};
 ghost use Rattle.esc_store.specs.Opening.{IsAsItWas, IsFoundingFault, IsNoStore, IsNewStore};
 ghost use Rattle.esc_store.specs.Opening.{IsOpened};
@@ -20,9 +20,10 @@ ghost use Rattle.esc_store.specs.Representation.{LeavesNoMore, IsHonest, IsGiven
 ghost use Rattle.esc_store.specs.Representation.{Settles, StoreLeavesNoMore, connection_of};
 ghost use Rattle.esc_store.specs.Representation.{listed_rows_of, store_writes, store_name};
 
+use crate::cause::Cause;
 use crate::change::Change;
 use crate::codec::manifest::both_forms;
-use crate::fault::SFault;
+use crate::fault::StoreFault;
 use crate::founding::{found_here, give_up_in};
 use crate::opening::find_manifest;
 use crate::remembered::{NOTHING, Remembered};
@@ -59,7 +60,7 @@ impl<S: Alter> Store<S> {
         alloc: Global,
         connection: Connection<S>,
         manifest: &Manifest,
-    ) -> Result<Store<S>, (SFault, Connection<S>)>
+    ) -> Result<Store<S>, (StoreFault, Connection<S>)>
         ensures created { IfOk result (IsNewStore S.Store (fresh manifest.now)) }
         ensures blank { OnOk result (IsBlank (state S.Store connection).now) }
         ensures unchanged { IfErr result
@@ -70,7 +71,7 @@ impl<S: Alter> Store<S> {
             (λ e. LeavesOr S.Store connection e.1 (fresh manifest.now)) }
     {
         if !is_unused(&connection) {
-            return Err((SFault::S3, connection));
+            return Err((StoreFault::NotAStore, connection));
         }
         let (own, rows) = match both_forms(alloc, manifest) {
             Ok(forms) => forms,
@@ -99,7 +100,7 @@ impl<S: Alter> Store<S> {
     pub fn open(
         alloc: Global,
         connection: Connection<S>,
-    ) -> Result<Store<S>, (SFault, Connection<S>)>
+    ) -> Result<Store<S>, (StoreFault, Connection<S>)>
         ensures opened { IfOk result
             (IsOpened S.Store (HoldsKept S.Store connection) IsStore IsOfVersion connection) }
         ensures refused { IfErr result (λ e. IsNoStore store_schema IsStore
@@ -150,7 +151,7 @@ impl<S: Alter> Store<S> {
     }
 
     /// Begins a change. At `Err` (`S1`, `S2`) the store stands for what it stood for.
-    pub fn begin(&mut self) -> Result<Change<'_, S>, SFault>
+    pub fn begin(&mut self) -> Result<Change<'_, S>, StoreFault>
         ensures* refused { sem 𝓛
             (RestsIfErr (the_row S.row S.Store) self.entry
             store_name result (λ last. (listed_rows_of last ≡ listed_rows_of self.old)
@@ -159,7 +160,7 @@ impl<S: Alter> Store<S> {
         ensures same_reference { IfOk result (λ change. store_name change
             ≡ self.entry.ghost_name) }
         ensures begun { IfOk result (IsNewChange S.Store self.old) }
-        ensures cause { IfErr result IsS1OrS2 }
+        ensures cause { IfErr result IsFailure }
     {
         self.begin_here()?;
         Ok(Change {
@@ -170,7 +171,7 @@ impl<S: Alter> Store<S> {
     }
 
     // Begins the transaction of a change.
-    fn begin_here(&mut self) -> Result<(), SFault>
+    fn begin_here(&mut self) -> Result<(), StoreFault>
         ensures manifest { self.new.manifest ≡ self.old.manifest }
         ensures writes { self.new.writes ≡ self.old.writes }
         ensures survives { LeavesNoMore S.Store self.old.conn self.new.conn }
@@ -182,14 +183,14 @@ impl<S: Alter> Store<S> {
             → HasMadeBooksIn S.Store self.new None k k) }
         ensures holds { OnOk result ((k : StoreState) → Represents S.Store self.old k
             → HasMadeTablesIn S.Store self.new k.registry) }
-        ensures cause { IfErr result IsS1OrS2 }
+        ensures cause { IfErr result IsFailure }
     {
         let begun = begin_in(&mut self.conn);
         self.settle(begun)
     }
 
     // Commits the transaction of a change. What is remembered is of before it, and is forgotten.
-    pub(crate) fn commit_here(&mut self) -> Result<(), SFault>
+    pub(crate) fn commit_here(&mut self) -> Result<(), StoreFault>
         ensures manifest { self.new.manifest ≡ self.old.manifest }
         ensures writes { self.new.writes ≡ self.old.writes }
         ensures remembered { self.new.remembered ≡ nothing_read }
@@ -206,7 +207,7 @@ impl<S: Alter> Store<S> {
         ensures left { OnOk result ((listing : Option (List MRow)) (before k : StoreState)
             (s : State) → HasMadeBooksIn S.Store self.old listing before (with_registry k s)
             → HasMadeTablesIn S.Store self.old k.registry → LeavesOnly S.Store self.new k) }
-        ensures cause { IfErr result IsS1OrS2 }
+        ensures cause { IfErr result IsFailure }
     {
         self.remembered = NOTHING;
         let committed = commit_in(&mut self.conn);
@@ -233,32 +234,32 @@ impl<S: Alter> Store<S> {
     }
 
     // The outcome of a statement. Where it failed, a transaction that is on is rolled back.
-    pub(crate) fn settle<T>(&mut self, outcome: Result<T, Error>) -> Result<T, SFault>
+    pub(crate) fn settle<T>(&mut self, outcome: Result<T, Error>) -> Result<T, StoreFault>
         ensures manifest { self.new.manifest ≡ self.old.manifest }
         ensures writes { self.new.writes ≡ self.old.writes }
         ensures remembered { self.new.remembered ≡ self.old.remembered }
         ensures settled { Settles S.Store self.old self.new outcome result }
-        ensures cause { IfErr result IsS1OrS2 }
+        ensures cause { IfErr result IsFailure }
     {
         match outcome {
             Ok(x) => Ok(x),
             Err(error) => {
                 self.give_up();
-                Err(SFault::from(error))
+                Err(StoreFault::from(error))
             }
         }
     }
 
     // `S1` if no transaction is on: after a failure it was rolled back, and the change can't go on.
-    pub(crate) fn goes_on(&self) -> Result<(), SFault>
+    pub(crate) fn goes_on(&self) -> Result<(), StoreFault>
         ensures on { OnOk result (self.now.conn.in_transaction ≡ true) }
         ensures off { OnErr result ((self.now.conn.in_transaction ≡ false)
             × (IsTrue (state S.Store self.now.conn).is_open
             → (state S.Store self.now.conn).now ≡ (state S.Store self.now.conn).committed)) }
-        ensures cause { IfErr result (λ fault. fault ≡ SFault.S1) }
+        ensures cause { IfErr result IsFailed }
     {
         if self.conn.is_autocommit() {
-            Err(SFault::S1)
+            Err(StoreFault::Failed(Cause::ChangeEnded))
         } else {
             Ok(())
         }

@@ -4,6 +4,8 @@ use Rattle.std.specs.Prelude.{Result, Ok, Err, IfOk, OnOk}
 use Rattle.std.proofs.Math.Seq.{take-length}
 use Rattle.esc_bundle.specs.Bundle.{Named, view, views}
 use Rattle.esc_bundle.specs.declared.section.Section.{Section}
+use Rattle.esc_bundle.specs.declared.refusal.Refusal.{Refusal}
+use Rattle.esc_bundle.specs.declared.refusal.Refusal.TheVariants.{WrongFiles}
 use Rattle.esc_bundle.specs.Frame.{frame}
 use Rattle.esc_envelope.specs.EnvelopeValue.{EnvelopeValue}
 use Rattle.esc_envelope.specs.Envelope.{envelope_of}
@@ -14,11 +16,11 @@ use Rattle.esc_tables.specs.Reading.{tables_of, check_rows, deposit_of_files, de
 
 -- ---- the tests in order
 
-pub told_8 : (files : List Named) (e : EnvelopeValue) → are_filed files (tables_of e) ≡ false → deposit_in files e ≡ Err 8
+pub told_unfiled : (files : List Named) (e : EnvelopeValue) → are_filed files (tables_of e) ≡ false → deposit_in files e ≡ Err WrongFiles
 unfolding deposit_in
-told_8 files e wrong = rw wrong refl
+told_unfiled files e wrong = rw wrong refl
 
-pub told_rows : (files : List Named) (e : EnvelopeValue) (n : ℕ) → are_filed files (tables_of e) ≡ true → check_rows (rows_in files (tables_of e)) ≡ Err n → deposit_in files e ≡ Err n
+pub told_rows : (files : List Named) (e : EnvelopeValue) (n : Refusal) → are_filed files (tables_of e) ≡ true → check_rows (rows_in files (tables_of e)) ≡ Err n → deposit_in files e ≡ Err n
 unfolding deposit_in
 told_rows files e n filed wrong = rw (filed, wrong) refl
 
@@ -32,11 +34,11 @@ pub read_filed : {E : Type 0} (files : List Named) (e : EnvelopeValue) (r : Resu
 read_filed files e (Ok d) filed passed made = told_deposit files e filed passed ∙ ap (λ (x : DepositValue). Ok x) (sym made)
 read_filed files e (Err fault) filed passed made = tt
 
-pub no_frame : (body : List ℕ) (n : ℕ) → frame body ≡ Err n → reading body ≡ Err n
+pub no_frame : (body : List ℕ) (n : Refusal) → frame body ≡ Err n → reading body ≡ Err n
 unfolding reading
 no_frame body n wrong = rw wrong refl
 
-pub no_envelope : (body : List ℕ) (first : Named) (files : List Named) (n : ℕ) → frame body ≡ Ok (first ∷ files) → envelope_of first.bytes ≡ Err n → reading body ≡ Err n
+pub no_envelope : (body : List ℕ) (first : Named) (files : List Named) (n : Refusal) → frame body ≡ Ok (first ∷ files) → envelope_of first.bytes ≡ Err n → reading body ≡ Err n
 unfolding reading sections_deposit
 no_envelope body first files n framed wrong = rw (framed, wrong) refl
 

@@ -1,6 +1,7 @@
 -- The envelope of a body, and of the deposit that the body is.
 use Rattle.std.proofs.Common.{◌≡◌, ◌∙◌, ℕ, List, [], ◌∷◌, refl, sym, ap, Ok, Err}
 use Rattle.std.specs.Prelude.{Result, IfOk, IfErr, MatchResult}
+use Rattle.esc_bundle.specs.declared.refusal.Refusal.{Refusal}
 use Rattle.esc_bundle.specs.declared.fault.Fault.{Fault}
 use Rattle.esc_bundle.specs.declared.fault.Fault.TheVariants.{Refused, NoMemory}
 use Rattle.esc_bundle.specs.Bundle.{Named}
@@ -12,7 +13,7 @@ use Rattle.esc_tables.specs.DepositValue.{DepositValue}
 use Rattle.esc_tables.specs.Reading.{deposit_of_files, deposit_in, sections_deposit, reading, sections_envelope, bundled_envelope}
 use Rattle.esc_tables.proofs.ExactFacts.{parts_of, same_ok}
 
-pub unframed : (body : List ℕ) (n : ℕ) → frame body ≡ Err n → bundled_envelope body ≡ Err n
+pub unframed : (body : List ℕ) (n : Refusal) → frame body ≡ Err n → bundled_envelope body ≡ Err n
 unfolding bundled_envelope
 unframed body n wrong = rw wrong refl
 
@@ -44,7 +45,7 @@ same_heads : (e f : EnvelopeValue) (d : DepositValue) → e ≡ f → Heads f d 
 same_heads e f d same heads = (ap (λ (x : EnvelopeValue). x.header) same ∙ heads.0, ap (λ (x : EnvelopeValue). x.counts) same ∙ heads.1)
 
 -- what returns the envelope of a body returns that of its deposit, if it is one
-pub heads_deposit : (body : List ℕ) (r : Result EnvelopeValue Fault) → IfOk r (λ e. bundled_envelope body ≡ Ok e) → IfErr r (λ e. (n : ℕ) → e ≡ Refused n → bundled_envelope body ≡ Err n)
+pub heads_deposit : (body : List ℕ) (r : Result EnvelopeValue Fault) → IfOk r (λ e. bundled_envelope body ≡ Ok e) → IfErr r (λ e. (n : Refusal) → e ≡ Refused n → bundled_envelope body ≡ Err n)
     → (d : DepositValue) → reading body ≡ Ok d → MatchResult r (λ e. (e.header ≡ d.header) × (e.counts ≡ d.counts)) (λ e. e ≡ NoMemory)
 heads_deposit body (Ok e) told refused d read =
     let found = envelope_heads body d read in

@@ -9,6 +9,7 @@ use Rattle.std.proofs.lemmas.List.Folds.{list_all-append}
 use Rattle.std.proofs.Math.Bool.{and_assoc}
 use Rattle.csv.specs.Machine.{next_record}
 use Rattle.csv.specs.Reading.{strip_bom, records_from}
+use Rattle.esc_bundle.specs.declared.refusal.Refusal.TheVariants.{BrokenRow, WrongKey, TooManyRows}
 use Rattle.esc_bundle.specs.Bundle.{Named}
 use Rattle.esc_bundle.specs.Tests.{◌>>=◌, check}
 use Rattle.esc_csv.specs.Records.{records_of}
@@ -59,9 +60,9 @@ pub seen_is : (rows : List TableRow) → SeenOf rows (fold surveyed unseen rows)
 seen_is rows = (keys_seen unseen rows, rows_seen unseen rows (omega arith) ∙ omega arith)
 
 -- the fault that applies
-pub told_9 : (rows : List TableRow) → list_all is_whole rows ≡ false → check_rows rows ≡ Err 9
+pub told_broken : (rows : List TableRow) → list_all is_whole rows ≡ false → check_rows rows ≡ Err BrokenRow
 unfolding check_rows
-told_9 rows broken = rw broken refl
+told_broken rows broken = rw broken refl
 
 test_seen : (len n : ℕ) → n ≡ min len 100_001 → nat_le len 100_000 ≡ nat_le n 100_000
 test_seen len n is = elim (cases_Bool (nat_le len 100_000)) [
@@ -73,7 +74,7 @@ pub judged : (rows : List TableRow) (s : Survey) → list_all is_whole rows ≡ 
 unfolding check_rows
 judged rows s whole seen = rw (whole, ← seen.0, test_seen (length rows) s.rows seen.1) refl
 
-both_pass : (a b : Bool) → (check a 10 >>= λ _. check b 11) ≡ Ok tt → (a && b) ≡ true
+both_pass : (a b : Bool) → (check a WrongKey >>= λ _. check b TooManyRows) ≡ Ok tt → (a && b) ≡ true
 both_pass true true h = refl
 both_pass true false h = absurd cc
 both_pass false b h = absurd cc

@@ -9,6 +9,7 @@ use Rattle.std.proofs.lemmas.List.Sums.{fold-append}
 use Rattle.std.proofs.lemmas.Grind.{flat_map-append}
 use Rattle.std.proofs.Math.Bool.{and_assoc, and-false}
 use Rattle.esc_bundle.specs.Bundle.{Named}
+use Rattle.esc_bundle.specs.declared.refusal.Refusal.{Refusal}
 use Rattle.esc_bundle.specs.declared.fault.Fault.{Fault}
 use Rattle.esc_bundle.specs.declared.fault.Fault.TheVariants.{Refused}
 use Rattle.esc_envelope.specs.EnvelopeValue.{TableValue}
@@ -17,7 +18,7 @@ use Rattle.esc_tables.specs.TableRow.{TableRow, table_rows, rows_in, is_whole, h
 use Rattle.esc_tables.specs.Reading.{placed, by_name, is_before, check_rows}
 use Rattle.esc_tables.specs.Survey.{surveyed, unseen, verdict, AreSurveyed, IsFaultOf}
 use Rattle.esc_tables.proofs.SizeFacts.{same_length, joined_length}
-use Rattle.esc_tables.proofs.SurveyFacts.{all_in_each, and_true, SeenOf, seen_is, judged, told_9}
+use Rattle.esc_tables.proofs.SurveyFacts.{all_in_each, and_true, SeenOf, seen_is, judged, told_broken}
 
 -- ---- a test of tables in turn
 
@@ -140,7 +141,7 @@ refused_in_rest rows more fault told = λ n same.
     (one.0, rw (list_all-append is_whole rows more, one.1) (and-false (list_all is_whole rows)))
 
 pub refused_in_turn : (files : List Named) (contents deletes : List TableValue) (fault : Fault) → IsFaultOf (in_parts files contents deletes) fault
-    → (n : ℕ) → fault ≡ Refused n → check_rows (rows_in files (contents ++ deletes)) ≡ Err n
+    → (n : Refusal) → fault ≡ Refused n → check_rows (rows_in files (contents ++ deletes)) ≡ Err n
 refused_in_turn files contents deletes fault told n same =
     let one = told n same in
-    rw one.0 (same_faults files contents deletes ∙ told_9 (in_parts files contents deletes) one.1)
+    rw one.0 (same_faults files contents deletes ∙ told_broken (in_parts files contents deletes) one.1)

@@ -4,7 +4,11 @@ use Rattle.std.specs.Prelude.{◌≡◌, ◌⊎◌, ◌≤◌, ◌<◌, ℕ, Lis
 use Rattle.std.specs.Prelude.{T}
 use Rattle.std.specs.List.{list_all}
 use Rattle.std.specs.FinMap.Entries.{find, is_sorted}
+use Rattle.esc_bundle.specs.declared.refusal.Refusal.{Refusal}
+use Rattle.esc_bundle.specs.declared.refusal.Refusal.TheVariants.{WrongFiles, BrokenRow, WrongKey}
+use Rattle.esc_bundle.specs.declared.refusal.Refusal.TheVariants.{TooManyRows}
 use Rattle.esc_bundle.specs.Bundle.{Named, IsBundle}
+use Rattle.esc_bundle.specs.Codes.{refusal_number}
 use Rattle.esc_bundle.specs.Reading.{IsFault}
 use Rattle.esc_envelope.specs.EnvelopeValue.{EnvelopeValue}
 use Rattle.esc_envelope.specs.Envelope.{envelope_of}
@@ -42,26 +46,26 @@ pub record IsDepositOf (body : List ℕ) (d : DepositValue) : Type 0 where
   pub few : length (all_rows files envelope) ≤ most_rows
   pub made : Makes files envelope d
 
--- the refusal of this number, one of the four of files and rows (U8 to U11), applies
-abbrev pub IsDepositFault : List Named → EnvelopeValue → ℕ → Type 0
-IsDepositFault files e n =
-    ((n ≡ 8) × (are_filed files (tables_of e) ≡ false))
-    ⊎ ((n ≡ 9) × (list_all is_whole (all_rows files e) ≡ false))
-    ⊎ ((n ≡ 10) × (list_all has_key (all_rows files e) ≡ false))
-    ⊎ ((n ≡ 11) × (most_rows < length (all_rows files e)))
+-- this refusal, one of the four of files and rows (U8 to U11), applies
+abbrev pub IsDepositFault : List Named → EnvelopeValue → Refusal → Type 0
+IsDepositFault files e why =
+    ((why ≡ WrongFiles) × (are_filed files (tables_of e) ≡ false))
+    ⊎ ((why ≡ BrokenRow) × (list_all is_whole (all_rows files e) ≡ false))
+    ⊎ ((why ≡ WrongKey) × (list_all has_key (all_rows files e) ≡ false))
+    ⊎ ((why ≡ TooManyRows) × (most_rows < length (all_rows files e)))
 
--- it applies, and no lesser one does
-abbrev pub IsLeastDepositFault : List Named → EnvelopeValue → ℕ → Type 0
-IsLeastDepositFault files e n = IsDepositFault files e n × ((m : ℕ) → IsDepositFault files e m
-    → n ≤ m)
+-- it applies, and none with a lesser number does
+abbrev pub IsLeastDepositFault : List Named → EnvelopeValue → Refusal → Type 0
+IsLeastDepositFault files e why = IsDepositFault files e why × ((other : Refusal)
+    → IsDepositFault files e other → refusal_number why ≤ refusal_number other)
 
 -- the envelope of this bundle is refused, or it is an envelope and its files are refused
-abbrev pub IsRefusedAt : Named → List Named → ℕ → Type 0
-IsRefusedAt first files n = (envelope_of first.bytes ≡ Err n)
-    ⊎ ((e : EnvelopeValue) × (envelope_of first.bytes ≡ Ok e) × IsLeastDepositFault files e n)
+abbrev pub IsRefusedAt : Named → List Named → Refusal → Type 0
+IsRefusedAt first files why = (envelope_of first.bytes ≡ Err why)
+    ⊎ ((e : EnvelopeValue) × (envelope_of first.bytes ≡ Ok e) × IsLeastDepositFault files e why)
 
--- the body is refused with this number: its frame is refused, or its envelope, or its files are
-abbrev pub IsRefused : List ℕ → ℕ → Type 0
-IsRefused body n = IsFault body n
+-- the body is refused with this refusal: its frame is refused, or its envelope, or its files are
+abbrev pub IsRefused : List ℕ → Refusal → Type 0
+IsRefused body why = IsFault body why
     ⊎ ((first : Named) × (files : List Named) × IsBundle body (first ∷ files)
-    × IsRefusedAt first files n)
+    × IsRefusedAt first files why)

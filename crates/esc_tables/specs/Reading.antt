@@ -4,6 +4,9 @@ use Rattle.std.specs.Prelude.{if◌then◌else◌, Result, Ok, Err}
 use Rattle.std.specs.List.{list_all, fold}
 use Rattle.std.specs.Cmp.Lexicographic.{slice_cmp}
 use Rattle.std.specs.Ordering.{nat_cmp, is_lt}
+use Rattle.esc_bundle.specs.declared.refusal.Refusal.{Refusal}
+use Rattle.esc_bundle.specs.declared.refusal.Refusal.TheVariants.{NotJson, WrongFiles, BrokenRow}
+use Rattle.esc_bundle.specs.declared.refusal.Refusal.TheVariants.{WrongKey, TooManyRows}
 use Rattle.esc_bundle.specs.Bundle.{Named}
 use Rattle.esc_bundle.specs.Frame.{frame}
 use Rattle.esc_bundle.specs.Tests.{◌>>=◌, check}
@@ -55,39 +58,39 @@ deposit_of_files files e = record {
   orphans = orphans_of (parent_rows files e) (child_rows files e);
 }
 
--- fault 9: a row has another number of fields, or a field that is no UTF-8. Fault 10: a key is
--- empty or too long. Fault 11: there are too many rows
-unfoldable pub check_rows : List TableRow → Result (Unit {0}) ℕ
+-- U9: a row has another number of fields, or a field that is no UTF-8. U10: a key is empty or too
+-- long. U11: there are too many rows
+unfoldable pub check_rows : List TableRow → Result (Unit {0}) Refusal
 check_rows rows = do
-  whole ← check (list_all is_whole rows) 9
-  named ← check (list_all has_key rows) 10
-  check (nat_le (length rows) most_rows) 11
+  whole ← check (list_all is_whole rows) BrokenRow
+  named ← check (list_all has_key rows) WrongKey
+  check (nat_le (length rows) most_rows) TooManyRows
 
--- fault 8: a declared file is no section after the envelope, or a section after the envelope isn't
+-- U8: a declared file is no section after the envelope, or a section after the envelope isn't
 -- declared exactly once
-unfoldable pub deposit_in : List Named → EnvelopeValue → Result DepositValue ℕ
+unfoldable pub deposit_in : List Named → EnvelopeValue → Result DepositValue Refusal
 deposit_in files e = do
-  filed ← check (are_filed files (tables_of e)) 8
+  filed ← check (are_filed files (tables_of e)) WrongFiles
   right ← check_rows (rows_in files (tables_of e))
   Ok (deposit_of_files files e)
 
 -- the deposit that sections make, the first of which is the envelope. A bundle has at least one
 -- section, so the case without any does not occur
-unfoldable pub sections_deposit : List Named → Result DepositValue ℕ
-sections_deposit [] = Err 5
+unfoldable pub sections_deposit : List Named → Result DepositValue Refusal
+sections_deposit [] = Err NotJson
 sections_deposit (first ∷ files) = envelope_of first.bytes >>= deposit_in files
 
--- the deposit that a body is, or the number of the refusal
-unfoldable pub reading : List ℕ → Result DepositValue ℕ
+-- the deposit that a body is, or the refusal
+unfoldable pub reading : List ℕ → Result DepositValue Refusal
 reading body = frame body >>= sections_deposit
 
 -- the envelope of sections, which is the first of them. A bundle has at least one section, so the
 -- case without any does not occur
-unfoldable pub sections_envelope : List Named → Result EnvelopeValue ℕ
-sections_envelope [] = Err 5
+unfoldable pub sections_envelope : List Named → Result EnvelopeValue Refusal
+sections_envelope [] = Err NotJson
 sections_envelope (first ∷ files) = envelope_of first.bytes
 
--- the envelope of a body, whatever its files have, or the number of the refusal: 1 to 4 of the
--- frame, 5 to 7 of the envelope
-unfoldable pub bundled_envelope : List ℕ → Result EnvelopeValue ℕ
+-- the envelope of a body, whatever its files have, or the refusal: U1 to U4 of the frame, U5 to U7
+-- of the envelope
+unfoldable pub bundled_envelope : List ℕ → Result EnvelopeValue Refusal
 bundled_envelope body = frame body >>= sections_envelope

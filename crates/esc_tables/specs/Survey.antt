@@ -2,6 +2,8 @@
 use Rattle.std.specs.Prelude.{◌≡◌, ℕ, Bool, ◌+◌, true, false, ◌&&◌, nat_le, if◌then◌else◌, Result}
 use Rattle.std.specs.Prelude.{List, ◌++◌, map}
 use Rattle.std.specs.List.{list_all, fold}
+use Rattle.esc_bundle.specs.declared.refusal.Refusal.{Refusal}
+use Rattle.esc_bundle.specs.declared.refusal.Refusal.TheVariants.{BrokenRow, WrongKey, TooManyRows}
 use Rattle.esc_bundle.specs.declared.fault.Fault.{Fault}
 use Rattle.esc_bundle.specs.declared.fault.Fault.TheVariants.{Refused}
 use Rattle.esc_bundle.specs.Tests.{◌>>=◌, check}
@@ -25,10 +27,10 @@ abbrev pub is_right : Survey → Bool
 is_right s = s.has_keys && nat_le s.rows most_rows
 
 -- the least fault of the rows, where all of them are whole
-abbrev pub verdict : Survey → Result (Unit {0}) ℕ
+abbrev pub verdict : Survey → Result (Unit {0}) Refusal
 verdict s = do
-  named ← check s.has_keys 10
-  check (nat_le s.rows most_rows) 11
+  named ← check s.has_keys WrongKey
+  check (nat_le s.rows most_rows) TooManyRows
 
 -- these rows were read. They are whole, what was seen of them is noted, and as long as that is
 -- right, what is read of each is appended to a list; what was seen and the list are given as they
@@ -41,4 +43,5 @@ pub record AreSurveyed {X : Type 0} (of_row : TableRow → X) (rows : List Table
 
 -- a fault of these rows. If it is a refusal, it is U9, and one of them isn't whole
 abbrev pub IsFaultOf : List TableRow → Fault → Type 0
-IsFaultOf rows fault = (n : ℕ) → fault ≡ Refused n → (n ≡ 9) × (list_all is_whole rows ≡ false)
+IsFaultOf rows fault = (why : Refusal) → fault ≡ Refused why
+    → (why ≡ BrokenRow) × (list_all is_whole rows ≡ false)

@@ -5,37 +5,26 @@
 
 ghost use Rattle.std.specs.Prelude.{◌≡◌, ◌↔◌, ◌+◌, ◌≤◌, List, ℕ, All, length, Ok, Err};
 ghost use Rattle.std.specs.List.Sorted.{IsPermutation, IsSortedBy};
+ghost use Rattle.esc_bundle.specs.declared.refusal.Refusal.{Refusal};
 ghost use Rattle.esc_envelope.specs.EnvelopeValue.{TableValue};
 ghost use Rattle.esc_tables.specs.DepositValue.{DepositValue};
 ghost use Rattle.esc_tables.specs.DepositOf.{IsDepositOf, IsRefused};
-ghost use Rattle.esc_tables.specs.Reading.{reading, bundled_envelope, by_name, is_before};
+ghost use Rattle.esc_tables.specs.Reading.{reading, by_name, is_before};
 ghost use Rattle.esc_tables.specs.SmallObject.{IsSmallObject};
 
-use esc_bundle::{each_text_has_one_reading, frame_is_exact};
+use esc_bundle::frame_is_exact;
 use esc_csv::fields_are_no_longer_than_the_text;
-use esc_envelope::{declared_tables_have_their_forms, envelope_refusals_are_5_to_7};
+use esc_envelope::declared_tables_have_their_forms;
 
 /// The function `reading` of a body's bytes gives exactly what the relations say: the one deposit
 /// that the body is, or the least refusal that applies.
 pub fn reading_is_exact()
     ensures deposit { (body : List ℕ) (d : DepositValue)
         → (reading body ≡ Ok d) ↔ IsDepositOf body d }
-    ensures refusal { (body : List ℕ) (n : ℕ)
-        → (reading body ≡ Err n) ↔ IsRefused body n }
+    ensures refusal { (body : List ℕ) (why : Refusal)
+        → (reading body ≡ Err why) ↔ IsRefused body why }
 {
     frame_is_exact();
-}
-
-/// A body is refused with a number from U1 to U11, and its envelope with one from U1 to U7.
-pub fn refusals_are_1_to_11()
-    ensures deposit { (body : List ℕ) (n : ℕ) → reading body ≡ Err n
-        → (1 ≤ n) × (n ≤ 11) }
-    ensures envelope { (body : List ℕ) (n : ℕ) → bundled_envelope body ≡ Err n
-        → (1 ≤ n) × (n ≤ 7) }
-{
-    frame_is_exact();
-    each_text_has_one_reading();
-    envelope_refusals_are_5_to_7();
 }
 
 /// Each object of a deposit that is read is small: its names have at most 64 bytes, its rows at

@@ -40,17 +40,15 @@
 //!
 //! `read_deposit` returns exactly what the definition `reading` of `specs/Reading.antt` gives. The
 //! definition selects from lists of rows; the code builds a map. `read_bundled_envelope` returns
-//! exactly what `bundled_envelope` gives; of a deposit, its header and counts. Both contracts say
-//! the range of the refusals' numbers. A `Row` has as many texts as its heading has fields: no call
-//! makes another.
+//! exactly what `bundled_envelope` gives; of a deposit, its header and counts. A `Row` has as many
+//! texts as its heading has fields: no call makes another.
 //!
 //! The laws: `reading_is_exact` says that `reading` is what the relations of `specs/DepositOf.antt`
-//! say: which body is which deposit, and which refusal is the least. `refusals_are_1_to_11` says
-//! the range of the numbers. `read_deposits_are_small` says that a deposit has no more deletes and
-//! objects than a bundle may have rows, and `read_objects_are_small` how large each object can be.
-//! `tables_are_in_order` says that child tables are put in the order of their names.
-//! `specs/KeyLaws.antt` has the laws of keys: their order is total, and keys that compare equal are
-//! equal.
+//! say: which body is which deposit, and which refusal is the least. `read_deposits_are_small` says
+//! that a deposit has no more deletes and objects than a bundle may have rows, and
+//! `read_objects_are_small` how large each object can be. `tables_are_in_order` says that child
+//! tables are put in the order of their names. `specs/KeyLaws.antt` has the laws of keys: their
+//! order is total, and keys that compare equal are equal.
 //!
 //! # Cost
 //!
@@ -77,8 +75,7 @@ mod tables;
 pub use deposit::Deposit;
 pub use key::Key;
 pub use laws::{
-    read_deposits_are_small, read_objects_are_small, reading_is_exact, refusals_are_1_to_11,
-    tables_are_in_order,
+    read_deposits_are_small, read_objects_are_small, reading_is_exact, tables_are_in_order,
 };
 pub use object::{Object, Row};
 pub use reading::{read_bundled_envelope, read_deposit};

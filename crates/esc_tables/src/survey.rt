@@ -5,21 +5,12 @@ ghost use Rattle.esc_tables.specs.TableRow.{in_table, is_whole};
 ghost use Rattle.esc_tables.specs.Survey.{surveyed, unseen, is_right, verdict};
 
 use crate::row::{has_key, is_whole};
-use esc_bundle::Fault;
+use esc_bundle::{Fault, Refusal};
 use esc_csv::Record;
 use esc_envelope::Table;
 
 /// The most rows of a bundle.
 pub const MOST_ROWS: u32 = 100_000;
-
-/// U9: a row has another number of fields than its table declares, or a field that is no UTF-8.
-const BROKEN_ROW: Fault = Fault::Refused(9);
-
-/// U10: a key is empty or longer than 255 bytes.
-const WRONG_KEY: Fault = Fault::Refused(10);
-
-/// U11: there are too many rows.
-const TOO_MANY_ROWS: Fault = Fault::Refused(11);
 
 /// What was seen of the rows so far, all of them whole.
 #[derive(Clone, Copy)]
@@ -46,11 +37,11 @@ impl Survey {
     pub fn note(self, table: &Table, row: &Record) -> Result<Survey, Fault>
         ensures seen { IfOk result (λ s. s ≡ surveyed self (in_table table.now row.now)) }
         ensures whole { OnOk result (is_whole (in_table table.now row.now) ≡ true) }
-        ensures refused { IfErr result (λ e. (n : ℕ) → e ≡ Fault.Refused n
-            → (n ≡ 9) × (is_whole (in_table table.now row.now) ≡ false)) }
+        ensures refused { IfErr result (λ e. (why : Refusal) → e ≡ Fault.Refused why
+            → (why ≡ Refusal.BrokenRow) × (is_whole (in_table table.now row.now) ≡ false)) }
     {
         if !is_whole(table, row) {
-            return Err(BROKEN_ROW);
+            return Err(Fault::Refused(Refusal::BrokenRow));
         }
         Ok(Survey {
             has_keys: self.has_keys && has_key(table, row),
@@ -74,14 +65,14 @@ impl Survey {
     /// and U11 that applies.
     pub fn verdict(self) -> Result<(), Fault>
         ensures right { OnOk result (verdict self ≡ Ok tt) }
-        ensures refused { IfErr result (λ e. (n : ℕ) → e ≡ Fault.Refused n
-            → verdict self ≡ Err n) }
+        ensures refused { IfErr result (λ e. (why : Refusal) → e ≡ Fault.Refused why
+            → verdict self ≡ Err why) }
     {
         if !self.has_keys {
-            return Err(WRONG_KEY);
+            return Err(Fault::Refused(Refusal::WrongKey));
         }
         if self.rows > MOST_ROWS {
-            return Err(TOO_MANY_ROWS);
+            return Err(Fault::Refused(Refusal::TooManyRows));
         }
         Ok(())
     }

@@ -6,6 +6,7 @@
 
 ghost use Rattle.std.specs.Prelude.{◌≡◌, ◌++◌, ◌∷◌, [], ℕ, true, Ok, Err, IfOk, IfErr, OnOk, map};
 ghost use Rattle.std.specs.Prelude.{filter, not};
+ghost use Rattle.esc_bundle.specs.declared.refusal.Refusal.{Refusal};
 ghost use Rattle.esc_bundle.specs.Bundle.{views};
 ghost use Rattle.esc_tables.specs.TableRow.{table_rows, rows_in, in_table, key_of, keyed};
 ghost use Rattle.esc_tables.specs.Reading.{check_rows, by_name};
@@ -198,8 +199,8 @@ pub fn read_rows(
         (rows_in (views files.now) (by_name (filter (λ t. not t.parent) contents.now)))) }
     ensures deletes { IfOk result (λ r. r.deletes.items
         ≡ map key_of (rows_in (views files.now) deletes.now)) }
-    ensures refused { IfErr result (λ e. (n : ℕ) → e ≡ Fault.Refused n
-        → check_rows (rows_in (views files.now) (contents.now ++ deletes.now)) ≡ Err n) }
+    ensures refused { IfErr result (λ e. (why : Refusal) → e ≡ Fault.Refused why
+        → check_rows (rows_in (views files.now) (contents.now ++ deletes.now)) ≡ Err why) }
 {
     let mut parents = Vec::new(alloc);
     let mut children = Vec::new(alloc);

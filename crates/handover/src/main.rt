@@ -41,11 +41,13 @@
 //! By proof: that no call is unsafe and that each ends, whatever the words and files are.
 #![tactic(auto)]
 
+mod bodies;
 mod bundle;
 mod check;
 mod command_line;
 mod store_file;
 mod tables;
+mod walking;
 
 use command_line::run_words;
 use esc_cli::{given_words, print_invalid_utf8};

@@ -1,12 +1,12 @@
-//! The store in a file: how it is opened and left, and what is done with its desk in between.
+//! The store in a file: how it is opened and left, and what is made of it in between.
 
 use crate::bundle::tables_bundle;
 use crate::check::acceptance;
-use crate::tables::{Tabling, desk_tables};
-use esc_desk::Desk;
+use crate::tables::{Tabling, write_tables};
+use esc_desk::{Desk, Reads};
 use esc_handover::{Answer, Form, Progress, Stop, unopened_stop};
-use esc_recovery::{PathFault, close_desk, open_desk_at};
-use sqlite::{Alter, Unknown};
+use esc_recovery::{PathFault, StoreAt, close_desk, reader_at};
+use sqlite::{File, FileStore, Unknown};
 use std::alloc::Global;
 
 /// What is made of a store.
@@ -22,8 +22,9 @@ pub enum Task<'a> {
     Page { path: &'a str },
 }
 
-/// Does a task with the store in a file, and tells how far it is if that is asked for. What stops
-/// it is told rather than a close that fails after it.
+/// Does a task with the store in a file, and tells how far it is if that is asked for. The store is
+/// opened by its trees, and not closed: nothing was written. Files that aren't opened so are a
+/// desk's.
 pub fn use_store(
     rt: &HostRuntime,
     path: &str,
@@ -32,11 +33,22 @@ pub fn use_store(
 ) -> Result<Answer, Stop> {
     let mut progress = Progress::new(rt, is_watched);
     progress.tell_opening(path);
-    let desk = match open_desk_at(rt, path, Unknown) {
-        Ok(desk) => desk,
-        Err(fault) => return Err(stop_of(rt, path, fault)),
-    };
-    let (desk, made) = use_desk(rt.alloc(), desk, task, progress);
+    match reader_at(rt, path, Unknown) {
+        Ok(StoreAt::Reader(mut reader)) => perform(rt.alloc(), &mut reader, task, progress),
+        Ok(StoreAt::Desk(desk)) => use_desk(rt.alloc(), desk, task, progress),
+        Err(fault) => Err(stop_of(rt, path, fault)),
+    }
+}
+
+// Does a task with a desk, and closes it. What stops it is told rather than a close that fails
+// after it.
+fn use_desk(
+    alloc: Global,
+    mut desk: Desk<FileStore<File>>,
+    task: Task<'_>,
+    progress: Progress<'_>,
+) -> Result<Answer, Stop> {
+    let made = perform(alloc, &mut desk, task, progress);
     let closed = close_desk(desk);
     let made = made?;
     match closed {
@@ -45,29 +57,23 @@ pub fn use_store(
     }
 }
 
-// Does a task with a desk, which is given back. (Over any store: each use of a `FileStore` as one
-// costs the prover seconds.)
-fn use_desk<S: Alter>(
+// Does a task with a store. (Over any reader: each use of a `FileStore` as a store costs the prover
+// seconds.)
+fn perform<R: Reads>(
     alloc: Global,
-    mut desk: Desk<S>,
+    reader: &mut R,
     task: Task<'_>,
     progress: Progress<'_>,
-) -> (Desk<S>, Result<Answer, Stop>) {
+) -> Result<Answer, Stop> {
     match task {
-        Task::Bundle { id, path } => {
-            let made = tables_bundle(alloc, &mut desk, id, path);
-            (desk, made)
-        }
-        Task::Check => acceptance(alloc, desk, Form::Lines, progress),
-        Task::Page { .. } => acceptance(alloc, desk, Form::Page, progress),
-        Task::Tables(words) => {
-            let made = desk_tables(&mut desk, words, progress);
-            (desk, made)
-        }
+        Task::Bundle { id, path } => tables_bundle(alloc, reader, id, path),
+        Task::Check => acceptance(alloc, reader, Form::Lines, progress),
+        Task::Page { .. } => acceptance(alloc, reader, Form::Page, progress),
+        Task::Tables(words) => write_tables(reader, words, progress),
     }
 }
 
-// Why there is no desk: the store's fault, or the system's.
+// Why the store isn't opened: its fault, or the system's.
 fn stop_of(rt: &HostRuntime, path: &str, fault: PathFault) -> Stop {
     match fault {
         PathFault::Store(fault) => Stop::Store(fault),

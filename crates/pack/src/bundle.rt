@@ -3,14 +3,11 @@
 use crate::fields::unseen_fields;
 use crate::files::{check_folder, place_file, read_file, read_files, slices_of};
 use crate::stop::{Refusal, Stop};
-use esc_bundle::Fault;
+use esc_bundle::{Fault, Refusal as BodyRefusal};
 use esc_cli::path_in;
 use esc_envelope::read_envelope;
 use esc_pack::{BundleFault, Source, Sources, TableFiles, bundle_of_files, read_sources};
 use std::collections::BTreeSet;
-
-/// U7: a declaration has another form.
-const WRONG_TABLE: u8 = 7;
 
 /// The words of the command: the description, the folder of the files, and the bundle's path.
 #[derive(Clone, Copy)]
@@ -74,8 +71,8 @@ fn is_file_name(name: &str) -> bool {
 // is refused for as an envelope, or U7.
 fn undeclared(rt: &HostRuntime, description: &[u8], path: &str) -> Stop {
     match read_envelope(rt.alloc(), description) {
-        Ok(_) => Stop::at(rt, Refusal::Unread(WRONG_TABLE), path),
-        Err(Fault::Refused(code)) => Stop::at(rt, Refusal::Unread(code), path),
+        Ok(_) => Stop::at(rt, Refusal::Unread(BodyRefusal::WrongTable), path),
+        Err(Fault::Refused(refusal)) => Stop::at(rt, Refusal::Unread(refusal), path),
         Err(Fault::NoMemory) => Stop::NoMemory,
     }
 }
@@ -126,14 +123,16 @@ fn given_tables<'a>(
 // A fault, with the path that has it: a file's, the description's, or the bundle's.
 fn stop_of(rt: &HostRuntime, words: Bundling<'_>, sources: &[Source], fault: &BundleFault) -> Stop {
     let (refusal, table, file) = match *fault {
-        BundleFault::Refused { code: code @ 5..=7 } => {
-            return Stop::at(rt, Refusal::Unread(code), words.envelope);
+        BundleFault::Refused(refusal) => {
+            let path = if is_of_envelope(refusal) {
+                words.envelope
+            } else {
+                words.target
+            };
+            return Stop::at(rt, Refusal::Unread(refusal), path);
         }
         BundleFault::Unmatched => {
-            return Stop::at(rt, Refusal::Unread(WRONG_TABLE), words.envelope);
-        }
-        BundleFault::Refused { code } => {
-            return Stop::at(rt, Refusal::Unread(code), words.target);
+            return Stop::at(rt, Refusal::Unread(BodyRefusal::WrongTable), words.envelope);
         }
         BundleFault::Heading { table, file } => (Refusal::Heading, table, file),
         BundleFault::Row { table, file, row } => (Refusal::Row(row), table, file),
@@ -144,6 +143,14 @@ fn stop_of(rt: &HostRuntime, words: Bundling<'_>, sources: &[Source], fault: &Bu
         Ok(path) => Stop::At { refusal, path },
         Err(_) => Stop::NoMemory,
     }
+}
+
+// Whether a refusal is one of a description: U5 to U7.
+fn is_of_envelope(refusal: BodyRefusal) -> bool {
+    matches!(
+        refusal,
+        BodyRefusal::NotJson | BodyRefusal::WrongMember | BodyRefusal::WrongTable
+    )
 }
 
 // The name of a file of a table.

@@ -4,6 +4,7 @@ use crate::bundle::{Bundling, write_bundle};
 use crate::check::{Checking, check_files};
 use crate::describe::describe;
 use crate::manifest::manifest_at;
+use crate::series::{Series, write_series};
 use crate::stop::{REFUSED, Stop, print, tell_stop};
 use clap::builder::ValueParser;
 use clap::{ArgMatches, Error};
@@ -17,6 +18,8 @@ enum Task<'m, 'a> {
     Manifest { paths: &'m [&'a str] },
     /// Write the bundle of a folder's files.
     Bundle(Bundling<'a>),
+    /// Write the bundles of a series' parts.
+    Series(Series<'a>),
     /// Print the description that is proposed of a folder's files.
     Describe { folder: &'a str },
     /// Print what would be found of a folder's files.
@@ -73,6 +76,17 @@ domainNs fHostName for hostName. A field of another name that is like one of the
 standard error: the desk doesn't look at it.
 ";
 
+const PARTS: &str = "\
+A deposit that is larger than one bundle is a series: unpack_rde writes a folder part-001, part-002 and
+so on for each of its bundles, each with its envelope.json. The first has the deposit's type, each
+other one is a Differential on the one before, and the last one has the deposit's id. The bundle of
+DIR/part-001 is written to OUT-001. If a part is refused, no bundle is left:
+
+    unpack_rde full.xml F1
+    pack series F1 bundles/F1
+    pack manifest bundles/* > manifest.csv
+";
+
 const PROPOSAL: &str = "\
 A file is known by the stem that its name begins with, with a dash or a dot after it that delete
 doesn't follow, as in domain.csv and domain-20240303.csv (domain-deletes.csv is unknown): domain,
@@ -109,7 +123,7 @@ A-Z a-z 0-9 . _ -) and E2 NAME (over 16,777,216 bytes). M10 row 2 is a FILE that
 status is 0 if each file is A1, even if there is no file for a row.
 ";
 
-/// The folder of three of the commands.
+/// The folder of four of the commands.
 const FOLDER: Argument = Argument {
     id: "folder",
     form: ArgumentForm::Word,
@@ -156,6 +170,21 @@ static PROGRAM: Program = Program {
                     value_name: "OUT",
                     values: ValueParser::String,
                     help: "Where the bundle is written; nothing may be there",
+                },
+            ],
+        },
+        Subcommand {
+            name: "series",
+            about: "Writes the bundles of a deposit in parts, one for each folder part-001, part-002 and so on",
+            details: Some(PARTS),
+            arguments: &[
+                FOLDER,
+                Argument {
+                    id: "target",
+                    form: ArgumentForm::Word,
+                    value_name: "OUT",
+                    values: ValueParser::String,
+                    help: "What the paths of the bundles begin with: OUT-001, OUT-002 and so on",
                 },
             ],
         },
@@ -212,6 +241,10 @@ fn task_of<'m, 'a>(matches: &'m ArgMatches<'a>) -> Option<Task<'m, 'a>> {
             folder: given.get_str("folder")?,
             target: given.get_str("target")?,
         })),
+        "series" => Some(Task::Series(Series {
+            folder: given.get_str("folder")?,
+            target: given.get_str("target")?,
+        })),
         "describe" => Some(Task::Describe {
             folder: given.get_str("folder")?,
         }),
@@ -228,6 +261,7 @@ fn run<O: Write, E: Write>(rt: &HostRuntime, task: Task<'_, '_>, out: &mut O, er
     let done = match task {
         Task::Manifest { paths } => print_manifest(rt, paths, out),
         Task::Bundle(words) => make_bundle(rt, words, err),
+        Task::Series(words) => make_series(rt, words, err),
         Task::Describe { folder } => print_description(rt, folder, out, err),
         Task::Check(words) => print_check(rt, words, out, err),
     };
@@ -240,6 +274,14 @@ fn run<O: Write, E: Write>(rt: &HostRuntime, task: Task<'_, '_>, out: &mut O, er
 // `bundle ..`: the bundle is written, and what the desk won't look at goes to standard error.
 fn make_bundle<E: Write>(rt: &HostRuntime, words: Bundling<'_>, err: &mut E) -> Result<u8, Stop> {
     let unseen = write_bundle(rt, words)?;
+    // A failure of standard error is ignored: there is nowhere to report it.
+    let _ = err.write_all(unseen.as_bytes());
+    Ok(DONE)
+}
+
+// `series ..`: the bundles are written, and what the desk won't look at goes to standard error.
+fn make_series<E: Write>(rt: &HostRuntime, words: Series<'_>, err: &mut E) -> Result<u8, Stop> {
+    let unseen = write_series(rt, words)?;
     // A failure of standard error is ignored: there is nowhere to report it.
     let _ = err.write_all(unseen.as_bytes());
     Ok(DONE)

@@ -3,7 +3,7 @@
 use crate::stop::{Refusal, Stop, or_stop};
 use esc_bundle::MOST_BYTES;
 use esc_cli::{Links, path_in, read_front, read_whole};
-use esc_manifest::{MFault, MOST_MANIFEST_BYTES, Manifest, read_manifest};
+use esc_manifest::{MOST_MANIFEST_BYTES, Manifest, ManifestFault, read_manifest};
 use std::fs::{self, File};
 use std::io::{Error, ErrorKind, Write};
 
@@ -53,12 +53,12 @@ pub fn read_manifest_at(rt: &HostRuntime, path: &str) -> Result<Manifest, Stop> 
     let text = or_stop(rt, path, front)?;
     match read_manifest(rt.alloc(), &text) {
         Ok(manifest) => Ok(manifest),
-        Err(MFault::Refused { code, row }) => Err(Stop::Unlisted {
-            code,
+        Err(ManifestFault::Refused { refusal, row }) => Err(Stop::Unlisted {
+            refusal,
             row,
             paths: None,
         }),
-        Err(MFault::NoMemory) => Err(Stop::NoMemory),
+        Err(ManifestFault::NoMemory) => Err(Stop::NoMemory),
     }
 }
 

@@ -26,18 +26,18 @@ pub fn file_line(
             let differences = differences(rt, manifest, *row, said)?;
             format!(in alloc; "A4, listed as {listed}: {differences}")?
         }
-        Forecast::Unreadable(row, code) => {
+        Forecast::Unreadable(row, refusal) => {
             let listed = listed_text(rt, manifest, *row)?;
             let spot = fault_spot(alloc, body)?;
-            format!(in alloc; "A3 U{code}, listed as {listed}: {spot}")?
+            format!(in alloc; "A3 {refusal}, listed as {listed}: {spot}")?
         }
         Forecast::Unlisted(Ok(said)) => {
             let said = header_text(rt, said)?;
             format!(in alloc; "A5, not listed, says {said}")?
         }
-        Forecast::Unlisted(Err(code)) => {
+        Forecast::Unlisted(Err(refusal)) => {
             let spot = fault_spot(alloc, body)?;
-            format!(in alloc; "A5, not listed, U{code}: {spot}")?
+            format!(in alloc; "A5, not listed, {refusal}: {spot}")?
         }
     };
     Ok(format!(in alloc; "{number}: {found}\n")?)

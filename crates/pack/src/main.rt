@@ -49,6 +49,7 @@ mod fields;
 mod files;
 mod forecast_lines;
 mod manifest;
+mod series;
 mod stop;
 
 use command_line::run_words;

@@ -4,7 +4,7 @@ use crate::files::read_file;
 use crate::stop::{Refusal, RowPaths, Stop};
 use esc_bundle::Fault;
 use esc_envelope::Header;
-use esc_manifest::MRow;
+use esc_manifest::{MRow, ManifestRefusal};
 use esc_pack::{Release, ReleaseFault};
 
 /// A bundle: its path, and what its deposit says of itself.
@@ -19,10 +19,10 @@ pub fn manifest_at(rt: &HostRuntime, paths: &[&str]) -> Result<Vec<u8>, Stop> {
     let release = read_release(rt, paths)?;
     match release.manifest(rt.alloc()) {
         Ok(text) => Ok(text),
-        Err(ReleaseFault::Unlisted { code, row }) => Err(Stop::Unlisted {
-            code,
+        Err(ReleaseFault::Unlisted { refusal, row }) => Err(Stop::Unlisted {
+            refusal,
             row,
-            paths: row_paths(rt, paths, release.rows(), code, row)?,
+            paths: row_paths(rt, paths, release.rows(), refusal, row)?,
         }),
         Err(ReleaseFault::NoMemory) => Err(Stop::NoMemory),
     }
@@ -34,20 +34,22 @@ fn read_release(rt: &HostRuntime, paths: &[&str]) -> Result<Release, Stop> {
         let body = read_file(rt, path)?;
         match release.read(rt.alloc(), body.as_slice()) {
             Ok(()) => {}
-            Err(Fault::Refused(code)) => return Err(Stop::at(rt, Refusal::Unread(code), path)),
+            Err(Fault::Refused(refusal)) => {
+                return Err(Stop::at(rt, Refusal::Unread(refusal), path));
+            }
             Err(Fault::NoMemory) => return Err(Stop::NoMemory),
         }
     }
     Ok(release)
 }
 
-// The paths of the bundles that a refusal of this number at this row is about: none at row 0, which
-// is the whole.
+// The paths of the bundles that this refusal at this row is about: none at row 0, which is the
+// whole.
 fn row_paths(
     rt: &HostRuntime,
     paths: &[&str],
     rows: &[MRow],
-    code: u8,
+    refusal: ManifestRefusal,
     row: u32,
 ) -> Result<Option<RowPaths>, Stop> {
     let Some(place) = row.checked_sub(1) else {
@@ -58,7 +60,7 @@ fn row_paths(
         return Ok(None);
     };
     let bundle = String::from_str(rt.alloc(), blamed.path)?;
-    let other = match other_path(&bundles, code, place as usize) {
+    let other = match other_path(&bundles, refusal, place as usize) {
         Some(path) => Some(String::from_str(rt.alloc(), path)?),
         None => None,
     };
@@ -87,23 +89,28 @@ fn in_order<'a>(
 }
 
 // The path of the first other bundle that the row at this place contradicts, if there is one.
-fn other_path<'a>(bundles: &[Bundle<'a>], code: u8, place: usize) -> Option<&'a str> {
+fn other_path<'a>(
+    bundles: &[Bundle<'a>],
+    refusal: ManifestRefusal,
+    place: usize,
+) -> Option<&'a str> {
     let blamed = bundles.get(place)?;
     for (at, other) in bundles.iter().enumerate() {
-        if at != place && is_against(code, blamed.header, other.header) {
+        if at != place && is_against(refusal, blamed.header, other.header) {
             return Some(other.path);
         }
     }
     None
 }
 
-// Whether two rows contradict each other by the refusal of this number, which the first one has.
-// Two that have one digest (M13) have one place, which is M10.
-fn is_against(code: u8, row: &Header, other: &Header) -> bool {
-    match code {
-        10 => row.place == other.place && row.resend == other.resend,
-        11 => row.id.as_str() == other.id.as_str() && row.place != other.place,
-        12 => {
+// Whether two rows contradict each other by this refusal, which the first one has. Two that have
+// one digest (M13) have one place, which is M10.
+fn is_against(refusal: ManifestRefusal, row: &Header, other: &Header) -> bool {
+    match refusal {
+        ManifestRefusal::RepeatedRevision => row.place == other.place && row.resend == other.resend,
+        ManifestRefusal::MovedId => row.id.as_str() == other.id.as_str()
+            && row.place != other.place,
+        ManifestRefusal::LatePrev => {
             row.prev.as_deref() == Some(other.id.as_str())
                 && row.place.watermark <= other.place.watermark
         }

@@ -1,7 +1,8 @@
 //! What the program stops for, its statuses, and its two streams.
 
-use esc_bundle::NoMemory;
+use esc_bundle::{NoMemory, Refusal as BodyRefusal};
 use esc_cli::OneLine;
+use esc_manifest::ManifestRefusal;
 use std::alloc::{AllocError, AllocFailed};
 use std::fmt;
 use std::io::{Error, ErrorKind, Write};
@@ -19,8 +20,8 @@ pub enum Refusal {
     Unreadable,
     /// It has over 16,777,216 bytes.
     TooLarge,
-    /// It is no deposit, by the refusal of this number.
-    Unread(u8),
+    /// It is no deposit, by this refusal.
+    Unread(BodyRefusal),
     /// It begins with a row that does not name the declared fields.
     Heading,
     /// This row has another number of fields than declared, or one that is no UTF-8.
@@ -48,10 +49,10 @@ pub enum Stop {
         refusal: Refusal,
         path: String,
     },
-    /// No manifest lists the deposits, by the refusal of this number at this row. Row 0 is the
-    /// whole, which has no paths.
+    /// No manifest lists the deposits, by this refusal at this row. Row 0 is the whole, which has
+    /// no paths.
     Unlisted {
-        code: u8,
+        refusal: ManifestRefusal,
         row: u32,
         paths: Option<RowPaths>,
     },
@@ -93,7 +94,11 @@ impl fmt::Display for Stop {
     fn fmt<W: fmt::Write>(&self, f: &mut fmt::Formatter<W>) -> fmt::Result {
         match self {
             Stop::At { refusal, path } => fmt_at(f, *refusal, OneLine(path.as_str())),
-            Stop::Unlisted { code, row, paths } => fmt_unlisted(f, *code, *row, paths),
+            Stop::Unlisted {
+                refusal,
+                row,
+                paths,
+            } => fmt_unlisted(f, *refusal, *row, paths),
             Stop::NoMemory => f.write_str("S2"),
         }
     }
@@ -101,20 +106,20 @@ impl fmt::Display for Stop {
 
 fn fmt_unlisted<W: fmt::Write>(
     f: &mut fmt::Formatter<W>,
-    code: u8,
+    refusal: ManifestRefusal,
     row: u32,
     paths: &Option<RowPaths>,
 ) -> fmt::Result {
     let Some(RowPaths { bundle, other }) = paths else {
-        return write!(f, "M{code} row {row}");
+        return write!(f, "{refusal} row {row}");
     };
     let path = OneLine(bundle.as_str());
     match other {
         Some(other) => {
             let other = OneLine(other.as_str());
-            write!(f, "M{code} {path} row {row} against {other}")
+            write!(f, "{refusal} {path} row {row} against {other}")
         }
-        None => write!(f, "M{code} {path} row {row}"),
+        None => write!(f, "{refusal} {path} row {row}"),
     }
 }
 
@@ -124,7 +129,7 @@ fn fmt_at<W: fmt::Write>(
     path: OneLine<'_>,
 ) -> fmt::Result {
     let name = match refusal {
-        Refusal::Unread(code) => return write!(f, "U{code} {path}"),
+        Refusal::Unread(refusal) => return write!(f, "{refusal} {path}"),
         Refusal::Row(row) => return write!(f, "U9 {path} row {row}"),
         Refusal::Unreadable => "E1",
         Refusal::TooLarge => "E2",

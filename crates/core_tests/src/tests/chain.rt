@@ -5,7 +5,7 @@ ghost use Rattle.esc_chain.specs.Chain.{InRange};
 use super::asserts::assert_told;
 use esc_bundle::NoMemory;
 use esc_chain::{GapLine, Held, gaps, latest_chain};
-use esc_manifest::{MFault, Manifest, read_manifest};
+use esc_manifest::{Manifest, ManifestFault, read_manifest};
 use std::alloc::Global;
 
 /// Two Fulls, Differentials, an Incremental, a Differential at a later resend, and one whose prevId
@@ -61,7 +61,7 @@ fn push_told(
     Ok(())
 }
 
-fn told(alloc: Global) -> Result<String, MFault> {
+fn told(alloc: Global) -> Result<String, ManifestFault> {
     let manifest = read_manifest(alloc, LISTED.as_bytes())?;
     let mut text = String::new(alloc);
     if let Some(held) = Held::from_rows(alloc, &manifest, &HELD)? {

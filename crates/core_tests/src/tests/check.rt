@@ -10,11 +10,11 @@ use std::alloc::Global;
 
 /// A line for each finding in what a body has.
 const FOUND: &str = "\
-Finding { code: 3, kind: Domain, key: \"g.example\", field: \"status\", value: \"gone\", other: \"\" }
-Finding { code: 4, kind: Domain, key: \"g.example\", field: \"status\", value: \"ok\", other: \"\" }
-Finding { code: 5, kind: Domain, key: \"g.example\", field: \"crDate\", value: \"2024-03-04T00:00:00Z\", other: \"2024-03-03T00:00:00Z\" }
-Finding { code: 6, kind: Domain, key: \"g.example\", field: \"exDate\", value: \"2024-03-02T00:00:00Z\", other: \"2024-03-04T00:00:00Z\" }
-Finding { code: 7, kind: Domain, key: \"h.example\", field: \"crDate\", value: \"2024-03-04\", other: \"\" }
+Finding { rule: KnownStatus, kind: Domain, key: \"g.example\", field: \"status\", value: \"gone\", other: \"\" }
+Finding { rule: OkAlone, kind: Domain, key: \"g.example\", field: \"status\", value: \"ok\", other: \"\" }
+Finding { rule: CreatedBefore, kind: Domain, key: \"g.example\", field: \"crDate\", value: \"2024-03-04T00:00:00Z\", other: \"2024-03-03T00:00:00Z\" }
+Finding { rule: ExpiresAfter, kind: Domain, key: \"g.example\", field: \"exDate\", value: \"2024-03-02T00:00:00Z\", other: \"2024-03-04T00:00:00Z\" }
+Finding { rule: DateForm, kind: Domain, key: \"h.example\", field: \"crDate\", value: \"2024-03-04\", other: \"\" }
 ";
 
 /// The export of the domains of a body.

@@ -1,28 +1,30 @@
-//! The findings, by their codes.
+//! The findings, by their rules.
 
 use crate::page::part::{Cell, MOST_SHOWN, counted_table, leaf, row, section};
-use esc_check::Finding;
+use esc_check::{Finding, Rule};
 use esc_html::{Html, Tag};
 use std::alloc::Global;
 
 const HEADINGS: [&str; 5] = ["Kind", "Key", "Field", "Value", "Besides"];
 
-/// The codes of findings, with what they mean.
-const CODES: [(u8, &str); 7] = [
-    (1, "V1: a link leads to no object"),
-    (2, "V2: a kind has another number of objects than declared"),
-    (3, "V3: a status is none of its kind's"),
-    (4, "V4: a domain is ok, and has another status"),
-    (5, "V5: created after the chain's end"),
-    (6, "V6: expires before it was created"),
-    (7, "V7: a date has another form, or is no date"),
-];
+// What a finding of a rule means.
+fn meaning(rule: Rule) -> &'static str {
+    match rule {
+        Rule::LinkTarget => "V1: a link leads to no object",
+        Rule::ObjectCount => "V2: a kind has another number of objects than declared",
+        Rule::KnownStatus => "V3: a status is none of its kind's",
+        Rule::OkAlone => "V4: a domain is ok, and has another status",
+        Rule::CreatedBefore => "V5: created after the chain's end",
+        Rule::ExpiresAfter => "V6: expires before it was created",
+        Rule::DateForm => "V7: a date has another form, or is no date",
+    }
+}
 
 /// The section of the findings.
 pub(crate) fn findings_section(alloc: Global, findings: &[Finding]) -> Html {
     let mut inside = Html::new(alloc);
-    for (code, words) in CODES {
-        inside = inside.add(findings_of(alloc, findings, code, words));
+    for rule in Rule::ALL {
+        inside = inside.add(findings_of(alloc, findings, rule));
     }
     if findings.is_empty() {
         inside = leaf(
@@ -34,12 +36,12 @@ pub(crate) fn findings_section(alloc: Global, findings: &[Finding]) -> Html {
     section(alloc, "findings", "Findings", inside)
 }
 
-// The heading of a code, and the first of its findings; nothing where there are none.
-fn findings_of(alloc: Global, findings: &[Finding], code: u8, words: &str) -> Html {
+// The heading of a rule, and the first of its findings; nothing where there are none.
+fn findings_of(alloc: Global, findings: &[Finding], rule: Rule) -> Html {
     let mut rows = Html::new(alloc);
     let mut count: u64 = 0;
     for finding in findings {
-        if finding.code != code {
+        if finding.rule != rule {
             continue;
         }
         if count < MOST_SHOWN {
@@ -47,7 +49,7 @@ fn findings_of(alloc: Global, findings: &[Finding], code: u8, words: &str) -> Ht
         }
         count = count.saturating_add(1);
     }
-    counted_table(alloc, words, count, &HEADINGS, rows)
+    counted_table(alloc, meaning(rule), count, &HEADINGS, rows)
 }
 
 fn finding_row(alloc: Global, finding: &Finding) -> Html {

@@ -5,15 +5,18 @@ ghost use Rattle.esc_envelope.specs.declared.place.DepositType.{DepositType as d
 ghost use Rattle.esc_envelope.specs.Place.{rank};
 ghost use Rattle.esc_manifest.specs.declared.row.MRow.{MRow as manifest_row};
 ghost use Rattle.esc_sql.specs.Entries.{listed_row};
-ghost use Rattle.esc_store.specs.Faults.{IsS1OrS2};
+ghost use Rattle.esc_store.specs.Faults.{IsFailed, IsFailure};
 ghost use Rattle.esc_store.specs.TypedRows.{indexed_row, listed_from};
 
+use crate::cause::{Cause, Table};
 use crate::codec::small;
-use crate::fault::{DAMAGED, SFault};
+use crate::fault::StoreFault;
 use esc_envelope::{DepositType, Header, Place};
 use esc_manifest::{MRow, Manifest, from_rows};
 use esc_sql::listed::Listed;
 use std::alloc::Global;
+
+const FOREIGN: StoreFault = StoreFault::Failed(Cause::ForeignRow(Table::Listed));
 
 // The number of a type in the tables.
 fn type_number(kind: DepositType) -> u32
@@ -27,23 +30,23 @@ fn type_number(kind: DepositType) -> u32
 }
 
 // The type with this number in the tables. `S1` if there is none.
-fn type_of(number: u32) -> Result<DepositType, SFault>
+fn type_of(number: u32) -> Result<DepositType, StoreFault>
     ensures kind { IfOk result (λ k. (t : deposit_type) → number ≡ rank t → k ≡ t) }
-    ensures cause { IfErr result (λ fault. fault ≡ SFault.S1) }
+    ensures cause { IfErr result IsFailed }
 {
     match number {
         0 => Ok(DepositType::Diff),
         1 => Ok(DepositType::Incr),
         2 => Ok(DepositType::Full),
-        _ => Err(DAMAGED),
+        _ => Err(FOREIGN),
     }
 }
 
 // A copy of a text, if there is one.
-fn copy_of(alloc: Global, text: &Option<String>) -> Result<Option<String>, SFault>
+fn copy_of(alloc: Global, text: &Option<String>) -> Result<Option<String>, StoreFault>
     ensures text { IfOk result (λ t. option_map string_bytes t
         ≡ option_map string_bytes text.now) }
-    ensures cause { IfErr result (λ fault. fault ≡ SFault.S2) }
+    ensures cause { IfErr result (λ fault. fault ≡ StoreFault.NoMemory) }
 {
     match text {
         Some(text) => Ok(Some(String::from_str(alloc, text.as_str())?)),
@@ -52,9 +55,9 @@ fn copy_of(alloc: Global, text: &Option<String>) -> Result<Option<String>, SFaul
 }
 
 // A row of a manifest as its table keeps it.
-fn stored_listed(alloc: Global, number: usize, row: &MRow) -> Result<Listed, SFault>
+fn stored_listed(alloc: Global, number: usize, row: &MRow) -> Result<Listed, StoreFault>
     ensures row { IfOk result (λ l. listed_row l ≡ indexed_row number row.now) }
-    ensures cause { IfErr result IsS1OrS2 }
+    ensures cause { IfErr result IsFailure }
 {
     let header = &row.header;
     Ok(Listed {
@@ -69,9 +72,9 @@ fn stored_listed(alloc: Global, number: usize, row: &MRow) -> Result<Listed, SFa
 }
 
 // The rows of a manifest as their table keeps them.
-pub(crate) fn stored_manifest(alloc: Global, rows: &[MRow]) -> Result<Vec<Listed>, SFault>
+pub(crate) fn stored_manifest(alloc: Global, rows: &[MRow]) -> Result<Vec<Listed>, StoreFault>
     ensures rows { IfOk result (λ stored. map listed_row stored.items ≡ listed_from 0 rows.now) }
-    ensures cause { IfErr result IsS1OrS2 }
+    ensures cause { IfErr result IsFailure }
 {
     let mut stored = Vec::new(alloc);
     for at in 0..rows.len() {
@@ -82,35 +85,35 @@ pub(crate) fn stored_manifest(alloc: Global, rows: &[MRow]) -> Result<Vec<Listed
 }
 
 // The manifest of these rows. `S1` if they aren't those of an accepted one.
-fn accepted(alloc: Global, rows: Vec<MRow>) -> Result<Manifest, SFault>
+fn accepted(alloc: Global, rows: Vec<MRow>) -> Result<Manifest, StoreFault>
     ensures rows { IfOk result (λ manifest. manifest ≡ rows.items) }
-    ensures cause { IfErr result (λ fault. fault ≡ SFault.S1) }
+    ensures cause { IfErr result IsFailed }
 {
     match from_rows(alloc, rows) {
         Ok(manifest) => Ok(manifest),
-        Err(_) => Err(DAMAGED),
+        Err(_) => Err(FOREIGN),
     }
 }
 
 // The digest that these bytes are. `S1` if they don't have the length of a digest.
-pub(crate) fn digest_of(bytes: &[u8]) -> Result<[u8; 32], SFault>
+pub(crate) fn digest_of(bytes: &[u8]) -> Result<[u8; 32], StoreFault>
     ensures digest { IfOk result (λ digest. digest ≡ bytes.now) }
-    ensures cause { IfErr result (λ fault. fault ≡ SFault.S1) }
+    ensures cause { IfErr result IsFailed }
 {
     if bytes.len() != 32 {
-        return Err(DAMAGED);
+        return Err(FOREIGN);
     }
     match bytes.split_first_chunk::<32>() {
         Some((digest, _)) => Ok(*digest),
-        None => Err(DAMAGED),
+        None => Err(FOREIGN),
     }
 }
 
 // The manifest's row that a row of the table keeps.
-fn manifest_row(alloc: Global, stored: &Listed) -> Result<MRow, SFault>
+fn manifest_row(alloc: Global, stored: &Listed) -> Result<MRow, StoreFault>
     ensures row { IfOk result (λ row. (n : ℕ) (r : manifest_row)
         → listed_row stored.now ≡ indexed_row n r → row ≡ r) }
-    ensures cause { IfErr result IsS1OrS2 }
+    ensures cause { IfErr result IsFailure }
 {
     let kind = type_of(stored.kind)?;
     let digest = digest_of(stored.digest.as_slice())?;
@@ -131,10 +134,10 @@ fn manifest_row(alloc: Global, stored: &Listed) -> Result<MRow, SFault>
 }
 
 // The manifest's rows that all rows of the table keep.
-fn manifest_rows(alloc: Global, stored: &[Listed]) -> Result<Vec<MRow>, SFault>
+fn manifest_rows(alloc: Global, stored: &[Listed]) -> Result<Vec<MRow>, StoreFault>
     ensures rows { IfOk result (λ rows. (rs : List manifest_row)
         → map listed_row stored.now ≡ listed_from 0 rs → rows.items ≡ rs) }
-    ensures cause { IfErr result IsS1OrS2 }
+    ensures cause { IfErr result IsFailure }
 {
     let mut rows = Vec::new(alloc);
     for at in 0..stored.len() {
@@ -145,10 +148,10 @@ fn manifest_rows(alloc: Global, stored: &[Listed]) -> Result<Vec<MRow>, SFault>
 }
 
 // The manifest that the table keeps.
-pub(crate) fn kept_manifest(alloc: Global, stored: &[Listed]) -> Result<Manifest, SFault>
+pub(crate) fn kept_manifest(alloc: Global, stored: &[Listed]) -> Result<Manifest, StoreFault>
     ensures manifest { IfOk result (λ manifest. (rs : List manifest_row)
         → map listed_row stored.now ≡ listed_from 0 rs → manifest ≡ rs) }
-    ensures cause { IfErr result IsS1OrS2 }
+    ensures cause { IfErr result IsFailure }
 {
     let rows = manifest_rows(alloc, stored)?;
     accepted(alloc, rows)
@@ -158,11 +161,11 @@ pub(crate) fn kept_manifest(alloc: Global, stored: &[Listed]) -> Result<Manifest
 pub(crate) fn both_forms(
     alloc: Global,
     manifest: &Manifest,
-) -> Result<(Manifest, Vec<Listed>), SFault>
+) -> Result<(Manifest, Vec<Listed>), StoreFault>
     ensures own { IfOk result (λ forms. forms.0 ≡ manifest.now) }
     ensures rows { IfOk result (λ forms. map listed_row forms.1.items
         ≡ listed_from 0 manifest.now) }
-    ensures cause { IfErr result IsS1OrS2 }
+    ensures cause { IfErr result IsFailure }
 {
     let own = manifest.copy(alloc)?;
     let rows = stored_manifest(alloc, manifest.rows())?;

@@ -6,7 +6,7 @@ ghost use Rattle.std.specs.Option.{option_and_then};
 ghost use Rattle.esc_envelope.specs.Kinds.{kind_rank};
 ghost use Rattle.esc_record.specs.Record.{record_of};
 ghost use Rattle.esc_sql.specs.Entries.{stored_image, stored_entry};
-ghost use Rattle.esc_store.specs.Faults.{IsS1OrS2};
+ghost use Rattle.esc_store.specs.Faults.{IsFailure};
 ghost use Rattle.esc_store.specs.Decoded.{AreObjectsOf, AreImagesOf};
 ghost use Rattle.std.specs.List.{IsDistinct};
 ghost use Rattle.std.specs.List.Sorted.{IsStrictlySortedBy};
@@ -15,7 +15,8 @@ ghost use Rattle.std.specs.BTreeMap.{IsOrdered};
 ghost use Rattle.esc_tables.specs.KeyName.{KeyName, key_cmp, key_eq};
 ghost use Rattle.esc_store.specs.Pages.{entry_row, record_row};
 
-use crate::fault::{DAMAGED, SFault};
+use crate::cause::{Cause, Table};
+use crate::fault::StoreFault;
 use esc_envelope::Kind;
 use esc_record::{no_record_begins_another, read_record, to_record};
 use esc_sql::object::StoredObject;
@@ -23,6 +24,8 @@ use esc_sql::undo::StoredImage;
 use esc_tables::{Key, Object};
 use std::alloc::Global;
 use std::collections::BTreeMap;
+
+const FOREIGN: StoreFault = StoreFault::Failed(Cause::ForeignRow(Table::Object));
 
 // The number of a kind in the tables.
 pub(crate) fn kind_number(kind: Kind) -> u32
@@ -39,9 +42,9 @@ pub(crate) fn kind_number(kind: Kind) -> u32
 }
 
 // The kind with this number in the tables. `S1` if there is none.
-fn kind_of(number: u32) -> Result<Kind, SFault>
+fn kind_of(number: u32) -> Result<Kind, StoreFault>
     ensures kind { IfOk result (λ kind. number ≡ kind_rank kind) }
-    ensures cause { IfErr result IsS1OrS2 }
+    ensures cause { IfErr result IsFailure }
 {
     match number {
         0 => Ok(Kind::Registrar),
@@ -50,15 +53,15 @@ fn kind_of(number: u32) -> Result<Kind, SFault>
         3 => Ok(Kind::Domain),
         4 => Ok(Kind::Idn),
         5 => Ok(Kind::Nndn),
-        _ => Err(DAMAGED),
+        _ => Err(FOREIGN),
     }
 }
 
 // The key with this kind's number and these bytes as its text. `S1` if there is none; `S2`.
-pub(crate) fn key_of(alloc: Global, kind: u32, text: &[u8]) -> Result<Key, SFault>
+pub(crate) fn key_of(alloc: Global, kind: u32, text: &[u8]) -> Result<Key, StoreFault>
     ensures kind { IfOk result (λ key. kind ≡ kind_rank key.kind) }
     ensures text { IfOk result (λ key. text.now ≡ key.text) }
-    ensures cause { IfErr result IsS1OrS2 }
+    ensures cause { IfErr result IsFailure }
 {
     let kind = kind_of(kind)?;
     match str::from_utf8(text) {
@@ -66,37 +69,37 @@ pub(crate) fn key_of(alloc: Global, kind: u32, text: &[u8]) -> Result<Key, SFaul
             kind,
             text: String::from_str(alloc, text)?,
         }),
-        Err(_) => Err(DAMAGED),
+        Err(_) => Err(FOREIGN),
     }
 }
 
 // The record of an object. `S1` where it has none; `S2`.
-pub(crate) fn record_bytes(alloc: Global, object: &Object) -> Result<Vec<u8>, SFault>
+pub(crate) fn record_bytes(alloc: Global, object: &Object) -> Result<Vec<u8>, StoreFault>
     ensures record { IfOk result (λ bytes. record_of object.now ≡ Some bytes.items) }
-    ensures cause { IfErr result IsS1OrS2 }
+    ensures cause { IfErr result IsFailure }
 {
     match to_record(alloc, object)? {
         Some(record) => Ok(record),
-        None => Err(DAMAGED),
+        None => Err(FOREIGN),
     }
 }
 
 // The object of a record. `S1` where the bytes are no record; `S2`.
-pub(crate) fn record_object(alloc: Global, bytes: &[u8]) -> Result<Object, SFault>
+pub(crate) fn record_object(alloc: Global, bytes: &[u8]) -> Result<Object, StoreFault>
     ensures object { IfOk result (λ object. record_of object ≡ Some bytes.now) }
-    ensures cause { IfErr result IsS1OrS2 }
+    ensures cause { IfErr result IsFailure }
 {
     match read_record(alloc, bytes)? {
         Some(object) => Ok(object),
-        None => Err(DAMAGED),
+        None => Err(FOREIGN),
     }
 }
 
 // The object with this record, if there is a record. `S1` if the bytes are no record; `S2`.
-pub(crate) fn object_in(alloc: Global, found: Option<Vec<u8>>) -> Result<Option<Object>, SFault>
+pub(crate) fn object_in(alloc: Global, found: Option<Vec<u8>>) -> Result<Option<Object>, StoreFault>
     ensures object { IfOk result (λ object. (o : _) → option_map (λ b. b.items) found
         ≡ option_and_then record_of o → IfSome o (λ x. IsSome (record_of x)) → object ≡ o) }
-    ensures cause { IfErr result IsS1OrS2 }
+    ensures cause { IfErr result IsFailure }
 {
     no_record_begins_another();
     match found {
@@ -106,17 +109,17 @@ pub(crate) fn object_in(alloc: Global, found: Option<Vec<u8>>) -> Result<Option<
 }
 
 // Adds the value of a key. `S1` if the key has one already, since a key has at most one row; `S2`.
-fn add_new<X: Drop>(all: &mut BTreeMap<Key, X>, key: Key, value: X) -> Result<(), SFault>
+fn add_new<X: Drop>(all: &mut BTreeMap<Key, X>, key: Key, value: X) -> Result<(), StoreFault>
     ensures absent { OnOk result (lookup (key_eq key) all.old.entries ≡ None) }
     ensures added { OnOk result ((q : KeyName) → lookup (key_eq q) all.new.entries
         ≡ (if key_eq key q then Some value else lookup (key_eq q) all.old.entries)) }
     ensures ordered { IsOrdered key_cmp all.new }
-    ensures cause { IfErr result IsS1OrS2 }
+    ensures cause { IfErr result IsFailure }
 {
     match all.insert(key, value) {
         Ok(None) => Ok(()),
-        Ok(Some(_)) => Err(DAMAGED),
-        Err(_) => Err(SFault::S2),
+        Ok(Some(_)) => Err(FOREIGN),
+        Err(_) => Err(StoreFault::NoMemory),
     }
 }
 
@@ -125,11 +128,11 @@ fn add_object(
     alloc: Global,
     objects: &mut BTreeMap<Key, Object>,
     stored: &StoredObject,
-) -> Result<(), SFault>
+) -> Result<(), StoreFault>
     ensures added { OnOk result ((rows : _) → AreObjectsOf rows objects.old.entries
         → AreObjectsOf (rows ++ stored_entry stored.now ∷ []) objects.new.entries) }
     ensures ordered { OnOk result (IsOrdered key_cmp objects.new) }
-    ensures cause { IfErr result IsS1OrS2 }
+    ensures cause { IfErr result IsFailure }
 {
     let key = key_of(alloc, stored.kind, stored.key.as_slice())?;
     let object = record_object(alloc, stored.record.as_slice())?;
@@ -140,11 +143,11 @@ fn add_object(
 pub(crate) fn objects_of(
     alloc: Global,
     stored: &[StoredObject],
-) -> Result<BTreeMap<Key, Object>, SFault>
+) -> Result<BTreeMap<Key, Object>, StoreFault>
     ensures once { IfOk result (λ objects. IsDistinct key_eq (keys_of objects.entries)) }
     ensures each { IfOk result
         (λ objects. AreObjectsOf (map stored_entry stored.now) objects.entries) }
-    ensures cause { IfErr result IsS1OrS2 }
+    ensures cause { IfErr result IsFailure }
 {
     let mut objects = BTreeMap::new(alloc);
     for at in 0..stored.len() {
@@ -154,9 +157,9 @@ pub(crate) fn objects_of(
 }
 
 // The key and the object of a row.
-fn entry_of(alloc: Global, stored: &StoredObject) -> Result<(Key, Object), SFault>
+fn entry_of(alloc: Global, stored: &StoredObject) -> Result<(Key, Object), StoreFault>
     ensures entry { IfOk result (λ entry. entry_row entry ≡ record_row (stored_entry stored.now)) }
-    ensures cause { IfErr result IsS1OrS2 }
+    ensures cause { IfErr result IsFailure }
 {
     let key = key_of(alloc, stored.kind, stored.key.as_slice())?;
     let object = record_object(alloc, stored.record.as_slice())?;
@@ -167,10 +170,10 @@ fn entry_of(alloc: Global, stored: &StoredObject) -> Result<(Key, Object), SFaul
 pub(crate) fn entries_of(
     alloc: Global,
     stored: &[StoredObject],
-) -> Result<Vec<(Key, Object)>, SFault>
+) -> Result<Vec<(Key, Object)>, StoreFault>
     ensures entries { IfOk result (λ entries. map entry_row entries.items
         ≡ map (λ it. record_row (stored_entry it)) stored.now) }
-    ensures cause { IfErr result IsS1OrS2 }
+    ensures cause { IfErr result IsFailure }
 {
     let mut entries = Vec::new(alloc);
     for at in 0..stored.len() {
@@ -181,10 +184,10 @@ pub(crate) fn entries_of(
 }
 
 // What a key had before a step: the object of the row's record, or none.
-fn before_of(alloc: Global, stored: &StoredImage) -> Result<Option<Object>, SFault>
+fn before_of(alloc: Global, stored: &StoredImage) -> Result<Option<Object>, StoreFault>
     ensures before { IfOk result (λ before. option_map record_of before
         ≡ option_map (λ bytes. Some bytes) (stored_image stored.now).bytes) }
-    ensures cause { IfErr result IsS1OrS2 }
+    ensures cause { IfErr result IsFailure }
 {
     match &stored.record {
         Some(bytes) => Ok(Some(record_object(alloc, bytes.as_slice())?)),
@@ -197,11 +200,11 @@ fn add_image(
     alloc: Global,
     images: &mut BTreeMap<Key, Option<Object>>,
     stored: &StoredImage,
-) -> Result<(), SFault>
+) -> Result<(), StoreFault>
     ensures added { OnOk result ((rows : _) → AreImagesOf rows images.old.entries
         → AreImagesOf (rows ++ stored_image stored.now ∷ []) images.new.entries) }
     ensures ordered { OnOk result (IsOrdered key_cmp images.new) }
-    ensures cause { IfErr result IsS1OrS2 }
+    ensures cause { IfErr result IsFailure }
 {
     let key = key_of(alloc, stored.kind, stored.key.as_slice())?;
     let before = before_of(alloc, stored)?;
@@ -212,11 +215,11 @@ fn add_image(
 fn images_by_key(
     alloc: Global,
     stored: &[StoredImage],
-) -> Result<BTreeMap<Key, Option<Object>>, SFault>
+) -> Result<BTreeMap<Key, Option<Object>>, StoreFault>
     ensures ordered { IfOk result (λ images. IsOrdered key_cmp images) }
     ensures each { IfOk result
         (λ images. AreImagesOf (map stored_image stored.now) images.entries) }
-    ensures cause { IfErr result IsS1OrS2 }
+    ensures cause { IfErr result IsFailure }
 {
     let mut images = BTreeMap::new(alloc);
     for at in 0..stored.len() {
@@ -229,10 +232,10 @@ fn images_by_key(
 pub(crate) fn images_of(
     alloc: Global,
     stored: &[StoredImage],
-) -> Result<Vec<(Key, Option<Object>)>, SFault>
+) -> Result<Vec<(Key, Option<Object>)>, StoreFault>
     ensures ordered { IfOk result (λ images. IsStrictlySortedBy key_cmp (keys_of images.items)) }
     ensures each { IfOk result (λ images. AreImagesOf (map stored_image stored.now) images.items) }
-    ensures cause { IfErr result IsS1OrS2 }
+    ensures cause { IfErr result IsFailure }
 {
     let images = images_by_key(alloc, stored)?;
     Ok(images.into_iter().collect(alloc)?)

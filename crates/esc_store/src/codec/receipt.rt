@@ -4,7 +4,7 @@ ghost use Rattle.std.specs.Prelude.{◌≡◌, ℕ, List, map, option_map, IfOk,
 ghost use Rattle.std.specs.Prelude.{string_bytes, IsSorted};
 ghost use Rattle.esc_sql.specs.Entries.{receipt_row};
 ghost use Rattle.esc_sql.specs.Changes.{receipt_of};
-ghost use Rattle.esc_store.specs.Faults.{IsS1OrS2};
+ghost use Rattle.esc_store.specs.Faults.{IsFailed, IsFailure};
 ghost use Rattle.esc_store.specs.TypedRows.{verdict_number, fault_number, bit, numbered_receipt};
 ghost use Rattle.esc_store.specs.TypedRows.{receipts_from};
 ghost use Rattle.std.specs.Ordering.{nat_cmp};
@@ -13,16 +13,19 @@ ghost use Rattle.esc_store.specs.declared.reply.Verdict.{Verdict as verdict};
 ghost use Rattle.esc_store.specs.Decoded.{AreOnce};
 ghost use Rattle.esc_store.specs.ReplyValue.{ReceiptValue, reply_kept, reply_alike, replies_from};
 
+use crate::cause::{Cause, Table};
 use crate::codec::small;
-use crate::fault::{DAMAGED, SFault};
+use crate::fault::StoreFault;
 use crate::reply::{Receipt, Reply, Verdict};
 use esc_manifest::Manifest;
 use esc_sql::receipt::Receipt as StoredReceipt;
 use std::alloc::Global;
 
-fn small_row(row: Option<usize>) -> Result<Option<u32>, SFault>
+const FOREIGN: StoreFault = StoreFault::Failed(Cause::ForeignRow(Table::Receipt));
+
+fn small_row(row: Option<usize>) -> Result<Option<u32>, StoreFault>
     ensures row { IfOk result (λ n. n ≡ row) }
-    ensures cause { IfErr result (λ fault. fault ≡ SFault.S1) }
+    ensures cause { IfErr result IsFailed }
 {
     match row {
         Some(row) => Ok(Some(small(row)?)),
@@ -30,14 +33,14 @@ fn small_row(row: Option<usize>) -> Result<Option<u32>, SFault>
     }
 }
 
-fn small_count(count: Option<u64>) -> Result<Option<u32>, SFault>
+fn small_count(count: Option<u64>) -> Result<Option<u32>, StoreFault>
     ensures count { IfOk result (λ n. n ≡ count) }
-    ensures cause { IfErr result (λ fault. fault ≡ SFault.S1) }
+    ensures cause { IfErr result IsFailed }
 {
     match count {
         Some(count) => match u32::try_from(count) {
             Ok(count) => Ok(Some(count)),
-            Err(_) => Err(DAMAGED),
+            Err(_) => Err(FOREIGN),
         },
         None => Ok(None),
     }
@@ -80,9 +83,9 @@ pub(crate) fn stored_receipt(
     alloc: Global,
     number: u32,
     receipt: &Receipt<'_>,
-) -> Result<StoredReceipt, SFault>
+) -> Result<StoredReceipt, StoreFault>
     ensures row { IfOk result (λ r. receipt_row r ≡ numbered_receipt number receipt.now) }
-    ensures cause { IfErr result IsS1OrS2 }
+    ensures cause { IfErr result IsFailure }
 {
     Ok(StoredReceipt {
         receipt: number,
@@ -97,10 +100,10 @@ pub(crate) fn stored_receipt(
 }
 
 // The verdict with this number, and with this refusal's number if it is A3.
-fn verdict_of(number: u32, fault: Option<u32>) -> Result<Verdict, SFault>
+fn verdict_of(number: u32, fault: Option<u32>) -> Result<Verdict, StoreFault>
     ensures verdict { IfOk result (λ v. (w : verdict) → number ≡ verdict_number w
         → fault ≡ fault_number w → v ≡ w) }
-    ensures cause { IfErr result IsS1OrS2 }
+    ensures cause { IfErr result IsFailure }
 {
     match (number, fault) {
         (1, None) => Ok(Verdict::A1),
@@ -109,23 +112,23 @@ fn verdict_of(number: u32, fault: Option<u32>) -> Result<Verdict, SFault>
         (5, None) => Ok(Verdict::A5),
         (3, Some(fault)) => match u8::try_from(fault) {
             Ok(fault) => Ok(Verdict::A3(fault)),
-            Err(_) => Err(DAMAGED),
+            Err(_) => Err(FOREIGN),
         },
-        _ => Err(DAMAGED),
+        _ => Err(FOREIGN),
     }
 }
 
 // What a 0 or 1 stands for.
-fn again_of(again: Option<u32>) -> Result<Option<bool>, SFault>
+fn again_of(again: Option<u32>) -> Result<Option<bool>, StoreFault>
     ensures again { IfOk result (λ a. (b : Option Bool) → again ≡ option_map bit b
         → a ≡ b) }
-    ensures cause { IfErr result IsS1OrS2 }
+    ensures cause { IfErr result IsFailure }
 {
     match again {
         Some(1) => Ok(Some(true)),
         Some(0) => Ok(Some(false)),
         None => Ok(None),
-        _ => Err(DAMAGED),
+        _ => Err(FOREIGN),
     }
 }
 
@@ -144,11 +147,11 @@ fn listed_of(
     alloc: Global,
     manifest: &Manifest,
     row: Option<u32>,
-) -> Result<(Option<String>, Option<u32>), SFault>
+) -> Result<(Option<String>, Option<u32>), StoreFault>
     ensures listed { IfOk result
         (λ p. (option_map string_bytes p.0 ≡ option_map (id_at manifest.now) row)
         × (p.1 ≡ option_map (resend_at manifest.now) row)) }
-    ensures cause { IfErr result IsS1OrS2 }
+    ensures cause { IfErr result IsFailure }
 {
     let Some(row) = row else {
         return Ok((None, None));
@@ -156,7 +159,7 @@ fn listed_of(
     let rows = manifest.rows();
     let at = row as usize;
     if at >= rows.len() {
-        return Err(DAMAGED);
+        return Err(FOREIGN);
     }
     let listed = &rows[at].header;
     let id = String::from_str(alloc, listed.id.as_str())?;
@@ -168,10 +171,10 @@ pub(crate) fn reply_of(
     alloc: Global,
     manifest: &Manifest,
     stored: &StoredReceipt,
-) -> Result<Reply, SFault>
+) -> Result<Reply, StoreFault>
     ensures reply { IfOk result (λ reply. (n : ℕ) (r : ReceiptValue)
         → receipt_row stored.now ≡ numbered_receipt n r → reply ≡ reply_kept manifest.now n r) }
-    ensures cause { IfErr result IsS1OrS2 }
+    ensures cause { IfErr result IsFailure }
 {
     let number = String::from_str(alloc, stored.number.as_str())?;
     let verdict = verdict_of(stored.verdict, stored.fault)?;
@@ -193,11 +196,11 @@ pub(crate) fn reply_found(
     alloc: Global,
     manifest: &Manifest,
     found: Option<StoredReceipt>,
-) -> Result<Option<Reply>, SFault>
+) -> Result<Option<Reply>, StoreFault>
     ensures reply { IfOk result (λ reply. (rs : List ReceiptValue) (number digest : List ℕ)
         → option_map receipt_row found ≡ receipt_of number digest (receipts_from 1 rs)
         → reply ≡ reply_alike manifest.now 1 number digest rs) }
-    ensures cause { IfErr result IsS1OrS2 }
+    ensures cause { IfErr result IsFailure }
 {
     match found {
         Some(stored) => Ok(Some(reply_of(alloc, manifest, &stored)?)),
@@ -210,11 +213,11 @@ pub(crate) fn replies_of(
     alloc: Global,
     manifest: &Manifest,
     stored: &[StoredReceipt],
-) -> Result<Vec<Reply>, SFault>
+) -> Result<Vec<Reply>, StoreFault>
     ensures replies { IfOk result (λ replies. (rs : List ReceiptValue)
         → map receipt_row stored.now ≡ receipts_from 1 rs
         → replies.items ≡ replies_from manifest.now 1 rs) }
-    ensures cause { IfErr result IsS1OrS2 }
+    ensures cause { IfErr result IsFailure }
 {
     let mut replies = Vec::new(alloc);
     for at in 0..stored.len() {
@@ -225,9 +228,9 @@ pub(crate) fn replies_of(
 }
 
 // Numbers of 32 bits as row indices.
-fn indices_of(alloc: Global, numbers: &[u32]) -> Result<Vec<usize>, SFault>
+fn indices_of(alloc: Global, numbers: &[u32]) -> Result<Vec<usize>, StoreFault>
     ensures rows { IfOk result (λ rows. rows.items ≡ numbers.now) }
-    ensures cause { IfErr result IsS1OrS2 }
+    ensures cause { IfErr result IsFailure }
 {
     let mut rows = Vec::with_capacity(alloc, numbers.len())?;
     for number in numbers {
@@ -237,10 +240,10 @@ fn indices_of(alloc: Global, numbers: &[u32]) -> Result<Vec<usize>, SFault>
 }
 
 // The distinct ones of ascending numbers of 32 bits, as row indices.
-pub(crate) fn distinct_indices_of(alloc: Global, numbers: &[u32]) -> Result<Vec<usize>, SFault>
+pub(crate) fn distinct_indices_of(alloc: Global, numbers: &[u32]) -> Result<Vec<usize>, StoreFault>
     ensures once { IsSorted nat_cmp numbers.now
         → IfOk result (λ rows. AreOnce numbers.now rows.items) }
-    ensures cause { IfErr result IsS1OrS2 }
+    ensures cause { IfErr result IsFailure }
 {
     let mut rows = indices_of(alloc, numbers)?;
     rows.dedup();

@@ -2,16 +2,19 @@
 
 ghost use Rattle.std.specs.Prelude.{◌≡◌, ◌+◌, ℕ, List, map, IfOk, IfErr};
 ghost use Rattle.esc_sql.specs.Entries.{step_row};
-ghost use Rattle.esc_store.specs.Faults.{IsS1OrS2};
+ghost use Rattle.esc_store.specs.Faults.{IsFailure};
 ghost use Rattle.esc_store.specs.TypedRows.{steps_from};
 ghost use Rattle.esc_store.specs.StoreState.{step_at};
 
+use crate::cause::{Cause, Table};
 use crate::codec::small;
-use crate::fault::{DAMAGED, SFault};
+use crate::fault::StoreFault;
 use esc_apply::Step;
 use esc_manifest::Manifest;
 use esc_sql::step::ChainStep;
 use std::alloc::Global;
+
+const FOREIGN: StoreFault = StoreFault::Failed(Cause::ForeignRow(Table::Step));
 
 // Steps of a chain as their table keeps them, which numbers all from 1: those past the first ones,
 // which are as many as `front`.
@@ -19,10 +22,10 @@ pub(crate) fn stored_steps(
     alloc: Global,
     front: usize,
     steps: &[Step],
-) -> Result<Vec<ChainStep>, SFault>
+) -> Result<Vec<ChainStep>, StoreFault>
     ensures rows { IfOk result (λ stored. map step_row stored.items
         ≡ steps_from (front + 1) (map (λ step. step.row) steps.now)) }
-    ensures cause { IfErr result IsS1OrS2 }
+    ensures cause { IfErr result IsFailure }
 {
     let mut stored = Vec::new(alloc);
     for at in 0..steps.len() {
@@ -34,14 +37,14 @@ pub(crate) fn stored_steps(
 }
 
 // The step that a row of the table of steps keeps.
-fn step_of(manifest: &Manifest, stored: ChainStep) -> Result<Step, SFault>
+fn step_of(manifest: &Manifest, stored: ChainStep) -> Result<Step, StoreFault>
     ensures step { IfOk result (λ step. step ≡ step_at manifest.now stored.row) }
-    ensures cause { IfErr result IsS1OrS2 }
+    ensures cause { IfErr result IsFailure }
 {
     let rows = manifest.rows();
     let row = stored.row as usize;
     if row >= rows.len() {
-        return Err(DAMAGED);
+        return Err(FOREIGN);
     }
     let listed = &rows[row].header;
     Ok(Step {
@@ -56,11 +59,11 @@ pub(crate) fn steps_of(
     alloc: Global,
     manifest: &Manifest,
     stored: &[ChainStep],
-) -> Result<Vec<Step>, SFault>
+) -> Result<Vec<Step>, StoreFault>
     ensures steps { IfOk result (λ steps. (rows : List ℕ)
         → map step_row stored.now ≡ steps_from 1 rows → steps.items
         ≡ map (step_at manifest.now) rows) }
-    ensures cause { IfErr result IsS1OrS2 }
+    ensures cause { IfErr result IsFailure }
 {
     let mut steps = Vec::new(alloc);
     for at in 0..stored.len() {

@@ -4,7 +4,7 @@ ghost use Rattle.std.specs.Prelude.{◌≡◌, ◌++◌, ◌∷◌, [], ℕ, Lis
 ghost use Rattle.std.specs.Prelude.{IfOk, IfErr, OnOk};
 ghost use Rattle.esc_sql.specs.Entries.{receipt_row};
 ghost use Rattle.esc_store.specs.Decoded.{row_if_held, digest_if_unlisted};
-ghost use Rattle.esc_store.specs.Faults.{IsS1OrS2};
+ghost use Rattle.esc_store.specs.Faults.{IsFailure};
 ghost use Rattle.esc_store.specs.Holding.{HasReceipts, AreFound};
 ghost use Rattle.esc_store.specs.Reading.{IsHonestReader, IsReadOnly, ReaderRepresents};
 ghost use Rattle.esc_store.specs.ReplyValue.{ReceiptValue};
@@ -13,7 +13,7 @@ ghost use Rattle.esc_store.specs.TypedRows.{receipts_from};
 
 use crate::codec::manifest::digest_of;
 use crate::codec::receipt::{distinct_indices_of, verdict_number};
-use crate::fault::SFault;
+use crate::fault::StoreFault;
 use crate::held::insert_row;
 use crate::reader::StoreReader;
 use crate::reply::Verdict;
@@ -26,12 +26,12 @@ impl<S: Store> StoreReader<S> {
     /// The indices, from 0, of the listed rows whose body is held, in ascending order: those that
     /// [`Store::held`](crate::Store::held) returns. Only bodies that no row listed when they
     /// arrived are read, each once. `S1`, `S2`.
-    pub fn held(&mut self, alloc: Global) -> Result<Vec<usize>, SFault>
+    pub fn held(&mut self, alloc: Global) -> Result<Vec<usize>, StoreFault>
         ensures same { IsReadOnly S.Store self.old self.new result }
         ensures rows { IsHonestReader S.Store self.new → (k : StoreState)
             → ReaderRepresents S.Store self.old k → HasReceipts k
             → IfOk result (λ rows. AreHeld k.bodies rows.items) }
-        ensures cause { IfErr result IsS1OrS2 }
+        ensures cause { IfErr result IsFailure }
     {
         let receipts = all_receipts(alloc, &mut self.trees)?;
         let told = told_rows(alloc, receipts.as_slice())?;
@@ -46,12 +46,12 @@ impl<S: Store> StoreReader<S> {
         alloc: Global,
         told: Vec<usize>,
         digests: &[[u8; 32]],
-    ) -> Result<Vec<usize>, SFault>
+    ) -> Result<Vec<usize>, StoreFault>
         ensures same { IsReadOnly S.Store self.old self.new result }
         ensures found { IsHonestReader S.Store self.new → (k : StoreState)
             → ReaderRepresents S.Store self.old k → IsRising told.items
             → IfOk result (λ rows. AreFound k told.items digests.now rows.items) }
-        ensures cause { IfErr result IsS1OrS2 }
+        ensures cause { IfErr result IsFailure }
     {
         let mut rows = told;
         for digest in digests {
@@ -67,13 +67,13 @@ impl<S: Store> StoreReader<S> {
         alloc: Global,
         rows: &mut Vec<usize>,
         digest: &[u8; 32],
-    ) -> Result<(), SFault>
+    ) -> Result<(), StoreFault>
         ensures same { IsReadOnly S.Store self.old self.new result }
         ensures found { OnOk result (IsHonestReader S.Store self.new → (k : StoreState)
             → ReaderRepresents S.Store self.old k → (told : List ℕ) (digests : List (List ℕ))
             → AreFound k told digests rows.old.items
             → AreFound k told (digests ++ digest.now ∷ []) rows.new.items) }
-        ensures cause { IfErr result IsS1OrS2 }
+        ensures cause { IfErr result IsFailure }
     {
         let Some(row) = self.manifest.row_by_digest(digest) else {
             return Ok(());
@@ -100,10 +100,10 @@ fn row_if_held(receipt: &StoredReceipt) -> Option<u32>
 }
 
 // The digest of a receipt of a body that no row listed. `S1` if it doesn't have its length.
-fn digest_if_unlisted(receipt: &StoredReceipt) -> Result<Option<[u8; 32]>, SFault>
+fn digest_if_unlisted(receipt: &StoredReceipt) -> Result<Option<[u8; 32]>, StoreFault>
     ensures digest { IfOk result
         (λ digest. digest ≡ digest_if_unlisted (receipt_row receipt.now)) }
-    ensures cause { IfErr result IsS1OrS2 }
+    ensures cause { IfErr result IsFailure }
 {
     let verdict = receipt.verdict;
     if verdict != verdict_number(Verdict::A2) && verdict != verdict_number(Verdict::A5) {
@@ -114,19 +114,19 @@ fn digest_if_unlisted(receipt: &StoredReceipt) -> Result<Option<[u8; 32]>, SFaul
 }
 
 // The rows whose deposit is held according to receipts, with repeats.
-fn held_numbers(alloc: Global, receipts: &[StoredReceipt]) -> Result<Vec<u32>, SFault>
+fn held_numbers(alloc: Global, receipts: &[StoredReceipt]) -> Result<Vec<u32>, StoreFault>
     ensures numbers { IfOk result (λ numbers.
         numbers.items ≡ filter_map (λ r. row_if_held (receipt_row r)) receipts.now) }
-    ensures cause { IfErr result IsS1OrS2 }
+    ensures cause { IfErr result IsFailure }
 {
     Ok(receipts.iter().filter_map(row_if_held).collect(alloc)?)
 }
 
 // The rows whose deposit is held according to receipts, in ascending order.
-fn told_rows(alloc: Global, receipts: &[StoredReceipt]) -> Result<Vec<usize>, SFault>
+fn told_rows(alloc: Global, receipts: &[StoredReceipt]) -> Result<Vec<usize>, StoreFault>
     ensures rows { IfOk result (λ rows. (rs : List ReceiptValue)
         → map receipt_row receipts.now ≡ receipts_from 1 rs → AreHeldBy rs rows.items) }
-    ensures cause { IfErr result IsS1OrS2 }
+    ensures cause { IfErr result IsFailure }
 {
     let mut rows = held_numbers(alloc, receipts)?;
     rows.sort_unstable();
@@ -134,10 +134,10 @@ fn told_rows(alloc: Global, receipts: &[StoredReceipt]) -> Result<Vec<usize>, SF
 }
 
 // The digests of bodies that no row listed, according to receipts, with repeats.
-fn unlisted_digests(alloc: Global, receipts: &[StoredReceipt]) -> Result<Vec<[u8; 32]>, SFault>
+fn unlisted_digests(alloc: Global, receipts: &[StoredReceipt]) -> Result<Vec<[u8; 32]>, StoreFault>
     ensures digests { IfOk result (λ digests. (rs : List ReceiptValue)
         → map receipt_row receipts.now ≡ receipts_from 1 rs → AreUnlisted rs digests.items) }
-    ensures cause { IfErr result IsS1OrS2 }
+    ensures cause { IfErr result IsFailure }
 {
     let mut digests = Vec::new(alloc);
     for receipt in receipts {

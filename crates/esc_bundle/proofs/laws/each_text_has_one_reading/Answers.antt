@@ -1,6 +1,5 @@
 use Rattle.esc_bundle.proofs.OneReading as readings
 use Rattle.esc_bundle.proofs.Frames.{bundle_or_fault}
-use Rattle.esc_bundle.proofs.FaultNumbers.{fault_number}
 use Rattle.esc_bundle.proofs.laws.each_text_has_one_reading.Goals as goal
 
 pub returns : goal.returns
@@ -9,5 +8,4 @@ returns c = record {
   never_both = readings.no_bundle_fault;
   one_list = readings.one_list;
   one_fault = readings.one_fault;
-  numbers = fault_number;
 }

@@ -3,6 +3,7 @@ use Rattle.std.proofs.lemmas.Slice.Eq.{strip_prefix_is}
 use Rattle.std.proofs.lemmas.Bool.Decides.{Decides-eqb}
 use Rattle.std.proofs.lemmas.Result.{IfOk-weaker, IfErr-weaker}
 use Rattle.std.specs.Global.{Vec}
+use Rattle.esc_bundle.specs.declared.refusal.Refusal.TheVariants.{BrokenFrame, OverLimit}
 use Rattle.esc_bundle.specs.declared.section.Section.{Section}
 use Rattle.esc_bundle.specs.Bundle.{Named, views, first_line}
 use Rattle.esc_bundle.specs.Frame.{frame}
@@ -11,13 +12,13 @@ use Rattle.esc_bundle.proofs.Answered.{answered}
 use Rattle.esc_bundle.proofs.reading.sections.Goals as goal
 
 pub returns-then-body-gt-MOST_BYTES-clause-unframed : goal.returns-then-body-gt-MOST_BYTES-clause-unframed
-returns-then-body-gt-MOST_BYTES-clause-unframed c = λ n same. let four : 4 ≡ n = cc in frame_over_limit c.args.body.now c.if-body-gt-MOST_BYTES.true ∙ ap Err four
+returns-then-body-gt-MOST_BYTES-clause-unframed c = λ n same. let over : OverLimit ≡ n = cc in frame_over_limit c.args.body.now c.if-body-gt-MOST_BYTES.true ∙ ap Err over
 
 pub returns-in-None-clause-unframed : goal.returns-in-None-clause-unframed
 returns-in-None-clause-unframed c = λ n same.
-    let one : 1 ≡ n = cc in
+    let broken : BrokenFrame ≡ n = cc in
     let other = strip_prefix_is Decides-eqb c.args.body.now first_line None c.in-None.ensures.cases in
-    frame_elsewhere c.args.body.now c.if-body-gt-MOST_BYTES.false other ∙ ap Err one
+    frame_elsewhere c.args.body.now c.if-body-gt-MOST_BYTES.false other ∙ ap Err broken
 
 pub returns-in-Some : goal.returns-in-Some
 returns-in-Some c =

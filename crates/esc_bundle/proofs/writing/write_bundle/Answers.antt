@@ -1,6 +1,7 @@
 use Rattle.std.proofs.Common.{refl, ◌≡◌, ◌<◌, ◌∙◌, sym, map, length, Err, arith}
 use Rattle.std.proofs.lemmas.Grind.{common_steps}
 use Rattle.std.proofs.lemmas.Result.{err_from_is_err_and}
+use Rattle.esc_bundle.specs.declared.refusal.Refusal.TheVariants.{BrokenFrame}
 use Rattle.esc_bundle.specs.declared.fault.Fault.TheVariants.{Refused}
 use Rattle.esc_bundle.specs.Bundle.{views}
 use Rattle.esc_bundle.specs.Writing.{named}
@@ -11,7 +12,7 @@ use Rattle.esc_bundle.proofs.writing.write_bundle.Goals as goal
 pub returns-then-is_empty : goal.returns-then-is_empty
 returns-then-is_empty c =
     let none : length c.args.list.now ≡ 0 = grind (arith, common_steps) in
-    let m = made_of (map named c.args.list.now) (Err (Refused 1)) (λ n same. none_made c.args.list.now n none (cc)) in
+    let m = made_of (map named c.args.list.now) (Err (Refused BrokenFrame)) (λ n same. none_made c.args.list.now n none (cc)) in
     record { written = m.written; refused = m.refused; bundle_written = m.bundle_written; fault_told = m.fault_told; made = m.made; unmade = m.unmade; unwritten = m.unwritten; empty = λ none. refl }
 
 pub returns-in_err-sections : goal.returns-in_err-sections

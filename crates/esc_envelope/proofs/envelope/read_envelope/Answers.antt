@@ -1,5 +1,5 @@
 use Rattle.std.proofs.lemmas.Result.{IfErr-weaker}
-use Rattle.esc_envelope.proofs.LeastFault.{is_least, least_is, number_of, fault_told}
+use Rattle.esc_envelope.proofs.LeastFault.{is_least, least_is, fault_told}
 use Rattle.esc_envelope.proofs.envelope.read_envelope.Goals as goal
 
 pub returns-clause-least : goal.returns-clause-least
@@ -7,6 +7,3 @@ returns-clause-least c = IfErr-weaker c.envelope_from.result _ _ (λ e refused n
 
 pub returns-clause-fault_told : goal.returns-clause-fault_told
 returns-clause-fault_told c = λ n least. fault_told c.args.json.now c.envelope_from.result c.envelope_from.ensures.envelope c.envelope_from.ensures.refused n (least_is c.args.json.now n least)
-
-pub returns-clause-numbers : goal.returns-clause-numbers
-returns-clause-numbers c = IfErr-weaker c.envelope_from.result _ _ (λ e refused n same. number_of c.args.json.now n (is_least c.args.json.now n (refused n same)).0) c.envelope_from.ensures.refused

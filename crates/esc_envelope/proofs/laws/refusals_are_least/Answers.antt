@@ -1,5 +1,5 @@
-use Rattle.esc_envelope.proofs.LeastFault.{is_least, least_is, number_of}
+use Rattle.esc_envelope.proofs.LeastFault.{is_least, least_is}
 use Rattle.esc_envelope.proofs.laws.refusals_are_least.Goals as goal
 
 pub returns : goal.returns
-returns c = record { least = λ text n. (is_least text n, least_is text n); numbers = number_of }
+returns c = λ text n. (is_least text n, least_is text n)

@@ -5,8 +5,8 @@ use Rattle.esc_http.proofs.answer.answer_report.Goals as goal
 
 pub returns-in-Ok-clause-answers : goal.returns-in-Ok-clause-answers
 returns-in-Ok-clause-answers g c = (
-  c.report.ensures.stays,
-  leaves_still g.S.Store _ _ c.report.ensures.stays,
+  c.report.ensures.read.follows,
+  leaves_still g.S.Store _ _ c.report.ensures.read.follows,
   inl (record {
     body = c.deref.result.now;
     is = λ clean e serves. subst (IsReport e c.args.what) (sym c.deref.ensures.value) (c.in-Ok.ensures.text clean e serves);
@@ -16,8 +16,8 @@ returns-in-Ok-clause-answers g c = (
 
 pub returns-in-Err-clause-answers : goal.returns-in-Err-clause-answers
 returns-in-Err-clause-answers g c = (
-  c.report.ensures.stays,
-  leaves_still g.S.Store _ _ c.report.ensures.stays,
+  c.report.ensures.read.follows,
+  leaves_still g.S.Store _ _ c.report.ensures.read.follows,
   inr (record {
     fault = c.in-Err.fault;
     cause = c.in-Err.ensures.cause;

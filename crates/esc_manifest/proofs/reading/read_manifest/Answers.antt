@@ -1,4 +1,4 @@
-use Rattle.esc_manifest.proofs.TextLeast.{text_least, text_numbers}
+use Rattle.esc_manifest.proofs.TextLeast.{text_least, text_row}
 use Rattle.esc_manifest.proofs.reading.read_manifest.Goals as goal
 
 pub returns : goal.returns
@@ -9,6 +9,6 @@ returns c =
       accepted = read.accepted;
       refused = read.refused;
       least = λ code row e. text_least text code row (read.refused code row e);
-      numbers = λ code row e. text_numbers text code row (text_least text code row (read.refused code row e));
+      row = λ code row e. text_row text code row (text_least text code row (read.refused code row e));
       over_limit = read.over_limit;
     }

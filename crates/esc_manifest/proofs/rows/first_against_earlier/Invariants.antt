@@ -5,4 +5,4 @@ use Rattle.esc_manifest.proofs.rows.first_against_earlier.Given as goal
 
 -- no row so far contradicts an earlier one
 abbrev pub invariant-loop-i : goal.invariant-loop-i
-invariant-loop-i l = (k : ℕ) → k < l.i → is_blamed l.code (take k l.rows) (row_at l.rows k) ≡ false
+invariant-loop-i l = (k : ℕ) → k < l.i → is_blamed l.refusal (take k l.rows) (row_at l.rows k) ≡ false

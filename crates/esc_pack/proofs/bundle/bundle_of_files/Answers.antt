@@ -1,5 +1,6 @@
-use Rattle.std.proofs.Common.{◌≡◌, ◌∷◌, ℕ, Err, map, refl, inl, inr}
+use Rattle.std.proofs.Common.{◌≡◌, ◌∷◌, Err, map, refl, inl, inr}
 use Rattle.std.proofs.lemmas.Result.{err_from_is_err_and}
+use Rattle.esc_bundle.specs.declared.refusal.Refusal.{Refusal}
 use Rattle.esc_bundle.specs.Bundle.{IsBundle}
 use Rattle.esc_bundle.specs.Writing.{named, IsUnwritten}
 use Rattle.esc_tables.specs.Reading.{tables_of, reading}
@@ -42,7 +43,7 @@ pub returns-in_err-body-clause-refused : goal.returns-in_err-body-clause-refused
 returns-in_err-body-clause-refused c =
     let sections = map named c.in_ok-sections.sections.items in
     let p = err_from_is_err_and c.from_residual-in_err-body.result c.from_residual-in_err-body.ensures.1 in
-    let told : (n : ℕ) → _ → IsUnwritten sections n = λ n is. rw c.deref.ensures.value at (c.in_err-body.ensures.unwritten n is) in
+    let told : (n : Refusal) → _ → IsUnwritten sections n = λ n is. rw c.deref.ensures.value at (c.in_err-body.ensures.unwritten n is) in
     rw (p.1, p.2)
     (fault_refused (IsBundleRefusal c.args.description.now c.args.given.now) _
     (λ n is. inr (n, sections, refl, c.in_ok-sections.ensures.are, inl (told n is))))
@@ -53,7 +54,7 @@ returns-in_err-read_deposit-clause-refused c =
     let body = c.in_ok-body.body.items in
     let bundle : IsBundle body sections = rw c.deref.ensures.value at c.in_ok-body.ensures.written in
     let p = err_from_is_err_and c.from_residual-in_err-read_deposit.result c.from_residual-in_err-read_deposit.ensures.1 in
-    let told : (n : ℕ) → _ → reading body ≡ Err n = λ n is. rw c.deref-2.ensures.value at (c.in_err-read_deposit.ensures.refused n is) in
+    let told : (n : Refusal) → _ → reading body ≡ Err n = λ n is. rw c.deref-2.ensures.value at (c.in_err-read_deposit.ensures.refused n is) in
     rw (p.1, p.2)
     (fault_refused (IsBundleRefusal c.args.description.now c.args.given.now) _
     (λ n is. inr (n, sections, refl, c.in_ok-sections.ensures.are, inr (body, bundle, told n is))))

@@ -1,12 +1,13 @@
 use Rattle.std.proofs.Common.{◌≡◌, ℕ, List, Option, Some, None, Result, Ok, Err, refl}
-use Rattle.esc_manifest.specs.declared.fault.MFault.{MFault}
+use Rattle.esc_manifest.specs.declared.refusal.ManifestRefusal.{ManifestRefusal}
+use Rattle.esc_manifest.specs.declared.fault.ManifestFault.{ManifestFault}
 use Rattle.esc_manifest.specs.declared.row.MRow.{MRow}
 use Rattle.esc_manifest.specs.RowFaults.{rows_fault}
 use Rattle.esc_pack.proofs.release.accepted.Goals as goal
 
 -- a manifest is answered for rows without a fault alone, and it has them
-answered : (o : Option (ℕ × ℕ)) {r : Result (List MRow) MFault} {rows m : List MRow} → r ≡ Ok m → (o ≡ None → r ≡ Ok rows)
-    → ((code row : ℕ) → o ≡ Some (code, row) → r ≡ Err (MFault.Refused code row)) → (m ≡ rows) × (o ≡ None)
+answered : (o : Option (ManifestRefusal × ℕ)) {r : Result (List MRow) ManifestFault} {rows m : List MRow} → r ≡ Ok m → (o ≡ None → r ≡ Ok rows)
+    → ((code : ManifestRefusal) (row : ℕ) → o ≡ Some (code, row) → r ≡ Err (ManifestFault.Refused code row)) → (m ≡ rows) × (o ≡ None)
 answered None is free fault = let right = free refl in (cc, refl)
 answered (Some (code, row)) is free fault = let wrong = fault code row refl in absurd cc
 

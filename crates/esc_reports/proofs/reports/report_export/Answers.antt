@@ -1,18 +1,33 @@
-use Rattle.std.proofs.Common.{rules, ◌∙◌}
-use Rattle.esc_store.specs.Representation.{IsHonest}
-use Rattle.esc_store.specs.StandingLaws.{was_honest}
+use Rattle.std.proofs.Common.{rules, subst, ◌∙◌, List, Some}
+use Rattle.esc_apply.specs.ObjectStreams.{Entry}
+use Rattle.esc_desk.specs.WalkCalls.{walked_by, place_of}
+use Rattle.esc_desk.specs.Walking.{of_kinds}
+use Rattle.esc_reports.proofs.Reading.{walked_ill, walked_well}
 use Rattle.esc_reports.proofs.Listed.{listing, export_of_kind}
 use Rattle.esc_reports.proofs.reports.report_export.Goals as goal
 
 pub returns-in-Ok-clause-text : goal.returns-in-Ok-clause-text
 returns-in-Ok-clause-text g c = λ clean e serves apart.
-    let at_end : IsHonest g.S.Store c.export_from.new.objects.desk.now.store = search rules in
-    let entries = listing e serves.kept c.tables_are_listed.ensures c.tables_are_of_events.ensures serves.stands_for apart in
-    let at_walk = was_honest c.in-Ok.ensures.follows.same at_end in
-    let lists = c.in_ok-walk.ensures.lists at_walk e serves apart entries.0 entries.1 entries.2 in
+    let laws = g.met.R.Reads in
+    let state = laws.stands_for _ e serves in
+    let at_end : g.R.Reads.is_honest (walked_by c.export_from.new.objects) = search rules in
+    let entries = listing e state.kept c.tables_are_listed.ensures c.tables_are_of_events.ensures state.stands_for apart in
+    let walk = c.new-walk.ensures in
+    let at_walk = subst g.R.Reads.is_honest walk.same (laws.was_honest _ _ c.in-Ok.ensures.follows.same at_end) in
+    let listed : List Entry = of_kinds (Some c.args.kind) entries.0 in
+    let lists : g.R.Reads.lists (walked_by c.new-walk.result) (place_of c.new-walk.result) listed = rw (walk.same, walk.place) (c.in_ok-place.ensures.lists at_walk e serves apart entries.0 entries.1 entries.2) in
     record {
       entries = entries.0;
       tables = entries.1;
       order = entries.2;
-      is = c.in-Ok.ensures.text at_end _ lists ∙ export_of_kind c.args.kind entries.0;
+      is = c.in-Ok.ensures.text at_end listed lists ∙ export_of_kind c.args.kind entries.0;
     }
+
+pub returns-in-Ok-clause-read : goal.returns-in-Ok-clause-read
+returns-in-Ok-clause-read g c = search (rules, walked_well, g.met.R.Reads.goes_on)
+
+pub returns-in-Ok-2-clause-read : goal.returns-in-Ok-2-clause-read
+returns-in-Ok-2-clause-read g c = search (rules, walked_ill, g.met.R.Reads.goes_on)
+
+pub returns-clause-read : goal.returns-clause-read
+returns-clause-read g c = search (rules, walked_ill, g.met.R.Reads.goes_on)

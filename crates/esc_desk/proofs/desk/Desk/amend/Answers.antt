@@ -2,11 +2,11 @@ use Rattle.std.proofs.Common.{◌≡◌, ◌-◌, ◌==◌, Bool, false, cond, L
 use Rattle.std.proofs.lemmas.Bool.Decides.{nat_tests}
 use Rattle.std.proofs.lemmas.Result.{IfOk-at_ok}
 use Rattle.esc_manifest.specs.declared.row.MRow.{MRow}
-use Rattle.esc_manifest.specs.declared.fault.MFault.{MFault}
+use Rattle.esc_manifest.specs.declared.fault.ManifestFault.{ManifestFault}
 use Rattle.esc_manifest.specs.Extension.{new_rows}
 use Rattle.esc_events.specs.Events.{EventValue, union}
 use Rattle.esc_events.specs.Events.EventValue.{listed}
-use Rattle.esc_store.specs.declared.fault.SFault.TheVariants.{S2}
+use Rattle.esc_store.specs.declared.fault.StoreFault.TheVariants.{NoMemory}
 use Rattle.esc_events.specs.Works.{IsWorkOf, no_work}
 use Rattle.esc_desk.specs.Asked.{amendment_of}
 use Rattle.esc_desk.specs.Amendments.{IsUnionWith}
@@ -18,12 +18,12 @@ use Rattle.esc_desk.proofs.Whole.{whole_as, whole_failed}
 use Rattle.esc_desk.proofs.desk.Desk.amend.Goals as goal
 
 pub returns-in-Err-NoMemory-clause-crash : goal.returns-in-Err-NoMemory-clause-crash
-returns-in-Err-NoMemory-clause-crash g c = λ e doubtful served left. leaves_before g.S.Store _ e doubtful (amendment_of c.args.text.now) S2 left
+returns-in-Err-NoMemory-clause-crash g c = λ e doubtful served left. leaves_before g.S.Store _ e doubtful (amendment_of c.args.text.now) NoMemory left
 
 pub returns-in-Err-Refused-clause-cause : goal.returns-in-Err-Refused-clause-cause
 returns-in-Err-Refused-clause-cause g c =
     let is = c.in-Err-Refused.field-0-is in
-    let refused = c.union_with.ensures.refused c.in-Err-Refused.code c.in-Err-Refused.row (c.in-Err-Refused.is ∙ ap (λ (f : MFault). Err f) is) in
+    let refused = c.union_with.ensures.refused c.in-Err-Refused.refusal c.in-Err-Refused.row (c.in-Err-Refused.is ∙ ap (λ (f : ManifestFault). Err f) is) in
     rw is refused
 
 pub returns-then-added-eq0-clause-amended : goal.returns-then-added-eq0-clause-amended

@@ -1,6 +1,4 @@
-use Rattle.esc_manifest.specs.Extension.{extended}
 use Rattle.esc_manifest.proofs.Answered.{union_least}
-use Rattle.esc_manifest.proofs.RowLeast.{numbers}
 use Rattle.esc_manifest.proofs.manifest.Manifest.extend.Goals as goal
 
 pub returns : goal.returns
@@ -13,8 +11,5 @@ returns c =
       union = u.union;
       refused = u.refused;
       least = λ code row e. union_least m more u.both.0 u.both.1 code row (u.refused code row e);
-      numbers = λ code row e.
-          let ((s, least), _) = union_least m more u.both.0 u.both.1 code row (u.refused code row e) in
-          let range = numbers (extended m more) code s least in
-          (range.0, range.1, u.within code row e);
+      row = u.within;
     }

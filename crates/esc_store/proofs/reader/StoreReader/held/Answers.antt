@@ -1,6 +1,6 @@
 use Rattle.std.proofs.Common.{List, ℕ, Result, Ok, map, refl, ap, subst, ◌∙◌}
 use Rattle.esc_sql.specs.Entries.{receipt_row}
-use Rattle.esc_store.specs.declared.fault.SFault.{SFault}
+use Rattle.esc_store.specs.declared.fault.StoreFault.{StoreFault}
 use Rattle.esc_store.specs.Holding.{AreFound}
 use Rattle.esc_store.specs.ReadingLaws.{reader_was_honest, read_only_then}
 use Rattle.esc_store.proofs.Common.{if_goes}
@@ -9,7 +9,7 @@ use Rattle.esc_store.proofs.Readers.{read_only, told_of}
 use Rattle.esc_store.proofs.reader.StoreReader.held.Goals as goal
 
 -- the scan of receipts, without what it returned
-abbrev done : Result (Unit {0}) SFault
+abbrev done : Result (Unit {0}) StoreFault
 done = Ok tt
 
 pub returns-clause-rows : goal.returns-clause-rows

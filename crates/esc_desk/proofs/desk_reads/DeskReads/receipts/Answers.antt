@@ -1,0 +1,5 @@
+use Rattle.esc_desk.proofs.ReadLemmas.{desk_read}
+use Rattle.esc_desk.proofs.desk_reads.DeskReads.receipts.Goals as goal
+
+pub returns-clause-read : goal.returns-clause-read
+returns-clause-read g c = desk_read g.S.Store c.args.self.now _ _ c.receipts.ensures.same
