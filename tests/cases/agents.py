@@ -1,10 +1,19 @@
 """From an agent's deposits to the registry: `unpack_rde`, `pack` and `restore` one after the other."""
-import csv, io, json, os, random, subprocess, sys
+import csv
+import io
+import json
+import os
+import random
+import subprocess
+import sys
 
 from cases.handovers import clear
 from support import TOP
 from support.documents import KEYS, document
-from support.escrow import as_written, some_objects, told
+from support.escrow import as_written
+from support.escrow import folders_in
+from support.escrow import some_objects
+from support.escrow import told
 from support.files import read
 from support.formats import KINDS
 from support.stage import Failed, Wanted, case
@@ -31,9 +40,12 @@ def rebuild(stage, *bundles):
 def restored(stage, *deposits):
     """The objects that are in a store after these deposits, each the folder of its description: by kind and key, as `export` prints them."""
     os.mkdir(stage.at('bundles'))
+    bundles = []
     for name in deposits:
-        run(stage, f'bundle --envelope {name}/envelope.json {name} bundles/{name}', 'pack')
-    rebuild(stage, *deposits)
+        for part in (os.path.relpath(it, stage.room.name) for it in folders_in(stage.at(name))):
+            bundles.append(part.replace('/', '-'))
+            run(stage, f'bundle --envelope {part}/envelope.json {part} bundles/{bundles[-1]}', 'pack')
+    rebuild(stage, *bundles)
     rows = {}
     for kind in KINDS:
         text = io.StringIO(run(stage, f'export --store desk.db {kind}').decode(), newline='')
@@ -52,7 +64,8 @@ def unpacked(stage, header, model, objects, deletes=None, words=(), **more):
     os.mkdir(stage.at(f'{name}-files'))
     path = document(stage.at(f'{name}-files'), f'{name}.xml', header, objects, deletes or {}, {}, model, **more)
     ran = subprocess.run([sys.executable, f'{TOP}/packaging/unpack_rde', *words, path, name], cwd=stage.room.name, capture_output=True)
-    if ran.returncode or ran.stderr:
+    told = [it for it in ran.stderr.decode().splitlines() if ': a series of ' not in it]
+    if ran.returncode or told:
         raise Failed(f'unpack_rde {name}: status {ran.returncode}: {ran.stderr}')
 
 
@@ -83,6 +96,26 @@ def test_changes(stage):
     for kind, (key,) in deletes.items():
         del wanted[kind, key.lower() if kind in LOWERED else key]
     check_same(wanted, restored(stage, 'F1', 'D2'))
+
+
+def test_series(stage):
+    """Deposits that are larger than one bundle are restored as they were, and what is based on them."""
+    limit = ['--part-rows', '25']
+    for seed in range(2):
+        first, second = (some_objects(random.Random(f'series {seed} {it}'), most=9) for it in range(2))
+        hosts = {rows[0][1]['name']: rows[0][1]['roid'] for rows in first if rows[0][0] == 'host'}
+        gone = {'domain': [rows[0][1]['name'] for rows in first if rows[0][0] == 'domain'][:2]}
+        wanted = {**lowered(first), **lowered(second)}
+        for name in gone.get('domain', []):
+            wanted.pop(('domain', name.lower()), None)
+        wanted |= lowered(second)
+        for model in ('XML', 'CSV'):
+            with case(f'seed {seed}, {model}'):
+                unpacked(stage, FULL, model, first, words=limit)
+                more = {'type': 'DIFF', 'id': 'D2', 'prevId': 'F1', 'watermark': '2024-03-04T00:00:00Z'}
+                unpacked(stage, more, model, second, gone, ['--known', 'F1', *limit], roids=hosts)
+                check_same(wanted, restored(stage, 'F1', 'D2'))
+            clear(stage)
 
 
 # The table, its fields, a heading of its file, and whether that names the fields.

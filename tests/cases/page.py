@@ -161,7 +161,7 @@ def check_counted(what, part, wanted):
 
 def check_lists(page, seen, desk):
     shown = [(code, [kind, *map(control_spelled, texts)]) for code, kind, *texts in seen.findings]
-    check_counted('findings', section(page, 'findings'), {f'V{code}': [it for at, it in shown if at == code] for code in range(1, 8)})
+    check_counted('findings', section(page, 'findings'), {f'V{code}': [it for at, it in shown if at == code] for code in sorted({at for at, _ in shown})})
     replies = [line.split(',') for line in desk.receipt_rows()]
     receipts = {f'A{at}': [[receipt, number, fault, name, resend] for receipt, number, verdict, fault, name, resend, *_ in replies
                            if verdict == f'A{at}'] for at in range(1, 6)}

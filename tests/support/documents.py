@@ -151,9 +151,14 @@ def fields(prefix, names):
     return {it: f'{"rdeCsv" if it in COMMON else prefix}:f{it[0].upper()}{it[1:]}' for it in names.split()}
 
 
+def optional(fields, names):
+    """The same fields, of which these may be empty, as the document says: their elements say otherwise by themselves."""
+    return {it: f'{element} isRequired="false"' if it in names.split() else element for it, element in fields.items()}
+
+
 def placed(loc):
     """The fields of an address; those of the localized form where `loc` is true, of the internationalized where it is false."""
-    front, form = ('loc.', ' isLoc="true"') if loc else ('', '' if loc is None else ' isLoc="false"')
+    front, form = ('loc.', ' isLoc="true" isRequired="false"') if loc else ('', '' if loc is None else ' isLoc="false" isRequired="false"')
     return {**{f'{front}street.{at}': f'csvContact:fStreet index="{at}"{form}' for at in range(3)},
             **{f'{front}{it}': f'csvContact:f{it.capitalize()}{form}' for it in ('city', 'sp', 'pc', 'cc')}}
 
@@ -161,13 +166,14 @@ def placed(loc):
 NAME, CONTACT_ID = {'name': 'csvDomain:fName parent="true"'}, {'id': 'csvContact:fId parent="true"'}
 ROID = {'roid': 'rdeCsv:fRoid parent="true"'}
 HISTORY = 'clID crRr crID crDate upRr upID upDate'
+SECURED = 'keyTag dsAlg digestType digest flags protocol keyAlg pubKey'
 MOVED = 'trStatus reRr reID reDate acRr acID acDate'
 DISCLOSED = 'NameLoc NameInt OrgLoc OrgInt AddrLoc AddrInt Voice Fax Email'.split()
 # Of each table the element that holds its files, the name of these, and its fields.
 FILES = {
     'registrar': ('csvRegistrar', 'registrar', {
         **fields('csvRegistrar', 'id'), 'name': 'csvRegistrar:fName isLoc="false"', **fields('csvRegistrar', 'gurid status'),
-        **placed(False), **placed(True), **fields('csvContact', 'voice voiceExt fax faxExt email'),
+        **placed(False), **placed(True), **optional(fields('csvContact', 'voice voiceExt fax faxExt email'), 'email'),
         **fields('csvRegistrar', 'url whoisUrl crDate upDate')}),
     'idn': ('csvIDN', 'idnLanguage', fields('csvIDN', 'idnTableId url')),
     'contact': ('csvContact', 'contact', fields('csvContact', f'id roid voice voiceExt fax faxExt email {HISTORY} trDate')),
@@ -181,11 +187,11 @@ FILES = {
     'hostAddresses': ('csvHost', 'hostAddresses', ROID | fields('csvHost', 'addr addrVersion')),
     'domain': ('csvDomain', 'domain', fields('csvDomain', f'name roid uName idnTableId originalName registrant {HISTORY} exDate trDate')),
     'domainContacts': ('csvDomain', 'domainContacts', NAME | {'contactId': 'csvContact:fId'} | fields('csvDomain', 'contactType')),
-    'domainStatuses': ('csvDomain', 'domainStatuses', NAME | fields('csvDomain', 'status statusDescription lang rgpStatus')),
+    'domainStatuses': ('csvDomain', 'domainStatuses', NAME | optional(fields('csvDomain', 'status statusDescription lang rgpStatus'), 'status')),
     'domainNs': ('csvDomain', 'domainNameServers', NAME | {'hostRoid': 'rdeCsv:fRoid'}),
     'domainHostAttr': ('csvDomain', 'domainNameServersAddresses',
                        NAME | {'hostName': 'csvHost:fName'} | fields('csvHost', 'addr addrVersion')),
-    'secDNS': ('csvDomain', 'dnssec', NAME | fields('csvDomain', 'maxSigLife keyTag dsAlg digestType digest flags protocol keyAlg pubKey')),
+    'secDNS': ('csvDomain', 'dnssec', NAME | optional(fields('csvDomain', f'maxSigLife {SECURED}'), SECURED)),
     'domainTransfer': ('csvDomain', 'domainTransfer', NAME | fields('csvDomain', f'{MOVED} exDate')),
     'nndn': ('csvNNDN', 'NNDN', fields('csvNNDN', 'aName uName idnTableId originalName nameState mirroringNS crDate')),
 }

@@ -1,5 +1,8 @@
 """Registry objects at random, as documents.py writes them into escrow deposits, and as they are read from a folder."""
-import csv, json, os, string
+import csv
+import json
+import os
+import string
 
 from support.documents import KEYS
 
@@ -155,6 +158,12 @@ def rows_in(folder, table):
 def description_in(folder):
     with open(os.path.join(folder, 'envelope.json'), encoding='utf-8') as file:
         return json.load(file)
+
+
+def folders_in(folder):
+    """The folders for `pack bundle` in one that was written: itself, or those of its parts in their order."""
+    parts = sorted(it for it in os.listdir(folder) if it.startswith('part-'))
+    return [os.path.join(folder, it) for it in parts] or [folder]
 
 
 def objects_in(folder):

@@ -29,7 +29,6 @@ class Contents:
         for kind, key in objects:
             for name, row in registry.objects[kind][key]:
                 self.tables[name][2].append([*row])
-        self.tables['contactStatuses'][2].extend([row[0], 'linked'] for row in self.tables['contact'][2][1:])
 
     def lines_of(self, guide):
         """The fields and the rows of a table, and where the field of a guide is in each."""

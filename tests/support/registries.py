@@ -7,7 +7,7 @@ sys.path.append(f'{TOP}/samples')
 from registry import NUMBERS, TABLES, Registry, csv_text, deposit
 
 # How many rows a registry of the usual numbers has.
-ROWS = 97_000
+ROWS = 95_500
 
 
 def full(seed, rows, id, watermark, flat=False, words=0):

@@ -12,14 +12,15 @@ HEAD = '''//! Walks over a desk's objects, and arrivals.
 #![tactic(auto)]
 
 use esc_apply::Objects;
-use esc_desk::Desk;
-use esc_store::{Number, SFault};
+use esc_desk::{Desk, Reads, Walk};
+use esc_store::{Number, StoreFault};
 use sqlite::Alter;
 use std::alloc::Global;
 '''
 FUNCTION = '''
-pub fn arrive_@<S: Alter>(alloc: Global, desk: &mut Desk<S>, number: &Number<'_>, body: &[u8]) -> Result<(), SFault> {
-    let mut walk = desk.walk(alloc, None)?;
+pub fn arrive_@<S: Alter>(alloc: Global, desk: &mut Desk<S>, number: &Number<'_>, body: &[u8]) -> Result<(), StoreFault> {
+    let place = desk.start_walk(alloc, None)?;
+    let mut walk = Walk::new(desk, place);
     walk.next()?;
 '''
 AFTER = f'    walk.next()?;\n    drop(walk);\n{ARRIVAL}\n    Ok(())\n}}\n'
