@@ -1,8 +1,8 @@
 //! What a desk and its store have.
 
 use crate::texts::{push_object, push_step, push_text};
-use esc_apply::Step;
-use esc_desk::{Desk, End, Reads, StoreFault};
+use esc_apply::{Objects, Step};
+use esc_desk::{Desk, End, Reads, StoreFault, Walk};
 use esc_reports::{Report, printed_watermark, report};
 use esc_tables::{Key, Object};
 use sqlite::Alter;
@@ -96,10 +96,29 @@ fn push_tables<S: Alter + Drop>(
     text: &mut String,
     desk: &mut Desk<S>,
 ) -> Result<(), Fail> {
-    match desk.tables(alloc) {
+    match tables_of(alloc, desk) {
         Ok(tables) => push_objects(text, &tables),
         Err(fault) => push_fault(text, fault),
     }
+}
+
+fn tables_of<S: Alter + Drop>(
+    alloc: Global,
+    desk: &mut Desk<S>,
+) -> Result<BTreeMap<Key, Object>, StoreFault> {
+    let place = desk.start_walk(alloc, None)?;
+    tables_from(alloc, &mut Walk::new(desk, place))
+}
+
+fn tables_from<O: Objects<Error = StoreFault>>(
+    alloc: Global,
+    objects: &mut O,
+) -> Result<BTreeMap<Key, Object>, StoreFault> {
+    let mut tables = BTreeMap::new(alloc);
+    while let Some((key, object)) = objects.next()? {
+        tables.insert(key, object)?;
+    }
+    Ok(tables)
 }
 
 fn push_objects(text: &mut String, tables: &BTreeMap<Key, Object>) -> Result<(), Fail> {

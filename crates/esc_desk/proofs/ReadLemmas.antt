@@ -5,13 +5,11 @@ use Rattle.std.proofs.lemmas.List.{length-map}
 use Rattle.sha2.specs.Sha256.{sha256}
 use Rattle.sqlite_trees.specs.declared.store.Store.{Ghosts}
 use Rattle.esc_bundle.specs.declared.refusal.Refusal.{Refusal}
-use Rattle.esc_tables.specs.KeyName.{KeyName}
-use Rattle.esc_tables.specs.ObjectValue.{ObjectValue}
 use Rattle.esc_tables.specs.DepositValue.{DepositValue}
 use Rattle.esc_tables.specs.Reading.{reading}
 use Rattle.esc_manifest.specs.declared.row.MRow.{MRow}
 use Rattle.esc_apply.specs.declared.front.Step.{Step}
-use Rattle.esc_apply.specs.Registry.{State, ObjectsByKey, IsEntriesOf}
+use Rattle.esc_apply.specs.Registry.{State}
 use Rattle.esc_apply.specs.Tables.{tables}
 use Rattle.esc_store.specs.StoreState.{StoreState, kept_chain, step_at, AreHeld, AreCounts}
 use Rattle.esc_store.specs.ReplyValue.{ReceiptValue}
@@ -22,7 +20,7 @@ use Rattle.esc_store.specs.StandingLaws.{survives_same}
 use Rattle.esc_events.specs.Events.{EventValue, union}
 use Rattle.esc_events.specs.Assessment.{found_at, row_with_digest, held_row}
 use Rattle.esc_events.specs.Receipts.{is_row}
-use Rattle.esc_events.specs.LatestTables.{tables_of_chain, AreTables}
+use Rattle.esc_events.specs.LatestTables.{tables_of_chain}
 use Rattle.esc_events.specs.StateAfter.{or_no_deposit, deposit_of, held_body, IsApart, IsStateAfter}
 use Rattle.esc_desk.proofs.Moving.{chain_of}
 use Rattle.esc_desk.proofs.MovingLemmas.{same_deposits}
@@ -92,13 +90,6 @@ module _ (e : List EventValue) (k : StoreState) (stood : IsStateAfter sha256 rea
   same_content apart =
       ap (λ (s : State). s.content) stood.registry
       ∙ ap tables (same_deposits k.bodies (held_body sha256 reading e) (stood.books.bodies apart) k.steps)
-
-  pub same_tables : (entries : List (KeyName × ObjectValue)) → IsEntriesOf k.registry.content entries → AreTables e entries
-  same_tables entries are apart = record {
-    chain = k.steps;
-    latest = chain_of e k stood apart;
-    objects = subst (λ (f : ObjectsByKey). IsEntriesOf f entries) (same_content apart) are;
-  }
 
   -- the steps of a store are those of its chain
   pub same_chain : (steps : List Step) → steps ≡ kept_chain k → steps ≡ map (step_at (union e)) k.steps

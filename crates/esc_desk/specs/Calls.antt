@@ -68,11 +68,6 @@ module _ {S : Type 0} (g : Ghosts S) (old new : Desk S) where
   ForStoreEvents says = IsHonestDesk g new → (e : List EventValue) → StoreReflects g old.store e
       → says e
 
-  -- the same of such a list and the result, where the call succeeded
-  abbrev pub OkForStoreEvents : {X E : Type 0} → Result X E → (List EventValue → X → Type 0)
-      → Type 0
-  OkForStoreEvents result says = ForStoreEvents (λ e. IfOk result (says e))
-
   -- a store that is honest after the call was so before
   abbrev pub WasHonest : Type 0
   WasHonest = IsHonestDesk g new → IsHonestDesk g old

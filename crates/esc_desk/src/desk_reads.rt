@@ -5,8 +5,7 @@ ghost use Rattle.esc_store.specs.Faults.{IsFailure};
 ghost use Rattle.esc_store.specs.Parks.{IsParkedBody};
 ghost use Rattle.esc_store.specs.StoreState.{StoreState};
 ghost use Rattle.esc_store.specs.Representation.{Represents, IsHonest, IsAsBefore};
-ghost use Rattle.esc_desk.specs.Calls.{writes_of, OkForStoreEvents, IsUnchangedDesk};
-ghost use Rattle.esc_events.specs.LatestTables.{AreTables};
+ghost use Rattle.esc_desk.specs.Calls.{writes_of};
 ghost use Rattle.esc_desk.specs.Reads.{SaysOfBody};
 
 use crate::caching::cache_of;
@@ -23,7 +22,6 @@ use esc_store::{Cause, Reply, Store, StoreFault};
 use esc_tables::{Key, Object};
 use sqlite::Alter;
 use std::alloc::Global;
-use std::collections::BTreeMap;
 
 impl<S: Alter> Desk<S> {
     /// How many objects the desk has put or removed since its store was opened. A removal counts
@@ -32,17 +30,6 @@ impl<S: Alter> Desk<S> {
         ensures count { result ≡ writes_of self.now }
     {
         self.store.writes()
-    }
-
-    /// The objects of the latest chain's tables by key, all in memory. `S1`, `S2`.
-    #[tactic(auto, using(crate::proofs::ReadLemmas::read_stays))]
-    pub fn tables(&mut self, alloc: Global) -> Result<BTreeMap<Key, Object>, StoreFault>
-        ensures stays { IsUnchangedDesk S.Store self.old self.new }
-        ensures objects { OkForStoreEvents S.Store self.old self.new result
-            (λ e objects. AreTables e objects.entries) }
-        ensures cause { IfErr result IsFailure }
-    {
-        self.store.tables(alloc)
     }
 }
 

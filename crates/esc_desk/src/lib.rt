@@ -31,8 +31,8 @@
 //! goes to [`Desk::run_events`], which takes one after another, and one of arrivals alone to
 //! [`Desk::run`]. What comes out are replies, counts of added rows, the work of each move, and what
 //! is read: [`Reads::status`], [`Reads::receipts`], [`Reads::manifest`], [`Reads::held`],
-//! [`Reads::parked`], [`Reads::moment`], [`Reads::chain`], [`Reads::body_of`] and [`Reads::end`],
-//! [`Desk::tables`] and [`Desk::writes`]. A [`Walk`] gives the objects of the tables one at a time.
+//! [`Reads::parked`], [`Reads::moment`], [`Reads::chain`], [`Reads::body_of`], [`Reads::end`] and
+//! [`Desk::writes`]. A [`Walk`] gives the objects of the tables one at a time.
 //!
 //! What writes nothing needs no desk. A reader of a store's trees
 //! ([`StoreReader`](esc_store::StoreReader)), without SQL, implements [`Reads`] as a desk over that
@@ -56,7 +56,8 @@
 //!         _ => ..                                            // refused, and nothing has changed
 //!     }
 //! }
-//! let tables = desk.tables(alloc)?;                          // the objects by key
+//! let place = desk.start_walk(alloc, None)?;
+//! let mut walk = Walk::new(&mut desk, place);                // the objects, in the order of keys
 //! ```
 //!
 //! # What is promised
@@ -83,10 +84,9 @@
 //! Most clauses begin with a word of `specs/Calls.antt`, which says of which events they speak.
 //! `OkForDeskEvents` is "if the store is honest after the call, and the call succeeded, then for
 //! every list of events that the desk reflected before it": a desk that reflected a list reflects,
-//! after an arrival that was answered, that list with the arrival. `OkForStoreEvents` is the same
-//! for every list that the desk's store reflected, even where what the desk remembers is wrong. `IsUnchangedDesk` says that a call changed nothing. What one event changes is one
-//! change of the store, whole or not at all (`IsWhole`): after an `Err` the desk reflects the list
-//! as it was. So an arrival that was refused by `S1` (the store failed), `S2` (out of memory), `S4`
+//! after an arrival that was answered, that list with the arrival. `IsUnchangedDesk` says that a
+//! call changed nothing. What one event changes is one change of the store, whole or not at all
+//! (`IsWhole`): after an `Err` the desk reflects the list as it was. So an arrival that was refused by `S1` (the store failed), `S2` (out of memory), `S4`
 //! (there are 1,000,000,000 receipts) or `S5` (1,024 bodies are parked) is as one that never came,
 //! and runs compose, whatever came before them and however they were cut.
 //!
@@ -160,10 +160,9 @@
 //!
 //! [`Reads::end`] reads the body of the chain's last step, and parses its envelope alone, no row.
 //!
-//! [`Desk::tables`] holds all objects in memory. A [`Walk`] by a desk holds a page of 256 at most,
-//! and reads each page by a look-up in the index; one by a reader holds all keys, and reads each
-//! object twice, once for its key. While it exists it borrows the desk or the reader, so nothing
-//! arrives in between.
+//! A [`Walk`] by a desk holds a page of 256 objects at most, and reads each page by a look-up in
+//! the index; one by a reader holds all keys, and reads each object twice, once for its key. While
+//! it exists it borrows the desk or the reader, so nothing arrives in between.
 #![tactic(auto)]
 
 mod amendment;

@@ -7,7 +7,6 @@ use Rattle.esc_tables.specs.Reading.{reading}
 use Rattle.esc_chain.specs.Chain.{IsLatestChainAt}
 use Rattle.esc_apply.specs.Registry.{ObjectsByKey, IsEntriesOf}
 use Rattle.esc_apply.specs.Tables.{tables}
-use Rattle.esc_events.specs.Apart.{WhereApart}
 use Rattle.esc_events.specs.Events.{EventValue, union, last_moment}
 use Rattle.esc_events.specs.StateAfter.{deposits_of, held_rows, held_body}
 
@@ -26,6 +25,3 @@ module _ (e : List EventValue) where
     pub chain : List ℕ
     pub latest : IsChainOf chain
     pub objects : IsEntriesOf (tables_of_chain chain) entries
-
-  abbrev pub AreTables : List (KeyName × ObjectValue) → Type 0
-  AreTables entries = WhereApart e (AreEntries entries)

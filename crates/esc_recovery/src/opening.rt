@@ -32,7 +32,8 @@ pub fn new_desk<S: Alter>(
 ) -> Result<Desk<S>, (StoreFault, Connection<S>)>
     ensures made { IfOk result
         (λ desk. IsNewOn S.Store (state S.Store connection) desk manifest.now) }
-    ensures refused { IfErr result (λ e. e.0 ≡ StoreFault.NotAStore → HasCleanDisk (state S.Store e.1)
+    ensures refused { IfErr result (λ e. e.0 ≡ StoreFault.NotAStore
+        → HasCleanDisk (state S.Store e.1)
         → IsTrue (state S.Store e.1).is_open → IsBlank (state S.Store connection).now → ⊥) }
     ensures crash { MatchResult result
         (λ desk. DeskLeavesBlankOr S.Store connection desk (fresh manifest.now))

@@ -9,7 +9,7 @@ pub use Rattle.esc_sql.proofs.DecodeLemmas.{reads_back, reads_each, reads_number
 pub use Rattle.esc_sql.proofs.EndLemmas.{rollback_ends, rollback_keeps, rollback_undoes, rollback_commits_none, begin_ends, begin_shows, begin_keeps, begin_commits_none, commit_shows, commit_leaves, commit_ends, fails_keeps}
 pub use Rattle.esc_sql.proofs.Forms.{opens_first, opens_store}
 pub use Rattle.esc_sql.proofs.ObjectLemmas.{finds_object, clears_objects, removes_object, inserts_objects, update_part, adds_object, puts_set, puts_new}
-pub use Rattle.esc_sql.proofs.ObjectLists.{lists_objects, shows_kinds, shows_objects, lists_kinds, shows_from, lists_from}
+pub use Rattle.esc_sql.proofs.ObjectLists.{shows_kinds, lists_kinds, shows_from, lists_from}
 pub use Rattle.esc_sql.proofs.ParkedLemmas.{finds_moment, clears_moment, moment_is, sets_moment, shows_digests, finds_parked, removes_parked, puts_parked, lists_parked}
 pub use Rattle.esc_sql.proofs.PartLemmas.{parts, part_as, then_part, tells, makes, read_part, read_then, refused}
 pub use Rattle.esc_sql.proofs.ReceiptLemmas.{shows_verdict_digests, shows_last, finds_receipt, shows_receipts, shows_rows, adds_receipt, last_is, none_is, lists_rows}

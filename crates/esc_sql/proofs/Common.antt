@@ -79,7 +79,7 @@ pub use Rattle.esc_sql.specs.StatementSteps.{ShowsVersion, CountsObject, shown_o
 pub use Rattle.esc_sql.specs.StoreTable.{StoreTable, tree_of, stored_row, Listed, Receipts, Held, Steps, Objects, Undo, Parked, Moment, RowOf, schema_table, table_index, row_number, row_columns}
 pub use Rattle.esc_sql.specs.Texts.{insert_info_text, raise_version_text, select_version_text, insert_listed_text, select_listed_text, insert_receipt_text, find_receipt_text, select_receipts_text, last_receipt_text, verdict_rows_text}
 pub use Rattle.esc_sql.specs.Texts.{verdict_digests_text, insert_held_text, find_body_text, clear_steps_from_text, insert_step_text, select_steps_text, insert_object_text, insert_objects_text, update_object_text, delete_object_text}
-pub use Rattle.esc_sql.specs.Texts.{clear_objects_text, find_object_text, select_objects_text, objects_from_text, select_kinds_text, insert_undo_text, insert_images_text, select_undo_text, delete_undo_text, clear_undo_text}
+pub use Rattle.esc_sql.specs.Texts.{clear_objects_text, find_object_text, objects_from_text, select_kinds_text, insert_undo_text, insert_images_text, select_undo_text, delete_undo_text, clear_undo_text}
 pub use Rattle.esc_sql.specs.Texts.{insert_parked_text, find_parked_text, parked_digests_text, delete_parked_text, clear_moment_text, insert_moment_text, find_moment_text}
 pub use Rattle.esc_sql.specs.declared.object.TheConstants.{ROWS_AT_ONCE}
 unfoldable pub use Rattle.sqlite_value.specs.Keys.{first_key}

@@ -126,7 +126,6 @@ queries =
     ∷ (texts.find_body_text, scan held_tree (equals (col 1 0) (col 0 0) ∷ []) (shown (2 ∷ [])) [] no_limit)
     ∷ (texts.select_steps_text, scan step_tree [] (shown (0 ∷ 2 ∷ [])) (up (col 1 0) ∷ []) no_limit)
     ∷ (texts.find_object_text, scan object_tree object_tests (shown (3 ∷ [])) [] no_limit)
-    ∷ (texts.select_objects_text, scan object_tree [] (shown (1 ∷ 2 ∷ 3 ∷ [])) (up (col 1 1) ∷ up (col 1 2) ∷ []) no_limit)
     ∷ (texts.objects_from_text, scan object_tree (is_of 1 ∷ from (col 1 2) (col 0 1) ∷ []) (shown (1 ∷ 2 ∷ 3 ∷ [])) (up (col 1 1) ∷ up (col 1 2) ∷ []) (pos 256))
     ∷ (texts.select_kinds_text, scan object_tree [] (shown (1 ∷ [])) (up (col 1 1) ∷ up (col 1 2) ∷ []) no_limit)
     ∷ (texts.select_undo_text, scan undo_tree undo_tests (shown (2 ∷ 3 ∷ 4 ∷ [])) (up (col 1 2) ∷ up (col 1 3) ∷ []) no_limit)

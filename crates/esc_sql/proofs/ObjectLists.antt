@@ -2,9 +2,9 @@
 use Rattle.esc_sql.proofs.Common.{◌≡◌, ℕ, pos, true, false, List, [], ◌∷◌, refl, arith, filter, ◌≤◌, map, take, length, Option, None, sym, ap, subst, ◌∙◌, Bool, cond, ◌&&◌, option_map, find, Less, Equal, is_eq, ◌==◌, and_parts}
 use Rattle.esc_sql.proofs.Common.{nat_cmp_total, length-map, length_permutation, IsTotalOrder, AllByRecursion, last_or, ordering_then, Database, IsAscending, filter_same, all_weaker, IsPermutation-filter, ascending_weaker}
 use Rattle.esc_sql.proofs.Common.{ascending-filter, filter-map, ascending-map, IsPermutation-sort_by, sort_by, Row, value_cmp, Int, Blob, ObjectEntry, is_entry_at, object_entry, by_key, entry_at, is_kind_from, HoldsContent, Content}
-use Rattle.esc_sql.proofs.Common.{object_at, is_object_at, ObjectRow, shown_object, shown_kind, Objects, select_objects_text, objects_from_text, select_kinds_text, Ordering, eqb-true}
-use Rattle.esc_sql.specs.Changes.{ListsObjects, ListsKinds, by_entry, is_from, last_key, is_up_to, ListsFrom}
-use Rattle.esc_sql.specs.StatementSteps.{ShowsObjects, ShowsKinds, ShowsFrom}
+use Rattle.esc_sql.proofs.Common.{object_at, is_object_at, ObjectRow, shown_object, shown_kind, Objects, objects_from_text, select_kinds_text, Ordering, eqb-true}
+use Rattle.esc_sql.specs.Changes.{ListsKinds, by_entry, is_from, last_key, is_up_to, ListsFrom}
+use Rattle.esc_sql.specs.StatementSteps.{ShowsKinds, ShowsFrom}
 use Rattle.esc_sql.proofs.Compiled.{query_is}
 use Rattle.esc_sql.proofs.Finds.{find_same, found-map, few, found-and, filter-and, find-filter}
 use Rattle.esc_sql.proofs.Sorts.{find-sorted, key_eq, both_total, both_values, all-take, ascending-take, all_passed, all-sorted, rises-sorted, is_at, reaches, firsts_find}
@@ -40,15 +40,6 @@ objects_found : (p : ObjectRow → Bool) (k : ℕ) (q : List ℕ) (e : Bool) →
     → entry_at k q (map object_entry (sort_by by_key (filter p c.objects))) ≡ cond e (object_at k q c.objects) None
 objects_found p k q e same db c h =
     sorted_found (λ (e : ObjectEntry). e.bytes) (is_entry_at k q) object_entry by_key key_total p c.objects (few object_keys p (k, q) db c h) ∙ found-and (λ o. o.bytes) p (is_object_at k q) e same c.objects
-
-pub shows_objects : IsAsking select_objects_text [] ShowsObjects
-shows_objects = asks_sorted Objects (λ o. (sorted_by o, shown_object o)) (query_is refl) every (λ o. refl) by_key key_total (λ a b. key_values a b) apart
-
-pub lists_objects : (db : Database) (c : Content) (found : List ObjectEntry) → HoldsContent db c → found ≡ map object_entry (sort_by by_key c.objects) → ListsObjects c found
-lists_objects db c found h is = record {
-  sorted = is;
-  same = λ k q. ap (entry_at k q) (is ∙ ap (λ os. map object_entry (sort_by by_key os)) (sym (every c.objects))) ∙ objects_found (λ _. true) k q true (λ o is. refl) db c h;
-}
 
 pub shows_kinds : IsAsking select_kinds_text [] ShowsKinds
 shows_kinds = asks_sorted Objects (λ o. (sorted_by o, shown_kind o)) (query_is refl) every (λ o. refl) by_key key_total (λ a b. key_values a b) apart

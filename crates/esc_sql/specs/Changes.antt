@@ -91,11 +91,6 @@ PutsObjects es old new =
     → (os : List ObjectRow) × HoldsContent new (record c { objects = os })
     × GainsObjects es c.objects os
 
--- the objects in the order of kinds and keys: each key once, with its record
-pub record ListsObjects (c : Content) (found : List ObjectEntry) : Type 0 where
-  pub sorted : found ≡ map object_entry (sort_by by_key c.objects)
-  pub same : (k : ℕ) (q : List ℕ) → entry_at k q found ≡ object_at k q c.objects
-
 -- a key is these bytes or comes after them
 abbrev pub is_from : List ℕ → List ℕ → Bool
 is_from from key = is_ge (slice_cmp nat_cmp key from)

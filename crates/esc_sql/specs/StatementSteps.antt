@@ -43,9 +43,6 @@ ShowsObject kind key c rows = rows
 abbrev pub shown_object : ObjectRow → Row
 shown_object o = Int (pos o.kind) ∷ Blob o.key ∷ Blob o.bytes ∷ []
 
-abbrev pub ShowsObjects : Content → List Row → Type 0
-ShowsObjects c rows = rows ≡ map shown_object (sort_by by_key c.objects)
-
 abbrev pub ShowsFrom : ℕ → List ℕ → Content → List Row → Type 0
 ShowsFrom kind from c rows = rows
     ≡ take 256 (map shown_object (sort_by by_key (filter (is_kind_from kind from) c.objects)))

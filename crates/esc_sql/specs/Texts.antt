@@ -89,9 +89,6 @@ clear_objects_text = codes "DELETE FROM object"
 abbrev pub find_object_text : List ℕ
 find_object_text = codes "SELECT record FROM object WHERE kind = ?1 AND key = ?2"
 
-abbrev pub select_objects_text : List ℕ
-select_objects_text = codes "SELECT kind, key, record FROM object ORDER BY kind, key"
-
 abbrev pub objects_from_text : List ℕ
 objects_from_text
     = codes "SELECT kind, key, record FROM object WHERE kind = ?1 AND key >= ?2 ORDER BY kind, key LIMIT 256"

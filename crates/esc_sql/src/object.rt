@@ -7,10 +7,10 @@ ghost use Rattle.sqlite.specs.Values.{bound};
 ghost use Rattle.esc_sql.specs.Part.{IsPart, IsRead};
 ghost use Rattle.esc_sql.specs.Content.{object_at};
 ghost use Rattle.esc_sql.specs.Changes.{Becomes, Tells, AddsObject, PutsObject, PutsObjects};
-ghost use Rattle.esc_sql.specs.Changes.{RemovesObject, without_objects, ObjectEntry, ListsObjects};
+ghost use Rattle.esc_sql.specs.Changes.{RemovesObject, without_objects, ObjectEntry};
 ghost use Rattle.esc_sql.specs.Changes.{ListsKinds};
 ghost use Rattle.esc_sql.specs.Entries.{stored_entry, new_entry, shown_entry};
-ghost use Rattle.esc_sql.specs.StatementSteps.{ShowsObject, ShowsObjects, ShowsKinds};
+ghost use Rattle.esc_sql.specs.StatementSteps.{ShowsObject, ShowsKinds};
 
 use crate::reader::{FromRow, read_rows};
 use crate::within::{count_within, write_within};
@@ -165,16 +165,6 @@ pub fn find_object<S: Alter>(
     }
 }
 
-fn ask_objects<S: Alter>(conn: &mut Connection<S>) -> Result<Vec<Row>, Error>
-    ensures read { IsRead (state S.Store conn.old) (state S.Store conn.new)
-        (λ db rows. Tells ShowsObjects db rows.items) result }
-{
-    conn.query_all(
-        "SELECT kind, key, record FROM object ORDER BY kind, key",
-        &[],
-    )
-}
-
 fn ask_kinds<S: Alter>(conn: &mut Connection<S>) -> Result<Vec<Row>, Error>
     ensures read { IsRead (state S.Store conn.old) (state S.Store conn.new)
         (λ db rows. Tells ShowsKinds db rows.items) result }
@@ -192,18 +182,6 @@ impl FromRow for StoredObject {
             record: row.get(2)?,
         })
     }
-}
-
-/// All objects, by kind and then by the bytes of the key.
-pub fn all_objects<S: Alter>(
-    alloc: Global,
-    conn: &mut Connection<S>,
-) -> Result<Vec<StoredObject>, Error>
-    ensures read { IsRead (state S.Store conn.old) (state S.Store conn.new)
-        (Tells (λ c found. ListsObjects c (map stored_entry found.items))) result }
-{
-    let rows = ask_objects(conn)?;
-    read_rows(alloc, &rows)
 }
 
 /// The kind of each object, in ascending order: from these the objects of each kind are counted.

@@ -50,7 +50,7 @@ pub use Rattle.esc_sql.specs.declared.object.NewObject.{NewObject}
 pub use Rattle.esc_sql.specs.declared.receipt.Receipt.{Receipt}
 pub use Rattle.esc_sql.specs.declared.step.ChainStep.{ChainStep}
 pub use Rattle.esc_store.specs.ChangeParts.{ContinuesSteps}
-pub use Rattle.esc_store.specs.Decoded.{tallies, AreObjectsOf, AreImagesOf, AreOnce}
+pub use Rattle.esc_store.specs.Decoded.{tallies, AreImagesOf, AreOnce}
 pub use Rattle.esc_store.specs.Filling.{after_filling, after_noting, image_now, AreFree}
 pub use Rattle.esc_store.specs.FirstVersion.{IsFirstDatabase}
 pub use Rattle.esc_store.specs.StoreState.{AreCounts, step_at, StoreState, fresh, with_listed, with_parked, AreParked, with_body}

@@ -1,11 +1,8 @@
 -- From rows of tables to objects and before-images by their keys.
-use Rattle.esc_store.proofs.Common.{cases_Bool, inl, inr, ◌≡◌, ℕ, Bool, cond, List, [], ◌∷◌, ◌++◌, Option, None, Some, refl, sym, ap, subst, ◌∙◌, ◌==◌, ◌&&◌, bytes_eq, find, option_map, IsSome, IfSome, lookup, keys_of, option_and_then, option_or, same_key}
-use Rattle.esc_store.proofs.Common.{kind_rank, KeyName, key_eq, ObjectValue, record_of, State, Content, ObjectEntry, AreObjectsOf, IsRegistry}
+use Rattle.esc_store.proofs.Common.{cases_Bool, inl, inr, ◌≡◌, ℕ, Bool, cond, List, [], ◌∷◌, ◌++◌, Option, None, Some, refl, sym, ap, subst, ◌∙◌, ◌==◌, ◌&&◌, bytes_eq, find, option_map, IsSome, IfSome, lookup, option_and_then, option_or, same_key}
+use Rattle.esc_store.proofs.Common.{kind_rank, KeyName, key_eq, ObjectValue, record_of}
 use Rattle.sqlite.proofs.StateLemmas.{at_each}
-use Rattle.std.specs.List.{IsDistinct}
 use Rattle.std.proofs.lemmas.List.Folds.{find-append}
-use Rattle.esc_apply.specs.Registry.{IsEntriesOf}
-use Rattle.esc_sql.specs.Changes.{ListsObjects}
 pub use Rattle.esc_store.proofs.Registries.{record_here}
 use Rattle.esc_store.proofs.Registries.{same_tests, AreAlone, one_object}
 
@@ -52,12 +49,6 @@ same_records alone (Some x) (Some y) e has = by_record (record_of y) refl e wher
   by_record : (o : Option (List ℕ)) → record_of y ≡ o → Some (record_of x) ≡ option_map (λ bytes. Some bytes) o → Some x ≡ Some y
   by_record None is e = absurd cc
   by_record (Some bytes) is e = one_object alone x bytes (Some y) (cc) (sym is)
-
-pub tables_are : AreAlone → (s : State) (c : Content) (rows : List ObjectEntry) (es : List (KeyName × ObjectValue)) → IsRegistry c s → ListsObjects c rows → IsDistinct key_eq (keys_of es) → AreObjectsOf rows es → IsEntriesOf s.content es
-tables_are alone s c rows es it lists once each = record {
-  once = once;
-  each = λ q. same_records alone (lookup (key_eq q) es) (s.content q) (each q ∙ ap (option_map (λ bytes. Some bytes)) (lists.same (kind_rank q.kind) q.text ∙ (it.objects (kind_rank q.kind) q.text ∙ record_here s.content q))) (it.recorded q);
-}
 
 -- ---- before-images
 

@@ -11,18 +11,13 @@ use Rattle.esc_tables.specs.KeyName.{KeyName, key_eq}
 use Rattle.esc_tables.specs.ObjectValue.{ObjectValue}
 use Rattle.esc_record.specs.Record.{record_of}
 use Rattle.esc_apply.specs.Registry.{State}
-use Rattle.esc_sql.specs.Changes.{ObjectEntry, ImageEntry, entry_at, image_entry_at}
+use Rattle.esc_sql.specs.Changes.{ImageEntry, image_entry_at}
 use Rattle.esc_sql.specs.Rows.{ReceiptRow}
 use Rattle.esc_store.specs.declared.counts.KindCounts.{KindCounts}
 use Rattle.esc_store.specs.declared.reply.Verdict.TheVariants.{A1, A2, A5}
 use Rattle.esc_store.specs.StoreState.{IsRising}
 use Rattle.esc_store.specs.ReplyValue.{ReceiptValue}
 use Rattle.esc_store.specs.TypedRows.{image_kept, verdict_number}
-
--- exactly the keys of the rows have an object, and its record is the row's
-abbrev pub AreObjectsOf : List ObjectEntry → List (KeyName × ObjectValue) → Type 0
-AreObjectsOf rows objects = (q : KeyName) → option_map record_of (lookup (key_eq q) objects)
-    ≡ option_map (λ bytes. Some bytes) (entry_at (kind_rank q.kind) q.text rows)
 
 -- exactly the keys of the rows have a before-image: an object, whose record is the row's, or none,
 -- if the row has no record

@@ -44,7 +44,8 @@ impl<'a, S: Alter> Change<'a, S> {
             → (before k : StoreState)
             → HasMadeBooks S.Store self.old before k → n ≡ length k.receipts + 1) }
         ensures room { IfOk result (λ n. n ≤ MOST_RECEIPTS) }
-        ensures full { IfErr result (λ e. e ≡ StoreFault.NoRoom → IsHonest S.Store (store_in self.new)
+        ensures full { IfErr result (λ e. e ≡ StoreFault.NoRoom
+            → IsHonest S.Store (store_in self.new)
             → (before k : StoreState) → HasMadeBooks S.Store self.old before k
             → MOST_RECEIPTS ≤ length k.receipts) }
         ensures cause { IfErr result IsReceiptFault }

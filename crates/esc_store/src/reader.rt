@@ -78,7 +78,8 @@ fn test_version<S: Store>(alloc: Global, trees: &mut S) -> Result<(), StoreFault
     ensures read { IsScan S.Store trees.old trees.new (λ _ _. ⊤) result }
     ensures version { OnOk result (AreHonest S.Store trees.new
         → AreOfVersion (S.Store.view trees.old).trees) }
-    ensures never { IfErr result (λ fault. fault ≡ StoreFault.NotAStore → AreHonest S.Store trees.new
+    ensures never { IfErr result (λ fault. fault ≡ StoreFault.NotAStore
+        → AreHonest S.Store trees.new
         → (k : StoreState) → AreReadAs (S.Store.view trees.old).trees k → ⊥) }
     ensures cause { IfErr result IsOpenFault }
 {
@@ -95,7 +96,8 @@ fn read_manifest<S: Store>(alloc: Global, trees: &mut S) -> Result<Manifest, Sto
         result }
     ensures version { OnOk result (AreHonest S.Store trees.new
         → AreOfVersion (S.Store.view trees.old).trees) }
-    ensures never { IfErr result (λ fault. fault ≡ StoreFault.NotAStore → AreHonest S.Store trees.new
+    ensures never { IfErr result (λ fault. fault ≡ StoreFault.NotAStore
+        → AreHonest S.Store trees.new
         → (k : StoreState) → AreReadAs (S.Store.view trees.old).trees k → ⊥) }
     ensures cause { IfErr result IsOpenFault }
 {

@@ -1,7 +1,6 @@
 //! What a store returns of what it keeps.
 
 ghost use Rattle.std.specs.Prelude.{◌≡◌, ◌≤◌, length, IfOk, IfErr, option_map};
-ghost use Rattle.esc_apply.specs.Registry.{IsEntriesOf};
 ghost use Rattle.esc_store.specs.Faults.{IsFailure};
 ghost use Rattle.esc_store.specs.StoreState.{StoreState, kept_replies, kept_reply, kept_chain};
 ghost use Rattle.esc_store.specs.StoreState.{AreHeldBy, AreUnlisted, AreCounts};
@@ -10,7 +9,7 @@ ghost use Rattle.esc_store.specs.TypedRows.{verdict_number};
 ghost use Rattle.esc_store.specs.Pages.{IsPage};
 ghost use Rattle.esc_store.specs.Representation.{Represents, IsHonest, IsAsBefore};
 
-use crate::codec::object::{entries_of, kind_number, objects_of};
+use crate::codec::object::{entries_of, kind_number};
 use crate::codec::receipt::{distinct_indices_of, replies_of, reply_found, verdict_number};
 use crate::codec::small;
 use crate::codec::step::steps_of;
@@ -195,20 +194,6 @@ impl<S: Alter> Store<S> {
         let copy = Vec::from_slice(alloc, &steps)?;
         self.remembered.chain = Some(copy);
         Ok(steps)
-    }
-
-    /// The objects of the chain's tables, by their keys. `S1`, `S2`.
-    #[tactic(auto, using(crate::proofs::Sure::as_before))]
-    pub fn tables(&mut self, alloc: Global) -> Result<BTreeMap<Key, Object>, StoreFault>
-        ensures same { IsAsBefore S.Store self.old self.new }
-        ensures objects { IsHonest S.Store self.new → (k : StoreState)
-            → Represents S.Store self.old k
-            → IfOk result (λ tables. IsEntriesOf k.registry.content tables.entries) }
-        ensures cause { IfErr result IsFailure }
-    {
-        no_record_begins_another();
-        let stored = self.objects_here(alloc)?;
-        objects_of(alloc, stored.as_slice())
     }
 
     /// A page: the first objects of a kind whose keys are not below these bytes, in the order of

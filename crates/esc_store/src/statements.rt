@@ -4,7 +4,7 @@
 
 ghost use Rattle.std.specs.Prelude.{◌≡◌, map, option_map, IfErr};
 ghost use Rattle.sqlite.specs.Held.{state};
-ghost use Rattle.esc_sql.specs.Changes.{Becomes, steps_before, AddsReceipt, AddsStep, ListsObjects};
+ghost use Rattle.esc_sql.specs.Changes.{Becomes, steps_before, AddsReceipt, AddsStep};
 ghost use Rattle.esc_sql.specs.Changes.{ListsFrom, ListsKinds, ListsRows, verdict_digests};
 ghost use Rattle.esc_sql.specs.Changes.{last_number, receipt_of, body_of};
 ghost use Rattle.esc_sql.specs.Entries.{receipt_row, step_row, stored_entry};
@@ -14,7 +14,7 @@ ghost use Rattle.esc_store.specs.Representation.{IsStep, IsStoreRead};
 use crate::fault::StoreFault;
 use crate::store::Store;
 use esc_sql::held::find_body;
-use esc_sql::object::{StoredObject, all_objects, object_kinds};
+use esc_sql::object::{StoredObject, object_kinds};
 use esc_sql::page::objects_from;
 use esc_sql::receipt::{
     Receipt, all_receipts, digests_of_verdict, find_receipt, insert_receipt, last_receipt,
@@ -129,16 +129,6 @@ impl<S: Alter> Store<S> {
         ensures cause { IfErr result IsFailure }
     {
         let found = all_steps(alloc, &mut self.conn);
-        self.settle(found)
-    }
-
-    // All records.
-    pub(crate) fn objects_here(&mut self, alloc: Global) -> Result<Vec<StoredObject>, StoreFault>
-        ensures read { IsStoreRead S.Store self.old self.new
-            (λ c found. ListsObjects c (map stored_entry found.items)) result }
-        ensures cause { IfErr result IsFailure }
-    {
-        let found = all_objects(alloc, &mut self.conn);
         self.settle(found)
     }
 

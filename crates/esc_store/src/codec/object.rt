@@ -7,8 +7,7 @@ ghost use Rattle.esc_envelope.specs.Kinds.{kind_rank};
 ghost use Rattle.esc_record.specs.Record.{record_of};
 ghost use Rattle.esc_sql.specs.Entries.{stored_image, stored_entry};
 ghost use Rattle.esc_store.specs.Faults.{IsFailure};
-ghost use Rattle.esc_store.specs.Decoded.{AreObjectsOf, AreImagesOf};
-ghost use Rattle.std.specs.List.{IsDistinct};
+ghost use Rattle.esc_store.specs.Decoded.{AreImagesOf};
 ghost use Rattle.std.specs.List.Sorted.{IsStrictlySortedBy};
 ghost use Rattle.std.specs.Map.{lookup, keys_of};
 ghost use Rattle.std.specs.BTreeMap.{IsOrdered};
@@ -121,39 +120,6 @@ fn add_new<X: Drop>(all: &mut BTreeMap<Key, X>, key: Key, value: X) -> Result<()
         Ok(Some(_)) => Err(FOREIGN),
         Err(_) => Err(StoreFault::NoMemory),
     }
-}
-
-// Adds the object of a row.
-fn add_object(
-    alloc: Global,
-    objects: &mut BTreeMap<Key, Object>,
-    stored: &StoredObject,
-) -> Result<(), StoreFault>
-    ensures added { OnOk result ((rows : _) → AreObjectsOf rows objects.old.entries
-        → AreObjectsOf (rows ++ stored_entry stored.now ∷ []) objects.new.entries) }
-    ensures ordered { OnOk result (IsOrdered key_cmp objects.new) }
-    ensures cause { IfErr result IsFailure }
-{
-    let key = key_of(alloc, stored.kind, stored.key.as_slice())?;
-    let object = record_object(alloc, stored.record.as_slice())?;
-    add_new(objects, key, object)
-}
-
-// The objects of all rows of the table of objects. `S1` if a row is no object's; `S2`.
-pub(crate) fn objects_of(
-    alloc: Global,
-    stored: &[StoredObject],
-) -> Result<BTreeMap<Key, Object>, StoreFault>
-    ensures once { IfOk result (λ objects. IsDistinct key_eq (keys_of objects.entries)) }
-    ensures each { IfOk result
-        (λ objects. AreObjectsOf (map stored_entry stored.now) objects.entries) }
-    ensures cause { IfErr result IsFailure }
-{
-    let mut objects = BTreeMap::new(alloc);
-    for at in 0..stored.len() {
-        add_object(alloc, &mut objects, &stored[at])?;
-    }
-    Ok(objects)
 }
 
 // The key and the object of a row.
