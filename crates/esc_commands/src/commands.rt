@@ -9,7 +9,7 @@ use esc_arguments::{
 use esc_cli::USAGE;
 use esc_desk::{Cause, Desk, StoreFault};
 use esc_recovery::{
-    PathFault, StoreAt, close_desk, migrated_desk_at, new_desk_at, open_desk_at, reader_at,
+    PathFault, close_desk, migrated_desk_at, new_desk_at, open_desk_at, reader_at,
 };
 use esc_reports::Report;
 use sqlite::{File, FileStore, Unknown};
@@ -70,23 +70,15 @@ where
     // a desk.
     fn use_store(&mut self, path: &str, command: &Command<'_>) -> Result<Ended, Stop> {
         match command {
-            Command::Report(report) => self.read_store(path, command, *report),
+            Command::Report(report) => self.read_store(path, *report),
             _ => self.use_desk_at(path, command),
         }
     }
 
-    // Makes a report of the store at a path, which is opened by its trees, and not closed: nothing
-    // was written. Files that aren't opened so are the desk's.
-    fn read_store(
-        &mut self,
-        path: &str,
-        command: &Command<'_>,
-        report: Report,
-    ) -> Result<Ended, Stop> {
-        let alloc = self.rt.alloc();
+    // Makes a report of the store at a path, which is not closed: nothing was written.
+    fn read_store(&mut self, path: &str, report: Report) -> Result<Ended, Stop> {
         match reader_at(self.rt, path, Unknown) {
-            Ok(StoreAt::Reader(mut reader)) => read_report(alloc, &mut reader, report),
-            Ok(StoreAt::Desk(desk)) => self.finish_desk(desk, command, Vec::new(alloc)),
+            Ok(mut reader) => read_report(self.rt.alloc(), &mut reader, report),
             Err(fault) => Err(stop_of(self.rt, path, fault)),
         }
     }

@@ -31,7 +31,7 @@ where
             Command::Init { .. } | Command::Migrate => Ok(Ended::done(line)),
             Command::Amend { text } => amend(alloc, desk, text),
             Command::AsOf { moment } => move_to(alloc, desk, *moment),
-            // The same text as that of a reader, where the files are opened by a desk alone.
+            // A desk makes the same text as a reader.
             Command::Report(what) => read_report(alloc, desk, *what),
             Command::Take { folder } => {
                 let status = self.take_folder(desk, *folder)?;

@@ -1,18 +1,16 @@
--- What the trees of two files are read as, and what files hold that were opened by none.
+-- What the trees of two files are read as.
 use Rattle.std.proofs.Common.{List}
 use Rattle.std.proofs.Math.Logic.{∥∥₁_map}
 use Rattle.sqlite_trees.specs.declared.store.Store.{Ghosts}
 use Rattle.sqlite_trees.specs.Tree.{Trees}
 use Rattle.sqlite_wal.specs.Recovery.{Image}
 use Rattle.sqlite.specs.Files.{HoldsDatabase}
-use Rattle.esc_scan.specs.Opening.{IsHeldBy, ReadsStore}
+use Rattle.esc_scan.specs.Opening.{ReadsStore}
 use Rattle.esc_store.specs.ReadingLaws.{are_read_as}
 use Rattle.esc_events.specs.Events.{EventValue}
-use Rattle.esc_desk.specs.declared.desk.Desk.{Desk}
 use Rattle.esc_store.specs.declared.reader.StoreReader.{StoreReader}
 use Rattle.esc_desk.specs.Crashes.{IsStoreFor}
 use Rattle.esc_desk.specs.Readers.{ReaderReflects}
-use Rattle.esc_recovery.specs.FileImages.{IsOpenedFrom}
 use Rattle.esc_recovery.specs.ReadImages.{AreReadFor, IsReaderFrom}
 use Rattle.esc_recovery.proofs.Founds.{pick}
 
@@ -31,12 +29,4 @@ reader_from g image trees reader reads reflects = record {
   found = λ e doubtful one. ∥∥₁_map one (λ it.
       let found = pick it.0 e doubtful it.2 in
       (found.0, found.1, reflects found.0 (read_for image trees reads it.0 ∣ it.1 ∣₁ found.0 found.2)));
-}
-
--- a desk over files that hold what others held is over the store of these
-pub opened_by : {S : Type 0} (g : Ghosts S) (old new : Image) (desk : Desk S) → IsHeldBy old new → IsOpenedFrom g new desk → IsOpenedFrom g old desk
-opened_by g old new desk held from = record {
-  serves = λ e it. from.serves e (it.0, ∥∥₁_map it.1 (held it.0), it.2);
-  found = λ e doubtful one. from.found e doubtful (∥∥₁_map one (λ it. (it.0, held it.0 it.1, it.2)));
-  version = λ trees is. from.version trees (∥∥₁_map is (held trees));
 }

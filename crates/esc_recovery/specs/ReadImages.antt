@@ -1,22 +1,17 @@
 -- What is read, without SQL, of the store that two files hold.
 use Rattle.std.specs.Prelude.{List}
 use Rattle.sha2.specs.Sha256.{sha256}
-use Rattle.sqlite_disk.specs.declared.Disk as disk
 use Rattle.sqlite_wal.specs.Recovery.{Image}
 use Rattle.sqlite_trees.specs.declared.store.Store.{Ghosts}
 use Rattle.sqlite_trees.specs.Tree.{Trees}
-use Rattle.sqlite.specs.Files.{over_files}
 use Rattle.esc_tables.specs.Reading.{reading}
-use Rattle.esc_store.specs.Reading.{AreReadAs, IsHonestReader}
+use Rattle.esc_store.specs.Reading.{AreReadAs}
 use Rattle.esc_store.specs.StoreState.{StoreState}
 use Rattle.esc_events.specs.Events.{EventValue}
 use Rattle.esc_events.specs.StateAfter.{IsStateAfter}
 use Rattle.esc_store.specs.declared.reader.StoreReader.{StoreReader}
-use Rattle.esc_desk.specs.Calls.{IsHonestDesk}
 use Rattle.esc_desk.specs.Readers.{ReaderReflects}
-use Rattle.esc_recovery.specs.declared.reading.StoreAt.{StoreAt}
-use Rattle.esc_recovery.specs.declared.reading.StoreAt.TheVariants as store_at
-use Rattle.esc_recovery.specs.FileImages.{HoldsOneOf, HoldsStoreFor, IsOneOf, IsOpenedFrom}
+use Rattle.esc_recovery.specs.FileImages.{HoldsOneOf, HoldsStoreFor, IsOneOf}
 
 -- trees are read as a store that stands for this list of events
 pub record AreReadFor (trees : Trees) (e : List EventValue) : Type 0 where
@@ -37,14 +32,3 @@ pub record IsReaderFrom {S : Type 0} (g : Ghosts S) (image : Image) (reader : St
   pub serves : (e : List EventValue) → HoldsStoreFor image e → ReaderReflects g reader e
   pub found : (e doubtful : List EventValue) → HoldsOneOf image e doubtful
       → ReflectsOneOf g reader e doubtful
-
-module _ {D : Type 0} {g : disk.Ghosts D} where
-  -- the disk gave back what was written to it
-  abbrev pub IsHonestStore : StoreAt D g → Type 0
-  IsHonestStore (store_at.Reader reader) = IsHonestReader over_files reader
-  IsHonestStore (store_at.Desk desk) = IsHonestDesk over_files desk
-
-  -- what was opened is over the store that the two files hold
-  abbrev pub IsStoreFrom : Image → StoreAt D g → Type 0
-  IsStoreFrom image (store_at.Reader reader) = IsReaderFrom over_files image reader
-  IsStoreFrom image (store_at.Desk desk) = IsOpenedFrom over_files image desk

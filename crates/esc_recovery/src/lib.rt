@@ -10,10 +10,9 @@
 //! - [`new_desk_at`] makes a store of a manifest in the files at a path, [`open_desk_at`] opens
 //!   that of the files at a path, and [`migrated_desk_at`] one of version 1; each gives the desk
 //!   over it, or the [`PathFault`]. The last two make no file.
-//! - [`reader_at`] opens the store of the files at a path for what reads alone ([`StoreAt`]). A
-//!   reader goes over the store's trees, without SQL, once their version was tested; another row is
-//!   tested where it is read. Files that aren't opened by trees are opened as [`open_desk_at`]
-//!   does. It makes no file.
+//! - [`reader_at`] gives a reader of the store of the files at a path. A reader goes over the
+//!   store's trees, without SQL, once their version was tested; another row is tested where it is
+//!   read. It makes no file.
 //! - [`close_desk`] copies what is still in the log into the database, and gives the files.
 //!
 //! Over any connection or disk, for instance one that fails from some call on:
@@ -66,8 +65,7 @@
 //!    and one of those in doubt, and none is in doubt any more (`ServesOneOf`). What is opened has
 //!    the nine tables and version 2. `migrated_desk_at` says the same of files that hold a store of
 //!    version 1 (`IsMigratedFrom`). `reopen_desk`: the desk reflects what it reflected before, and
-//!    none is in doubt. `reader_at` says of a reader that it reflects the same list as a desk would
-//!    (`IsReaderFrom`), and of a desk what `open_desk_at` says (`IsStoreFrom`).
+//!    none is in doubt. A reader of `reader_at` reflects the same list as a desk would (`IsReaderFrom`).
 //!
 //! From there on `Desk::arrive` promises that a duplicate of an earlier arrival has the first one's
 //! reply. So an arrival that was answered before the crash has the same reply after it, and one in
@@ -90,4 +88,4 @@ mod reading;
 pub use files::{close_desk, desk_of_files, files_of, reopen_desk};
 pub use opening::{migrated_desk, new_desk, open_desk};
 pub use path::{PathFault, is_missing, migrated_desk_at, new_desk_at, open_desk_at};
-pub use reading::{StoreAt, reader_at};
+pub use reading::reader_at;

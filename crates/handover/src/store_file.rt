@@ -3,10 +3,10 @@
 use crate::bundle::tables_bundle;
 use crate::check::acceptance;
 use crate::tables::{Tabling, write_tables};
-use esc_desk::{Desk, Reads};
+use esc_desk::Reads;
 use esc_handover::{Answer, Form, Progress, Stop, unopened_stop};
-use esc_recovery::{PathFault, StoreAt, close_desk, reader_at};
-use sqlite::{File, FileStore, Unknown};
+use esc_recovery::{PathFault, reader_at};
+use sqlite::Unknown;
 use std::alloc::Global;
 
 /// What is made of a store.
@@ -23,8 +23,7 @@ pub enum Task<'a> {
 }
 
 /// Does a task with the store in a file, and tells how far it is if that is asked for. The store is
-/// opened by its trees, and not closed: nothing was written. Files that aren't opened so are a
-/// desk's.
+/// not closed: nothing was written.
 pub fn use_store(
     rt: &HostRuntime,
     path: &str,
@@ -34,26 +33,8 @@ pub fn use_store(
     let mut progress = Progress::new(rt, is_watched);
     progress.tell_opening(path);
     match reader_at(rt, path, Unknown) {
-        Ok(StoreAt::Reader(mut reader)) => perform(rt.alloc(), &mut reader, task, progress),
-        Ok(StoreAt::Desk(desk)) => use_desk(rt.alloc(), desk, task, progress),
+        Ok(mut reader) => perform(rt.alloc(), &mut reader, task, progress),
         Err(fault) => Err(stop_of(rt, path, fault)),
-    }
-}
-
-// Does a task with a desk, and closes it. What stops it is told rather than a close that fails
-// after it.
-fn use_desk(
-    alloc: Global,
-    mut desk: Desk<FileStore<File>>,
-    task: Task<'_>,
-    progress: Progress<'_>,
-) -> Result<Answer, Stop> {
-    let made = perform(alloc, &mut desk, task, progress);
-    let closed = close_desk(desk);
-    let made = made?;
-    match closed {
-        Ok(_files) => Ok(made),
-        Err(fault) => Err(Stop::Store(fault)),
     }
 }
 
