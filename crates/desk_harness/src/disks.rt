@@ -1,8 +1,8 @@
 //! The two files in memory, and what lines do to them while no database is open over them.
 
-use crate::flaky::{Failures, FlakyDisk};
 use crate::input::split;
 use esc_desk::{Cause, StoreFault};
+use esc_flaky::{Failures, FlakyDisk};
 use sqlite::{Connection, FileStore, Files, Options};
 use sqlite_disk::{Crash, Disk, Memory};
 use std::alloc::Global;

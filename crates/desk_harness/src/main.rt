@@ -75,7 +75,6 @@ mod database;
 mod desks;
 mod disks;
 mod events;
-mod flaky;
 mod input;
 mod lines;
 mod looks;

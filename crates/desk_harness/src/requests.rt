@@ -1,145 +1,17 @@
-//! Requests to a desk, over memory: of clients that break off, and of slow ones, by a clock that
-//! moves only while one is waited for.
+//! Requests to a desk, of clients in memory.
 
 use crate::input::split;
 use crate::texts::push_bytes;
-use esc_client::{TimeBudget, Timed, TimedStream};
+use esc_client::{TimeBudget, TimedStream};
 use esc_desk::Desk;
+use esc_flaky::{Hands, Manner, OPEN, Peer};
 use esc_http::{ServeFault, serve_one};
 use sqlite::Alter;
 use std::alloc::Global;
-use std::cell::Cell;
-use std::fmt::Write as _;
+use std::fmt::Write;
 use std::fs;
-use std::io::{self, ErrorKind, Read, Write};
 use std::test::Fail;
-use std::time::{Clock, Duration};
-
-/// A clock that is set.
-#[derive(Drop)]
-struct Hands {
-    time: Cell<Duration>,
-}
-
-impl Hands {
-    fn new() -> Hands {
-        Hands {
-            time: Cell::new(Duration::ZERO),
-        }
-    }
-}
-
-impl Clock for Hands {
-    fn monotonic(&self) -> io::Result<Duration> {
-        Ok(self.time.get())
-    }
-
-    fn since_1970(&self) -> io::Result<Duration> {
-        Ok(self.time.get())
-    }
-}
-
-/// How a client sends, or takes.
-#[derive(Clone, Copy)]
-struct Manner {
-    /// Before each piece, which has at most so many bytes.
-    pause: Duration,
-    piece: usize,
-    /// After so many bytes each call fails.
-    most: usize,
-    /// Whether nothing can be handed on.
-    is_stuck: bool,
-}
-
-/// At once, and all.
-const OPEN: Manner = Manner {
-    pause: Duration::ZERO,
-    piece: usize::MAX,
-    most: usize::MAX,
-    is_stuck: false,
-};
-
-/// A client, which sends bytes and keeps those that it takes.
-#[derive(Drop)]
-struct Peer<'a> {
-    clock: &'a Hands,
-    manner: Manner,
-    unsent: &'a [u8],
-    taken: Vec<u8>,
-    /// How long one read or write waits for it at most.
-    limit: Cell<Duration>,
-}
-
-impl<'a> Peer<'a> {
-    fn new(alloc: Global, clock: &'a Hands, manner: Manner, unsent: &'a [u8]) -> Peer<'a> {
-        Peer {
-            clock,
-            manner,
-            unsent,
-            taken: Vec::new(alloc),
-            limit: Cell::new(Duration::MAX),
-        }
-    }
-
-    // Waits for the client, within the limit; unless it has broken off.
-    fn wait(&self) -> io::Result<()> {
-        if self.manner.most == 0 {
-            return Err(io::Error::from(ErrorKind::ConnectionReset));
-        }
-        let (pause, limit) = (self.manner.pause, self.limit.get());
-        let time = self.clock.time.get().saturating_add(pause.min(limit));
-        self.clock.time.set(time);
-        if pause > limit {
-            return Err(io::Error::from(ErrorKind::WouldBlock));
-        }
-        Ok(())
-    }
-}
-
-impl Timed for Peer<'_> {
-    fn limit_reads(&self, time: Duration) -> io::Result<()> {
-        self.limit.set(time);
-        Ok(())
-    }
-
-    fn limit_writes(&self, time: Duration) -> io::Result<()> {
-        self.limit.set(time);
-        Ok(())
-    }
-}
-
-impl Read for Peer<'_> {
-    fn read(&mut self, buf: &mut [u8]) -> io::Result<usize> {
-        self.wait()?;
-        let most = self.manner.piece.min(self.manner.most);
-        let count = most.min(self.unsent.len()).min(buf.len());
-        buf[..count].copy_from_slice(&self.unsent[..count]);
-        self.unsent = &self.unsent[count..];
-        self.manner.most -= count;
-        Ok(count)
-    }
-}
-
-impl Write for Peer<'_> {
-    fn write(&mut self, buf: &[u8]) -> io::Result<usize> {
-        self.wait()?;
-        let count = self.manner.piece.min(self.manner.most).min(buf.len());
-        if self.taken.extend_from_slice(&buf[..count]).is_err() {
-            return Err(io::Error::from(ErrorKind::OutOfMemory));
-        }
-        self.manner.most -= count;
-        Ok(count)
-    }
-
-    fn flush(&mut self) -> io::Result<()> {
-        if self.manner.is_stuck {
-            return Err(io::Error::from(ErrorKind::BrokenPipe));
-        }
-        Ok(())
-    }
-}
-
-// ---- what is served
+use std::time::Duration;
 
 // Adds what came of a request, and after how many milliseconds.
 fn push_served(
@@ -151,7 +23,7 @@ fn push_served(
         Ok(()) => "served",
         Err(fault) => fault.words(),
     };
-    let time = clock.time.get().as_millis();
+    let time = clock.time().as_millis();
     writeln!(text, "{word} after {time} milliseconds")?;
     Ok(())
 }
