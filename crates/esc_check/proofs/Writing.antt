@@ -1,5 +1,7 @@
 -- A text is written piece by piece.
-use Rattle.std.proofs.Common.{◌≡◌, ℕ, ◌+◌, ◌<◌, List, [], ◌∷◌, ◌++◌, length, get_or, take, drop, map, true, false, Some, slice_get, refl, sym, ap, ◌∙◌}
+use Rattle.std.proofs.Common.{◌≡◌, ℕ, ◌+◌, ◌<◌, Bool, List, [], ◌∷◌, ◌++◌, length, get_or, take, drop, map, true, false, Option, None, Some, slice_get, refl, sym, ap, ◌∙◌}
+use Rattle.std.proofs.Common.{append-nil, append_assoc}
+use Rattle.std.specs.Io.KnownBytes.{Appends}
 use Rattle.std.specs.Prelude.{count_by}
 use Rattle.std.proofs.lemmas.List.{drop_more, take_more}
 use Rattle.std.proofs.lemmas.List.Concat.{flat_map-append}
@@ -11,7 +13,7 @@ use Rattle.esc_tables.specs.KeyName.{KeyName}
 use Rattle.esc_tables.specs.ObjectValue.{RowValue, ObjectValue}
 use Rattle.esc_csv.specs.Lines.{Line, line_text, text_of}
 use Rattle.esc_check.proofs.Cells.{Cell, cells_from}
-use Rattle.esc_check.specs.Export.{cell_line, row_lines, is_of_table, number_behind, child_lines, object_lines, export_lines}
+use Rattle.esc_check.specs.Export.{cell_line, row_lines, is_of_table, number_behind, child_lines, object_lines, is_of, export_lines}
 
 pub text_of-append : (a b : List Line) → text_of (a ++ b) ≡ text_of a ++ text_of b
 text_of-append a b = flat_map-append line_text a b
@@ -38,18 +40,34 @@ pub children_end : (k : KeyName) (earlier : List RowValue) → child_lines k ear
 unfolding child_lines
 children_end k earlier = refl
 
--- the first object that is left is of the kind
-pub object_more : (kind : Kind) (k : KeyName) (o : ObjectValue) (es left : List (KeyName × ObjectValue)) → es ≡ (k, o) ∷ left → is_kind k.kind kind ≡ true
-    → text_of (export_lines kind es) ≡ text_of (object_lines k o) ++ text_of (export_lines kind left)
-object_more kind k o es left is same =
-    ap (λ (l : List (KeyName × ObjectValue)). text_of (export_lines kind l)) is
-    ∙ (rw same (text_of-append (object_lines k o) (export_lines kind left)))
+-- a write after others
+pub appended_more : (first mid last : Option (List ℕ)) (text piece : List ℕ) → Appends first mid text → Appends mid last piece
+    → Appends first last (text ++ piece)
+appended_more None mid last text piece before now = _
+appended_more (Some xs) None last text piece before now = absurd before
+appended_more (Some xs) (Some ys) None text piece before now = absurd now
+appended_more (Some xs) (Some ys) (Some zs) text piece before now =
+    now ∙ ap (λ (l : List ℕ). l ++ piece) before ∙ append_assoc xs text piece
 
--- the first object that is left is of another kind
-pub object_passed : (kind : Kind) (k : KeyName) (o : ObjectValue) (es left : List (KeyName × ObjectValue)) → es ≡ (k, o) ∷ left → is_kind k.kind kind ≡ false
-    → text_of (export_lines kind es) ≡ text_of (export_lines kind left)
-object_passed kind k o es left is other =
-    ap (λ (l : List (KeyName × ObjectValue)). text_of (export_lines kind l)) is ∙ (rw other refl)
+-- the text of the objects that are left is that of the first, and then that of the others
+pub next_object : (kind : Kind) (e : KeyName × ObjectValue) (es left : List (KeyName × ObjectValue)) → left ≡ e ∷ es
+    → text_of (export_lines kind left) ≡ text_of (export_lines kind (e ∷ [])) ++ text_of (export_lines kind es)
+next_object kind e es left is =
+    ap (λ (l : List (KeyName × ObjectValue)). text_of (export_lines kind l)) is ∙ parts (is_of kind e) refl
+  where
+    parts : (b : Bool) → is_of kind e ≡ b
+        → text_of (export_lines kind (e ∷ es)) ≡ text_of (export_lines kind (e ∷ [])) ++ text_of (export_lines kind es)
+    parts true same = rw (same, append-nil (object_lines e.0 e.1)) (text_of-append (object_lines e.0 e.1) (export_lines kind es))
+    parts false other = rw other refl
+
+-- the lines of one object: its own, or none if it is of another kind
+pub one_object : (kind : Kind) (k : KeyName) (o : ObjectValue) → is_kind k.kind kind ≡ true
+    → text_of (export_lines kind ((k, o) ∷ [])) ≡ text_of (object_lines k o)
+one_object kind k o same = rw (same, append-nil (object_lines k o)) refl
+
+pub no_object : (kind : Kind) (k : KeyName) (o : ObjectValue) → is_kind k.kind kind ≡ false
+    → text_of (export_lines kind ((k, o) ∷ [])) ≡ []
+no_object kind k o other = rw other refl
 
 -- a table has one more row where one of its rows follows
 pub counted : (rows : List RowValue) (i : ℕ) (x : RowValue) → i < length rows → x ≡ get_or rows i x → count_by (is_of_table x.table) (take (i + 1) rows) ≡ count_by (is_of_table x.table) (take i rows) + 1

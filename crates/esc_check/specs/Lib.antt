@@ -1,4 +1,5 @@
 pub mod Export
+pub mod ExportFaults
 pub mod Fields
 pub mod FindingOrder
 pub mod FindingValue

@@ -3,67 +3,73 @@
 ghost use Rattle.std.specs.Prelude.{◌≡◌, ◌+◌, [], ◌<◌, ◌^◌, ◌∷◌, ◌++◌, List, length, count_by};
 ghost use Rattle.std.specs.Prelude.{IfOk, IfErr, OnOk, string_bytes};
 ghost use Rattle.std.specs.Fmt.{decimal};
+ghost use Rattle.std.specs.Io.KnownBytes.{Appends};
 ghost use Rattle.esc_apply.specs.ObjectStreams.{Entry};
 ghost use Rattle.esc_envelope.specs.Kinds.{kind_name, is_kind};
 ghost use Rattle.esc_csv.specs.Lines.{line_text, text_of};
 ghost use Rattle.esc_check.specs.Export.{export_heading, row_lines, is_of_table, child_lines};
-ghost use Rattle.esc_check.specs.Export.{object_lines, export_text};
-ghost use Rattle.esc_check.specs.ObjectReports.{IfSource, OfSource};
+ghost use Rattle.esc_check.specs.Export.{object_lines, export_lines, export_text};
+ghost use Rattle.esc_check.specs.ExportFaults.{IfExportSource, OfExportSource};
 
-use crate::stream::StreamFault;
+use crate::export_fault::ExportFault;
 use esc_apply::Objects;
 use esc_bundle::NoMemory;
 use esc_csv::Lines;
 use esc_envelope::Kind;
 use esc_tables::{Key, Object, Row};
 use std::alloc::Global;
-use std::collections::BTreeMap;
+use std::io::Write;
 
-/// The export of a kind as CSV (this project's profile): a heading, and then the objects in the
-/// byte order of their keys; of an object the parent row first, with number 0, then its child rows,
-/// each with its number among the object's rows of its table, from 1; a line for each cell, in the
-/// declared order.
-pub fn export_rows(
+/// Writes the export of a kind as CSV (this project's profile): a heading, and then the objects in
+/// the byte order of their keys; of an object the parent row first, with number 0, then its child
+/// rows, each with its number among the object's rows of its table, from 1; a line for each cell, in
+/// the declared order. It allocates for the lines of one object at a time. At `Err` a part of the
+/// text may be written.
+pub fn write_export<O: Objects, W: Write>(
     alloc: Global,
-    tables: &BTreeMap<Key, Object>,
+    output: &mut W,
+    objects: &mut O,
     kind: Kind,
-) -> Result<Vec<u8>, NoMemory>
-    ensures { IfOk result (λ text. text.items ≡ export_text kind tables.now.entries) }
+) -> Result<(), ExportFault<O::Error>>
+    ensures follows { O.follows objects.old objects.new }
+    ensures source { IfErr result (λ fault. IfExportSource fault (O.has_failed objects.new)) }
+    ensures cause { IfErr result (OfExportSource O.fails) }
+    ensures text { OnOk result (O.is_honest objects.new → (es : List Entry)
+        → O.lists objects.old es
+        → Appends (W.contents output.old) (W.contents output.new) (export_text kind es)) }
+{
+    let heading = heading_text(alloc)?;
+    output.write_all(&heading)?;
+    while let Some((key, object)) = objects.next().map_err(ExportFault::Source)? {
+        let text = object_text(alloc, &key, &object, kind)?;
+        output.write_all(&text)?;
+    }
+    Ok(())
+}
+
+fn heading_text(alloc: Global) -> Result<Vec<u8>, NoMemory>
+    ensures { IfOk result (λ text. text.items ≡ line_text export_heading) }
 {
     let mut lines = Lines::new(alloc);
     write_heading(&mut lines)?;
-    for (key, object) in tables.iter() {
-        if !is_of(key, kind) {
-            continue;
-        }
-        write_object(alloc, &mut lines, key, object)?;
-    }
     lines.into_text()
 }
 
-/// The same export, for objects that come one at a time. It allocates for the text alone. At `Err`
-/// the source failed, or it is out of memory.
-pub fn export_from<O: Objects>(
+// The lines of an object, or none if it is of another kind.
+fn object_text(
     alloc: Global,
-    objects: &mut O,
+    key: &Key,
+    object: &Object,
     kind: Kind,
-) -> Result<Vec<u8>, StreamFault<O::Error>>
-    ensures follows { O.follows objects.old objects.new }
-    ensures source { IfErr result (λ fault. IfSource fault (O.has_failed objects.new)) }
-    ensures cause { IfErr result (OfSource O.fails) }
-    ensures text { IfOk result (λ text. O.is_honest objects.new → (es : List Entry)
-        → O.lists objects.old es
-        → text.items ≡ export_text kind es) }
+) -> Result<Vec<u8>, NoMemory>
+    ensures { IfOk result (λ text. text.items
+        ≡ text_of (export_lines kind ((key.now, object.now) ∷ []))) }
 {
     let mut lines = Lines::new(alloc);
-    write_heading(&mut lines)?;
-    while let Some((key, object)) = objects.next().map_err(StreamFault::Source)? {
-        if !is_of(&key, kind) {
-            continue;
-        }
-        write_object(alloc, &mut lines, &key, &object)?;
+    if is_of(key, kind) {
+        write_object(alloc, &mut lines, key, object)?;
     }
-    Ok(lines.into_text()?)
+    lines.into_text()
 }
 
 fn is_of(key: &Key, kind: Kind) -> bool

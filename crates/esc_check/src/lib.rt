@@ -3,9 +3,10 @@
 //! The tables are a map from keys to objects, as `esc_tables` reads them from a deposit or as a
 //! chain of deposits makes them.
 //!
-//! `export_rows` writes all objects of a kind as CSV: a heading, and a line for each cell, in the
+//! `write_export` writes all objects of a kind as CSV: a heading, and a line for each cell, in the
 //! order of keys; of an object the parent row first, and then each child row with its number among
-//! the object's rows of its table. Its contract states the whole text.
+//! the object's rows of its table. The objects come one at a time, in the order of keys, each key
+//! once, from a source that is an `Objects` of `esc_apply`. Its contract states the whole text.
 //!
 //! `verify` returns what breaks a rule of this project's profile, each finding once and in order:
 //!
@@ -21,16 +22,15 @@
 //! Where a row has a field twice, the first cell counts. An empty cell is no link, no status and no
 //! date.
 //!
-//! `export_from` and `verify_from` return the same for objects that come one at a time, in the
-//! order of keys, each key once, from a source that is an `Objects` of `esc_apply`. They ask for
-//! all of the objects, and keep none.
+//! `verify_from` returns the same for objects that come one at a time. It asks for all of the
+//! objects, and keeps none; so does `write_export`.
 //!
 //! # Example
 //!
 //! ```text
 //! let found = verify(alloc, &tables, watermark, &counts)?;
 //! // each finding has a code and a key: V1 of the domain a.example with the field `clID`
-//! let text = export_rows(alloc, &tables, Kind::Domain)?;
+//! write_export(alloc, &mut output, &mut objects, Kind::Domain)?;
 //! ```
 //!
 //! # What is promised
@@ -41,10 +41,10 @@
 //! strict order, so each of them once. `specs/Export.antt` has the lines of the export. Out of
 //! memory, either returns `NoMemory`.
 //!
-//! Over a source that is honest, `export_from` and `verify_from` return exactly that for the
-//! objects that it lists; that findings are in strict order holds over any source. Where the source
-//! fails they return its fault, and nothing of what came before. Whatever they return, the source
-//! `follows` from what it was.
+//! Over a source that is honest, `verify_from` returns and `write_export` writes exactly that for
+//! the objects that it lists; that findings are in strict order holds over any source. Where the
+//! source fails they return its fault, and a part of an export may be written. Whatever they
+//! return, the source `follows` from what it was.
 //!
 //! `specs/Gathered.antt` has what the functions here return to one another, as lists with repeats:
 //! what is found of one object, if these are the keys of the tables. `proofs/FindingLaws.antt`
@@ -57,7 +57,7 @@
 //! object at a time. Child rows that are grouped by table, as those of a deposit are, are counted
 //! once for each table.
 //!
-//! `export_from` allocates for its text. `verify_from` allocates for what is found, for the keys,
+//! `write_export` allocates for the lines of one object. `verify_from` allocates for what is found, for the keys,
 //! and for the links that lead to what did not come before them. Registrars come first, then
 //! contacts, hosts and domains, so these are the links to IDN tables and those that lead to
 //! nothing. A link is looked up among the keys as it comes, and if it leads to none of them, once
@@ -68,6 +68,7 @@ mod count;
 mod date;
 mod distinct;
 mod export;
+mod export_fault;
 mod field;
 mod finding;
 mod link;
@@ -77,7 +78,8 @@ mod stream;
 mod verification;
 mod walk;
 
-pub use export::{export_from, export_rows};
+pub use export::write_export;
+pub use export_fault::ExportFault;
 pub use finding::Finding;
 pub use rule::Rule;
 pub use stream::StreamFault;

@@ -1,5 +1,6 @@
 -- The texts of the reports of a desk or a reader that reflects a list of events.
 use Rattle.std.specs.Prelude.{◌≡◌, ◌↔◌, ℕ, List, [], Option, Some, None}
+use Rattle.std.specs.Io.KnownBytes.{Appends}
 use Rattle.std.specs.List.{Contains}
 use Rattle.std.specs.List.Sorted.{IsStrictlySortedBy}
 use Rattle.sha2.specs.Sha256.{sha256}
@@ -54,6 +55,16 @@ module _ (e : List EventValue) where
     pub tables : AreEntries e entries
     pub order : InOrder entries
     pub is : text ≡ export_text kind entries
+
+  -- this export, and no byte more, was written to what had the old contents
+  pub record IsWrittenExport (kind : Kind) (old new : Option (List ℕ)) : Type 0 where
+    pub text : List ℕ
+    pub is_export : IsExport kind text
+    pub appends : Appends old new text
+
+  -- the same, if no two different bodies have the same digest
+  abbrev pub IsExportWritten : Kind → Option (List ℕ) → Option (List ℕ) → Type 0
+  IsExportWritten kind old new = WhereApart e (IsWrittenExport kind old new)
 
   -- the report of what breaks a rule in the tables of the latest chain, by what its last deposit
   -- says

@@ -3,6 +3,7 @@
 //! | Call | Text |
 //! |---|---|
 //! | [`report`] | a [`Report`] of what a desk or a reader reads |
+//! | [`write_export_of`] | an export, written while the store is read |
 //! | [`reply_text`] | a reply as JSON: an object of eight members, null where there is no value |
 //! | [`receipts_heading`], [`receipt_line`] | the heading of the receipts, and the line of one reply |
 //! | [`end_line`] | the line of the status that says where a chain ends |
@@ -35,10 +36,12 @@
 //! # Cost
 //!
 //! The links and an export walk the objects one at a time, and hold no map of them; a walk by a
-//! reader holds the keys. A text is whole in memory before it is returned.
+//! reader holds the keys. A text is whole in memory before it is returned; [`write_export_of`] holds
+//! the lines of one object.
 #![tactic(auto)]
 
 mod catalog;
+mod export;
 mod gaps;
 mod links;
 mod moment;
@@ -52,6 +55,7 @@ mod watermark;
 mod words;
 
 pub use catalog::Report;
+pub use export::write_export_of;
 pub use receipts::{receipt_line, receipts_heading};
 pub use reply::reply_text;
 pub use reports::report;

@@ -8,6 +8,7 @@ ghost use Rattle.esc_reports.specs.Reports.{IsReport};
 ghost use Rattle.esc_reports.specs.Walked.{AreFoundAt};
 
 use crate::catalog::Report;
+use crate::export::{export_fault, write_export_of};
 use crate::gaps::gaps_report;
 use crate::links::links_text;
 use crate::moment::moment_line;
@@ -16,7 +17,7 @@ use crate::receipts::receipts_text;
 use crate::status::status_text;
 use crate::walked::walk_fault;
 use esc_apply::tables_are_listed;
-use esc_check::{Finding, export_from, verify_from};
+use esc_check::{Finding, verify_from};
 use esc_desk::{Cause, End, Reads, StoreFault, Walk, tables_are_of_events};
 use esc_envelope::Kind;
 use std::alloc::Global;
@@ -152,21 +153,15 @@ fn report_moment<R: Reads>(alloc: Global, reader: &mut R) -> Result<Vec<u8>, Sto
     Ok(moment_line(alloc, moment)?.into_bytes())
 }
 
-// As for the findings, it is asked whether the walk has failed.
-#[tactic(auto, using(crate::proofs::Reading::reads_stay))]
 fn report_export<R: Reads>(alloc: Global, reader: &mut R, kind: Kind) -> Result<Vec<u8>, StoreFault>
     ensures read { IsReadOf R.follows R.reflects reader.old reader.new result }
     ensures text { OkForEvents R.is_honest R.reflects reader.old reader.new result
         (λ e text. IsReport e (what.Export kind) text.items) }
     ensures cause { IfErr result IsFailure }
 {
-    tables_are_listed();
-    tables_are_of_events();
-    let place = reader.start_walk(alloc, Some(kind))?;
-    let mut walk = Walk::new(reader, place);
-    match export_from(alloc, &mut walk, kind) {
-        Ok(text) if !walk.has_failed() => Ok(text),
-        Ok(_) => Err(StoreFault::Failed(Cause::WalkEnded)),
-        Err(fault) => Err(walk_fault(fault)),
+    let mut text = Vec::new(alloc);
+    match write_export_of(alloc, reader, kind, &mut text) {
+        Ok(()) => Ok(text),
+        Err(fault) => Err(export_fault(fault)),
     }
 }

@@ -68,24 +68,3 @@ g.example,gone
 
 end
 ";
-
-/// Registrars R2, whose name needs quotes, and R1; domain e.example with child rows of two tables.
-pub(crate) const WITH_CHILDREN: &str = "escrow-bundle 1
-envelope.json 551
-{\"id\":\"F1\",\"type\":\"FULL\",\"watermark\":\"2024-03-03T00:00:00Z\",\"contents\":[{\"name\":\"registrar\",\"kind\":\"registrar\",\"role\":\"parent\",\"key\":\"id\",\"fields\":[\"id\",\"name\"],\"file\":\"registrar.csv\"},{\"name\":\"domain\",\"kind\":\"domain\",\"role\":\"parent\",\"key\":\"name\",\"fields\":[\"name\"],\"file\":\"domain.csv\"},{\"name\":\"domainStatuses\",\"kind\":\"domain\",\"role\":\"child\",\"key\":\"domainName\",\"fields\":[\"domainName\",\"status\"],\"file\":\"domainstatuses.csv\"},{\"name\":\"domainNs\",\"kind\":\"domain\",\"role\":\"child\",\"key\":\"domainName\",\"fields\":[\"domainName\",\"hostName\"],\"file\":\"domainns.csv\"}]}
-registrar.csv 22
-R2,\"Net, \"\"One\"\"\"
-R1,
-
-domain.csv 10
-e.example
-
-domainstatuses.csv 13
-e.example,ok
-
-domainns.csv 48
-e.example,ns1.e.example
-e.example,ns2.e.example
-
-end
-";
