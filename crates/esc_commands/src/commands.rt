@@ -7,7 +7,7 @@ use esc_arguments::{
     Command, Invocation, Stop, check_access, invocation_of, matches_of, print_error, print_stop,
 };
 use esc_cli::USAGE;
-use esc_desk::{Cause, Desk, StoreFault};
+use esc_desk::{Cause, Desk, Reads, StoreFault};
 use esc_recovery::{
     PathFault, close_desk, migrated_desk_at, new_desk_at, open_desk_at, reader_at,
 };
@@ -78,8 +78,15 @@ where
     // Makes a report of the store at a path, which is not closed: nothing was written.
     fn read_store(&mut self, path: &str, report: Report) -> Result<Ended, Stop> {
         match reader_at(self.rt, path, Unknown) {
-            Ok(mut reader) => read_report(self.rt.alloc(), &mut reader, report),
+            Ok(mut reader) => self.read_by(&mut reader, report),
             Err(fault) => Err(stop_of(self.rt, path, fault)),
+        }
+    }
+
+    fn read_by<R: Reads>(&mut self, reader: &mut R, report: Report) -> Result<Ended, Stop> {
+        match report {
+            Report::Export(kind) => self.print_export(reader, kind),
+            _ => read_report(self.rt.alloc(), reader, report),
         }
     }
 

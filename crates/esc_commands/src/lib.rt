@@ -13,6 +13,7 @@
 //! |---|---|
 //! | `commands` | from the words to the status: opens the store at a path, or makes it, and closes it |
 //! | `desk` | what a command does with the desk or the reader of its store |
+//! | `export` | prints an export while the store is read |
 //! | `take` | takes the plain files of a folder, in byte order of names |
 //! | `serve` | serves connections on a port, one after the other, each within a time |
 //! | `run` | one run of the program: the runtime, the network and its two streams |
@@ -41,7 +42,7 @@
 //! amendment with the listed rows (`M1`, `M10` to `M13`), the folder or the port (`E1`), then file
 //! by file (`N1`, `E1`, `E2`, `S4`, `S5`, and the verdict of the receipt, status 1). `S1` and `S2`
 //! may come at any point once the store is opened. `S1` to `S5` and `E1` stop a command with status
-//! 3; what was answered before stays. A report is printed once the store is closed.
+//! 3; what was answered before stays, and so does what was printed of an export.
 //!
 //! # What is promised
 //!
@@ -53,13 +54,15 @@
 //! [`esc_desk::Desk::amend`] and [`esc_desk::Desk::as_of`], and after a migration that of
 //! [`esc_recovery::migrated_desk`]. What a request is answered is that of [`esc_http::serve_one`],
 //! how long its client is waited for that of [`esc_client::TimedStream`], and the texts of reports
-//! are those of [`esc_reports::report`]. No contract can say what a file holds or what is printed, so the texts, statuses and the order of refusals are
-//! tested on the built program, by the cases of `tests/`.
+//! are those of [`esc_reports::report`]. No contract can say what a file holds or what is printed, so
+//! the texts, statuses and the order of refusals are tested on the built program, by the cases of
+//! `tests/`.
 #![tactic(auto)]
 
 mod commands;
 mod desk;
 mod ended;
+mod export;
 mod run;
 mod serve;
 mod take;

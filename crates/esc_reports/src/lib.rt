@@ -55,6 +55,7 @@ mod watermark;
 mod words;
 
 pub use catalog::Report;
+pub use esc_check::ExportFault;
 pub use export::write_export_of;
 pub use receipts::{receipt_line, receipts_heading};
 pub use reply::reply_text;
