@@ -5,14 +5,15 @@ has and the folder has not goes to standard error, a line each.
 
 A deposit that is larger than one bundle becomes a series: the folder then has a folder part-001,
 part-002 and so on for each bundle, of which the first has the deposit's type, each other one is a
-Differential on the one before, and the last one has the deposit's id."""
+Differential on the one before, and the last one has the deposit's id. So do CSV files without a
+document, which have a description (--described)."""
 import argparse
 import os
 import sqlite3
 import sys
 
-from deposit import Asked
 from deposit import Deposit
+from described import Described
 from faults import Notes
 from faults import Refusal
 from faults import printable
@@ -20,6 +21,9 @@ from folder import LIMITS
 from folder import MOST_ROWS
 from folder import Part
 from progress import Progress
+from unpacking import Asked
+from unpacking import Unpacking
+from writing import DESCRIPTION
 from writing import Limits
 
 DONE, REFUSED, STOPPED = 0, 1, 3
@@ -29,6 +33,11 @@ EXAMPLE = """Example, of a Full and a Differential on it:
   unpack_rde --strict --known F1 diff/example_2024-03-04_diff_S1_R0.xml D2
   pack bundle --envelope F1/envelope.json F1 bundles/F1
   pack bundle --envelope D2/envelope.json D2 bundles/D2
+
+Example, of bare CSV files that are larger than one bundle, in a folder with their description:
+
+  unpack_rde --described files F1
+  pack series F1 bundles/F1
 
 Status: 0 done; 1 the deposit is refused; 2 invalid usage; 3 a file cannot be read or written."""
 
@@ -46,8 +55,12 @@ def arguments() -> argparse.ArgumentParser:
     parser = argparse.ArgumentParser(prog='unpack_rde', description=__doc__, epilog=EXAMPLE,
                                      formatter_class=argparse.RawDescriptionHelpFormatter)
     add = parser.add_argument
-    add('deposit', metavar='DEPOSIT', help='the XML document of the deposit')
+    add('deposit', metavar='DEPOSIT',
+        help='the XML document of the deposit; with --described a folder')
     add('folder', metavar='OUT', help='the folder that is written; nothing may be there')
+    add('--described', action='store_true',
+        help='DEPOSIT is a folder of CSV files with their description envelope.json, as pack '
+        'describe proposes it')
     add('--files', metavar='DIR',
         help='where the CSV files are that the document names (the folder of DEPOSIT)')
     add('--known', metavar='FOLDER', action='append', default=[],
@@ -72,13 +85,25 @@ def tell(*lines: str) -> None:
         print(printable(line), file=sys.stderr)
 
 
-def asked_in(given: list[str] | None) -> tuple[Asked, bool]:
-    """What the command's words ask for, and whether to tell how far it is."""
-    words = arguments().parse_args(given)
-    files = os.path.dirname(os.path.abspath(words.deposit)) if words.files is None else words.files
-    asked = Asked(words.deposit, files, words.folder, words.known, words.map, words.strict,
-                  words.series, Limits(words.part_rows, words.part_bytes))
-    return asked, words.progress or sys.stderr.isatty()
+def words_in(given: list[str] | None) -> argparse.Namespace:
+    parser = arguments()
+    words = parser.parse_args(given)
+    if words.described and words.map is not None:
+        parser.error('--map is for documents: a description has the desk\'s names')
+    return words
+
+
+def asked_in(words: argparse.Namespace) -> Asked:
+    """What the command's words ask for."""
+    document = os.path.join(words.deposit, DESCRIPTION) if words.described else words.deposit
+    files = os.path.dirname(os.path.abspath(document)) if words.files is None else words.files
+    return Asked(document, files, words.folder, words.known, words.map, words.strict, words.series,
+                 Limits(words.part_rows, words.part_bytes))
+
+
+def unpacking(words: argparse.Namespace, notes: Notes, progress: Progress) -> Unpacking:
+    form = Described if words.described else Deposit
+    return form(asked_in(words), notes, progress)
 
 
 def told_series(parts: list[Part]) -> str:
@@ -88,10 +113,10 @@ def told_series(parts: list[Part]) -> str:
 
 
 def main(given: list[str] | None = None) -> int:
-    asked, is_told = asked_in(given)
-    notes, progress = Notes(), Progress(is_told)
+    words = words_in(given)
+    notes, progress = Notes(), Progress(words.progress or sys.stderr.isatty())
     try:
-        parts = Deposit(asked, notes, progress).take()
+        parts = unpacking(words, notes, progress).take()
     except Refusal as refusal:
         progress.end()
         tell(*notes.lines(), f'unpack_rde: {refusal}')
@@ -107,6 +132,9 @@ def main(given: list[str] | None = None) -> int:
             print(printable(os.path.join(part.name, file.name)), file.rows)
     if len(parts) > 1:
         tell(told_series(parts))
+    elif words.described:
+        tell(f'unpack_rde: one bundle takes them: pack bundle --envelope '
+             f'{words.folder}/{DESCRIPTION} {words.folder} BUNDLE')
     return DONE
 
 

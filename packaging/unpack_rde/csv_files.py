@@ -50,10 +50,9 @@ class CsvFiles:
     def __init__(self, document: str, folder: str, progress: Progress) -> None:
         self.document, self.folder, self.progress = document, folder, progress
 
-    def path(self, line: int, name: str) -> str:
-        """Where the file of this name is, which has to be in the folder: an archive may have
+    def path(self, here: str, name: str) -> str:
+        """Where the file is that is named here. It has to be in the folder: an archive may have
         links."""
-        here = f'{self.document}:{line}'
         if name in ('', '.', '..') or re.search(r'[/\\\0]', name):
             raise Refusal(here, f'no name of a file: {name!r}')
         path = os.path.join(self.folder, name)
@@ -63,9 +62,8 @@ class CsvFiles:
             raise Refusal(here, f'the file {name} is a link out of {self.folder}')
         return path
 
-    def unnamed(self, definitions: list[Definition], others: set[str]) -> list[str]:
-        """The CSV files beside the document that no definition names, but for others."""
-        named = {name for it in definitions for _, name, _ in it.files} | others
+    def unnamed(self, named: set[str]) -> list[str]:
+        """The CSV files in the folder but for these."""
         return [
             it for it in sorted(os.listdir(self.folder))
             if it.lower().endswith(ENDINGS) and it not in named
@@ -74,15 +72,17 @@ class CsvFiles:
     def rows(self, definition: Definition) -> Iterator[tuple[str, int, list[str]]]:
         """The rows of the files of a definition, each with its file and its line."""
         for line, name, said in definition.files:
-            path = self.path(line, name)
+            path = self.path(f'{self.document}:{line}', name)
             try:
                 check_sum(path, said)
-                yield from self.rows_of_file(path, said, definition)
+                yield from self.rows_of_file(path, said, definition.separator,
+                                             len(definition.fields))
             except (EOFError, zlib.error, gzip.BadGzipFile) as error:
                 raise Refusal(path, f'it is not compressed as the document says: {error}') from None
 
-    def rows_of_file(self, path: str, said: Words,
-                     definition: Definition) -> Iterator[tuple[str, int, list[str]]]:
+    def rows_of_file(self, path: str, said: Words, separator: str,
+                     width: int) -> Iterator[tuple[str, int, list[str]]]:
+        """The rows of a file, each of which has so many fields."""
         encoding = said.get('encoding', 'UTF-8')
         number = 0
         try:
@@ -93,11 +93,11 @@ class CsvFiles:
                     encoding='utf-8-sig' if encoding.upper() in ('UTF-8', 'UTF8') else encoding,
                     errors='surrogateescape', newline='')
                 lines = Lines(text)
-                rows = csv.reader(lines, delimiter=definition.separator, strict=True)
+                rows = csv.reader(lines, delimiter=separator, strict=True)
                 for row in rows:
                     lines.size, number = 0, rows.line_num
                     if row:
-                        check_row(path, number, row, definition)
+                        check_row(path, number, row, width)
                         yield path, number, row
         except LookupError:
             raise Refusal(path, f'its encoding {encoding} is not known') from None
@@ -151,10 +151,10 @@ def check_sum(path: str, said: Words) -> None:
                       f'its checksum is {" or ".join(sorted(found))}, and not {wanted.strip()}')
 
 
-def check_row(path: str, number: int, row: list[str], definition: Definition) -> None:
-    if len(row) != len(definition.fields):
+def check_row(path: str, number: int, row: list[str], width: int) -> None:
+    if len(row) != width:
         raise Refusal(f'{path}:{number}',
-                      f'{len(row)} fields, and not the {len(definition.fields)} that are declared')
+                      f'{len(row)} fields, and not the {width} that are declared')
     for at, field in enumerate(row):
         if not field.isascii() and any('\udc80' <= it <= '\udcff' for it in field):
             raise Refusal(f'{path}:{number}',

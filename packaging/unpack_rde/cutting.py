@@ -100,6 +100,9 @@ class Cutting:
                 self.portions.all[at].rows += 1
                 self.portions.all[at].size += len(data)
             os.remove(file.path)
+            if key is None:
+                # A table without rows stays declared: what reads a bundle may look for its fields.
+                self.file_in(0, table, file.fields)
         self.portions.close()
         self.open.clear()
 

@@ -4,19 +4,12 @@ import functools
 import os
 import re
 from collections.abc import Iterator
-from typing import NamedTuple
 
-from csv_files import CsvFiles
-from cutting import Cutting
 from cutting import too_large
 from faults import Notes
 from faults import Refusal
 from faults import printable
-from folder import LIMITS
 from folder import SECONDS
-from folder import Folder
-from folder import Part
-from keys import Keys
 from names import Field
 from names import Names
 from names import Table
@@ -24,19 +17,15 @@ from progress import Progress
 from reading import Definition
 from reading import DepositReader
 from reading import Row
-from series import Header
-from series import Known
-from series import Series
-from series import in_order
-from series import known_in
-from writing import Limits
+from unpacking import Asked
+from unpacking import Unpacking
 from writing import Portions
 from writing import row_text
 
 ID = re.compile(r'[A-Za-z0-9._-]{1,64}', re.ASCII)
 NUMBER = re.compile(r'\d{1,6}', re.ASCII)
 TYPES = ('FULL', 'INCR', 'DIFF')
-MOST_KEY, MOST_FIELDS = 255, 64
+MOST_FIELDS = 64
 TRUE, FALSE = ('true', '1'), ('false', '0')
 CUSTOM = 'rdeCsv:fCustom'
 # What a field's name cannot have.
@@ -44,45 +33,22 @@ NO_NAME = re.compile(r'[^A-Za-z0-9._-]')
 # Kinds of which a deposit may have several objects of one key, which differ in the other field by
 # which they are named.
 WITH_SECOND = ('host', )
-# What a cell can have in the CSV model alone, and a terminal may obey. (A tab and line ends are
-# ordinary.)
-CONTROLS = re.compile('[\x00-\x08\x0b\x0c\x0e-\x1f\x7f-\x9f]')
 
 
-class Asked(NamedTuple):
-    """What is asked for: the document, where its files are, where the folder is to be, and how."""
-    document: str
-    files: str
-    target: str
-    known: list[str]
-    map: str | None
-    is_strict: bool
-    is_series: bool
-    limits: Limits = LIMITS
-
-
-class Deposit:
-    """Takes what is read of a deposit, and writes it into a folder."""
+class Deposit(Unpacking):
+    """Takes what is read of a deposit's document and of the CSV files that it names."""
 
     def __init__(self, asked: Asked, notes: Notes, progress: Progress) -> None:
-        self.asked, self.notes, self.progress = asked, notes, progress
-        self.path, self.names = asked.document, Names(asked.map)
+        self.names = Names(asked.map)
         self.tables = self.names.tables
-        self.envelope: Header = {}
-        self.counts: dict[str, int] = {}
+        super().__init__(asked, notes, progress, self.tables)
         self.counts_of_names: list[tuple[str, int, str, str]] = []
         self.definitions: list[Definition] = []
         self.models: dict[tuple[str, bool], str] = {}
-        self.known: list[Known] = []
         self.columns = functools.cache(self.names.columns)
         self.columns_in_xml = functools.cache(self.xml_columns)
         self.fields_of = functools.cache(self.named_fields)
-        self.files = CsvFiles(self.path, asked.files, progress)
-        self.folder = Folder(asked.target, list(self.tables))
-        self.rest = self.folder.rest
-        self.keys = Keys(self.folder.path)
         self.reader = DepositReader(self.path, self.names, notes, self, progress)
-        self.place: tuple[str, int] | None = None
         self.portions = {(kind, is_of_deletes): self.portions_of(kind, is_of_deletes)
                          for is_of_deletes in (True, False)
                          for kind in dict.fromkeys(it.kind for it in self.tables.values())}
@@ -94,36 +60,21 @@ class Deposit:
                         tables)
 
     def refused(self, what: str) -> Refusal:
-        """A refusal at the place that is read."""
-        return self.reader.refused(what) if self.place is None else Refusal(
-            f'{self.place[0]}:{self.place[1]}', what)
+        return self.reader.refused(what) if self.place is None else super().refused(what)
 
     # ---- all of it
 
-    def take(self) -> list[Part]:
-        """Reads the deposit, and puts the folder at its place. Its bundles' files."""
-        try:
-            self.know()
-            self.progress.add([self.path])
-            self.reader.read()
-            self.take_definitions()
-            self.place = None
-            self.count_names()
-            self.tell_unnamed()
-            return self.finish()
-        except BaseException:
-            self.folder.give_up()
-            raise
-        finally:
-            self.keys.close()
-            self.rest.close()
-            for it in self.portions.values():
-                it.close()
+    def read(self) -> None:
+        self.progress.add([self.path])
+        self.reader.read()
+        self.take_definitions()
+        self.place = None
+        self.count_names()
+        self.tell_others()
 
     def know(self) -> None:
-        """Reads the keys of hosts and registrars in folders that were written before, the earliest
-        first."""
-        self.known = in_order(map(known_in, self.asked.known))
+        """Reads also the keys of hosts and registrars in folders that were written before."""
+        super().know()
         for known in self.known:
             self.keys.deposits += 1
             for folder in known.folders:
@@ -139,45 +90,6 @@ class Deposit:
     def know_key(self, field: str, value: str | None, key: str | None) -> None:
         if value and key:
             self.keys.name(field, value, key, is_own=False)
-
-    def finish(self) -> list[Part]:
-        series = Series(self.path, self.envelope, self.known)
-        if self.envelope['type'] == 'INCR':
-            series = self.based(series)
-        if self.asked.is_strict and self.notes.has('unknown'):
-            raise Refusal(self.path, 'it has what is unknown, and --strict was given')
-        is_series = self.asked.is_series or any(it.is_series for it in series.revisions())
-        portions = [it for its in self.portions.values() for it in its.all]
-        parts = self.folder.arrange(portions, self.asked.limits, is_series)
-        series.check(len(parts))
-        headers = list(series.headers(len(parts)))
-        if self.counts:
-            headers[-1]['counts'] = self.counts
-        if lines := self.notes.for_envelope():
-            headers[-1]['notes'] = lines
-        for part, header in zip(parts, headers, strict=True):
-            self.folder.describe(part, header)
-        self.folder.keep_seconds(parts[-1], self.keys.seconds())
-        self.keys.close()
-        self.folder.finish()
-        return parts
-
-    def based(self, series: Series) -> Series:
-        """An Incremental is based on the last Full's first bundle; on a series of them as a
-        Differential on the whole Full."""
-        full = series.full()
-        if full is None:
-            self.notes.add(
-                'given',
-                'as an Incremental, whose Full is in no folder of --known: if that is a series, '
-                'name it'
-            )
-            return series
-        if not full.is_series:
-            return series
-        self.notes.add('given', f'as a Differential on {full.id}, since this Full is a series')
-        self.envelope = {**self.envelope, 'type': 'DIFF', 'prevId': full.id}
-        return Series(self.path, self.envelope, self.known)
 
     # ---- the document's front
 
@@ -280,12 +192,6 @@ class Deposit:
             self.keys.name(field, value, key)
         return True
 
-    def check_key(self, table: Table, key: str) -> None:
-        if not key:
-            raise self.refused(f'a {table.kind} without {table.key}')
-        if len(key.encode()) > MOST_KEY:
-            raise self.refused(f'the {table.key} of a {table.kind} is longer than {MOST_KEY} bytes')
-
     def deleted(self, table: str, field: str, value: str) -> None:
         """A deleted object of the XML model."""
         self.only_in('XML', table, True)
@@ -305,7 +211,8 @@ class Deposit:
             return
         key = self.key_of(table.name, field, value) if key is None else key
         self.check_key(table, key)
-        self.portions[table.kind, True].put([(table.name, row_text([key]))])
+        if not self.portions[table.kind, True].put([(table.name, row_text([key]))]):
+            raise self.refused(too_large(table.kind, key))
 
     def key_of(self, table: str, field: str, value: str) -> str:
         """The key of the object that has this value in another field."""
@@ -330,19 +237,17 @@ class Deposit:
         for definition in self.definitions:
             self.place = self.path, definition.line
             self.take_files(definition)
-        for portions in self.portions.values():
-            if portions.is_to_cut():
-                Cutting(portions, self.keys, self.path).cut()
 
-    def tell_unnamed(self) -> None:
+    def tell_others(self) -> None:
+        """Tells of CSV files that the document does not name."""
         here = os.path.realpath(self.asked.files)
         ours = {
             os.path.basename(it)
             for it in (self.path, self.asked.map or self.path)
             if os.path.dirname(os.path.realpath(it)) == here
         }
-        for name in self.files.unnamed(self.definitions, ours):
-            self.notes.add('unknown', f'file {name} beside the document, which does not name it')
+        named = {name for it in self.definitions for _, name, _ in it.files}
+        self.tell_unnamed(named | ours, 'document')
 
     def take_files(self, definition: Definition) -> None:
         """The rows of the files of a definition."""
@@ -394,10 +299,7 @@ class Deposit:
         for field, value in zip(fields, row):
             if field.is_required and not value:
                 self.notes.add('empty', f'{table.name}.{field.name}, which the document requires')
-            if not value.isprintable() and CONTROLS.search(value):
-                self.notes.add(
-                    'control',
-                    f'cell of {table.name}.{field.name} with control characters, as they are')
+            self.tell_control(table, field.name, value)
             cells[field.name] = self.key_of(*field.alias, value) if field.alias and value else value
             if field.alias and field.name == table.key and self.keys.is_second(
                     '.'.join(field.alias), value):
@@ -411,9 +313,7 @@ class Deposit:
             return cells if self.take_key(table, key, {**cells, table.alias: key}
                                           if definition.is_by_alias else cells) else None
         self.check_key(table, key)
-        if not self.keys.has(table.kind, key):
-            self.notes.add('orphan',
-                           f'row of {table.name} of a {table.kind} that is not in the deposit')
+        self.tell_orphan(table, key)
         return cells
 
     def named_fields(self, table: Table, definition: Definition) -> list[Field]:

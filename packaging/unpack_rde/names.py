@@ -41,15 +41,19 @@ WHATS = ('namespace', 'table', 'count', 'row', 'cell', 'mark', 'group', 'split',
          'csv', 'field', 'required')
 # How many elements a `#` counts.
 MOST_REPEATED = 3
+# The kinds of objects, each after those that its objects name.
+KINDS = ('registrar', 'idn', 'contact', 'host', 'domain', 'nndn')
 
 
 class Table(NamedTuple):
-    """A table of the desk, with the other field by which files may name its objects."""
+    """A table of the desk, with the other field by which files may name its objects, and the name
+    of its section in a bundle if that is not made of its own."""
     name: str
     kind: str
     is_parent: bool
     key: str
     alias: str | None = None
+    section: str | None = None
 
 
 class Cell(NamedTuple):

@@ -65,11 +65,11 @@ class TableFile:
     def declaration(self) -> dict:
         front = 'deleted-' if self.is_of_deletes else ''
         return {
-            'name': self.table.kind if self.is_of_deletes else self.table.name,
-            'kind': self.table.kind,
+            'name': self.table.name, 'kind': self.table.kind,
             'role': 'parent' if self.is_of_deletes or self.table.is_parent else 'child',
             'key': self.table.key, 'fields': self.fields,
-            'file': f'{front}{self.table.name.lower()}.csv', 'from': [self.name], 'heading': True
+            'file': self.table.section or f'{front}{self.table.name.lower()}.csv',
+            'from': [self.name], 'heading': True
         }
 
 
