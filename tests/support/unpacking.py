@@ -3,6 +3,7 @@ writes."""
 import contextlib
 import hashlib
 import io
+import json
 import os
 import runpy
 import tempfile
@@ -12,6 +13,7 @@ from support import TOP
 from support.bundles import HEADING
 from support.bundles import sealed
 from support.documents import URIS
+from support.documents import csv_text
 from support.documents import element
 from support.escrow import description_in
 from support.escrow import folders_in
@@ -19,6 +21,7 @@ from support.escrow import rows_in
 from support.files import read
 from support.files import write
 from support.formats import envelope_in
+from support.formats import records
 from support.model import Desk
 
 PROGRAM = f'{TOP}/packaging/unpack_rde'
@@ -85,6 +88,7 @@ DELETED_HOST = csv_definition('host', ['rdeCsv:fRoid'], file_of('g.csv'))
 
 class Unpacked:
     """What the program does with a document and the files beside it, in a folder of its own."""
+    source = 'd.xml'
 
     def __init__(self, folder, text, files=None, words=()):
         self.folder, self.out = folder, os.path.join(folder, 'out')
@@ -98,7 +102,7 @@ class Unpacked:
         os.chdir(self.folder)
         try:
             with contextlib.redirect_stdout(out), contextlib.redirect_stderr(err):
-                self.status = MAIN([*words, 'd.xml', 'out'])
+                self.status = MAIN([*words, self.source, 'out'])
         except SystemExit as ended:
             self.status = ended.code
         finally:
@@ -108,6 +112,32 @@ class Unpacked:
     def bundles(self):
         """The bundles of what was written."""
         return [bundle_in(it) for it in folders_in(self.out)]
+
+
+class Described(Unpacked):
+    """The same with files and their description, a value or its text, in the folder `files`."""
+    source = 'files'
+
+    def __init__(self, folder, description, files, words=()):
+        text = description if isinstance(description, bytes) else json.dumps(description).encode()
+        super().__init__(folder, b'', {f'files/{name}': data
+                                       for name, data in {**files, 'envelope.json': text}.items()},
+                         ['--described', *words])
+
+    def given(self):
+        """The bundle that one may make of them by the words of docs/PACK.md, however large."""
+        folder = os.path.join(self.folder, 'files')
+        described = description_in(folder)
+        tables = [it for word in ('contents', 'deletes') for it in described.get(word, [])]
+        return sealed(read(os.path.join(folder, 'envelope.json')),
+                      [(it['file'], given_rows(folder, it)) for it in tables])
+
+
+def given_rows(folder, table):
+    """The rows of the files of a table, without headings."""
+    names, has_heading = table.get('from', [table['file']]), table.get('heading', False)
+    rows = [row for it in names for row in records(read(os.path.join(folder, it)))[has_heading:]]
+    return csv_text([[cell.decode() for cell in row] for row in rows], ',')
 
 
 def bundle_in(folder):

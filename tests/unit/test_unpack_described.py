@@ -1,0 +1,261 @@
+"""Tests of `unpack_rde --described`: bare CSV files with their description, of any size. What they
+are is said by the plain model of a desk."""
+import collections
+import json
+import os
+import random
+import tempfile
+
+from support.described import Files
+from support.escrow import description_in
+from support.escrow import folders_in
+from support.formats import deposit as deposit_in
+from support.formats import key as key_of
+from support.unpacking import Case
+from support.unpacking import Described
+from support.unpacking import desk
+
+FULL = {'id': 'F1', 'type': 'FULL', 'watermark': '2024-03-03T00:00:00Z'}
+DIFF = {'id': 'D2', 'type': 'DIFF', 'prevId': 'F1', 'watermark': '2024-03-04T00:00:00Z'}
+INCR = {'id': 'I3', 'type': 'INCR', 'watermark': '2024-03-05T00:00:00Z'}
+# Each kind after those that its objects name.
+ORDER = ('registrar', 'idn', 'contact', 'host', 'domain', 'nndn')
+DOMAIN = {
+    'name': 'domain', 'kind': 'domain', 'role': 'parent', 'key': 'name',
+    'fields': ['name', 'clID'], 'file': 'd.csv', 'heading': True
+}
+STATUSES = {
+    'name': 'domainStatuses', 'kind': 'domain', 'role': 'child', 'key': 'name',
+    'fields': ['name', 'status'], 'file': 's.csv', 'heading': True
+}
+GONE = {**DOMAIN, 'file': 'g.csv', 'from': ['gone.csv']}
+DOMAINS = {'d.csv': b'name,clID\na.example,R1\nB.example,R1\n', 's.csv': b'name,status\na.example,ok\nb.example,ok\n'}
+FILES = {**FULL, 'contents': [DOMAIN, STATUSES]}
+
+
+def rows_at_most(number):
+    return ['--part-rows', f'{number}']
+
+
+class DescribedFiles(Case):
+    def taken(self, description, files, words=(), status=0):
+        folder = tempfile.TemporaryDirectory(prefix='case-')
+        self.addCleanup(folder.cleanup)
+        found = Described(folder.name, description, files, words)
+        self.assertEqual(found.status, status, found.lines)
+        return found
+
+    def refused(self, wanted, description=None, files=None, words=(), status=1):
+        found = self.taken(description or FILES, files or DOMAINS, words, status)
+        self.assertIn(wanted, found.lines[-1])
+        self.assertEqual(sorted(os.listdir(found.folder)), ['d.xml', 'files'])
+
+    # ---- at random
+
+    def test_at_random_the_parts_make_what_one_bundle_makes(self):
+        seen = collections.Counter()
+        for seed in range(40):
+            chance = random.Random(f'described {seed}')
+            base = Files(chance, FULL)
+            header = chance.choice((FULL, DIFF, INCR))
+            files = base if header is FULL else Files(chance, header)
+            with self.subTest(seed=seed, type=header['type']):
+                seen[self.check_files(chance, base, files)] += 1
+        self.assertGreater(min(seen[it] for it in (False, True)), 5)
+
+    def check_files(self, chance, base, files):
+        """Compares what the parts of files make with what one bundle does, each on a Full. Whether
+        they are a series."""
+        before = self.taken(base.description, base.files).given()
+        whole = deposit_in(self.taken(files.description, files.files).given())
+        sizes = collections.Counter(
+            key_of(*it) for it in whole.rows(whole.contents))
+        most = chance.randint(max(sizes.values(), default=1), 40)
+        found = self.taken(files.description, files.files, rows_at_most(most))
+        parts = found.bundles()
+        first = [] if files is base else [before]
+        self.assertEqual(
+            desk([*first, *parts]).objects, desk([*first, found.given()]).objects)
+        self.check_parts(whole, [deposit_in(it) for it in parts], most)
+        told = dict(it.rsplit(' ', 1) for it in found.lines if it.startswith('orphan'))
+        self.assertEqual(sum(map(int, told.values())), whole.orphans)
+        self.assertEqual('one bundle takes them' in found.lines[-1], len(parts) == 1)
+        return len(parts) > 1
+
+    def check_parts(self, whole, parts, most):
+        """No part has more rows than it may, each row is in one, those of a key are together, and
+        none is lost; deletes are before contents, and kinds in their order."""
+        self.assertEqual(sum(it.orphans for it in parts), whole.orphans)
+        for member in ('contents', 'deletes'):
+            rows = [[(table['name'], *row) for table, row in it.rows(getattr(it, member))]
+                    for it in (whole, *parts)]
+            self.assertEqual(sorted(rows[0]), sorted(sum(rows[1:], [])))
+        where = collections.defaultdict(set)
+        order = []
+        for at, part in enumerate(parts):
+            its = [key_of(*it) for it in part.rows(part.contents)]
+            for key in its:
+                where[key].add(at)
+            order += [(0, 0)] * bool(part.rows(part.deletes)) + sorted(
+                {(1, ORDER.index(kind)) for kind, _ in its})
+            self.assertLessEqual(len(part.rows([*part.contents, *part.deletes])), most)
+        self.assertEqual(set(map(len, where.values())) - {1}, set())
+        self.assertEqual(order, sorted(order))
+        declared = {(it['name'], *it['fields']) for part in parts for it in part.contents}
+        self.assertEqual(declared, {(it['name'], *it['fields']) for it in whole.contents})
+
+    # ---- what it makes
+
+    def test_the_parts_of_a_deposit(self):
+        header = {**FULL, 'resend': 2, 'prevId': '', 'tld': 'example', 'counts': {'domain': 9}, 'notes': ['before 1']}
+        given = {**header, 'contents': [STATUSES, DOMAIN], 'deletes': [{**GONE, 'heading': False}]}
+        files = {**DOMAINS, 's.csv': b'name,status\nb.example,ok\nnobody,ok\n', 'gone.csv': b'c.example,x\n', 'more.csv': b''}
+        found = self.taken(given, files, rows_at_most(2))
+        told = [description_in(it) for it in folders_in(found.out)]
+        self.assertEqual([(it['id'], it['type'], it.get('prevId'), it.get('resend')) for it in told],
+                         [('F1.r2.1of3', 'FULL', None, None), ('F1.r2.2of3', 'DIFF', 'F1.r2.1of3', None),
+                          ('F1', 'DIFF', 'F1.r2.2of3', 2)])
+        self.assertEqual([(it.get('counts'), it.get('notes'), it['tld']) for it in told], [
+            (None, None, 'example'), (None, None, 'example'),
+            ({'domain': 9}, ['before 1', 'orphan: row of domainStatuses of a domain that is not in the deposit 1',
+                             'unknown: file more.csv beside the description, which does not name it 1'], 'example')])
+        self.assertEqual(found.printed.splitlines(), [
+            'part-001/domain.csv 1', 'part-001/domain-delete.csv 1', 'part-002/domain.csv 1',
+            'part-002/domainStatuses.csv 1', 'part-003/domainStatuses.csv 1'])
+        size = sum(map(len, ('c.example,x\n', 'a.example,R1\nB.example,R1\n', 'b.example,ok\nnobody,ok\n')))
+        self.assertEqual(found.lines[-1], f'unpack_rde: 5 rows and {size} bytes: a series of 3 bundles, part-001 to part-003')
+
+    def test_files_that_one_bundle_takes(self):
+        found = self.taken(FILES, DOMAINS)
+        self.assertEqual(found.lines, [
+            'unpack_rde: one bundle takes them: pack bundle --envelope out/envelope.json out BUNDLE'])
+        self.assertEqual(desk(found.bundles()).objects, desk([found.given()]).objects)
+        self.assertEqual(len(self.taken(FILES, DOMAINS, ['--series']).bundles()), 2)
+
+    def test_of_several_rows_of_one_key_the_last_counts(self):
+        files = {**DOMAINS, 'd.csv': b'name,clID\na.example,R1\nb.example,R1\nA.example,R2\n'}
+        found = self.taken(FILES, files, rows_at_most(3))
+        self.assertEqual(len(found.bundles()), 2)
+        self.assertIn('twice: row of domain of a domain that an earlier row has: of several the desk takes the last 1',
+                      found.lines)
+        self.assertEqual(desk(found.bundles()).objects, desk([found.given()]).objects)
+
+    def test_headings_may_have_the_names_of_rfc_9022(self):
+        names = {'clID': 'fClID', 'registrant': 'fRegistrant', 'idnTableId': 'fIdnTableId', 'crDate': 'fCrDate',
+                 'exDate': 'fExDate', 'status': 'fStatus'}
+        for table, fields, heading, is_right in (
+                ('domain', ['name', *names], ['name', *names.values()], True),
+                ('domainContacts', ['name', 'contactId'], ['name', 'fId'], True),
+                ('domainNs', ['name', 'hostName'], ['name', 'fHostName'], True),
+                ('domainNs', ['name', 'contactId'], ['name', 'fId'], False),
+                ('domain', ['name', 'clID'], ['fName', 'clID'], False),
+                ('domain', ['name', 'fClID'], ['name', 'clID'], False),
+                ('domain', ['name', 'clID', 'status'], ['name', 'status', 'clID'], False)):
+            given = {**FULL, 'contents': [{**DOMAIN, 'name': table, 'fields': fields}]}
+            files = {'d.csv': ','.join(heading).encode()}
+            with self.subTest(table=table, heading=heading):
+                if is_right:
+                    self.assertEqual(description_in(self.taken(given, files).out)['contents'][0]['fields'], fields)
+                else:
+                    self.refused(f'does not begin with the fields of {table}: ', given, files)
+
+    def test_what_is_known_of_earlier_deposits(self):
+        full = self.taken(FILES, DOMAINS, rows_at_most(2))
+        on = self.taken({**INCR, 'contents': [DOMAIN]}, DOMAINS, ['--known', full.out])
+        told = description_in(on.out)
+        self.assertEqual((told['type'], told['prevId']), ('DIFF', 'F1'))
+        self.assertEqual(len(desk([*full.bundles(), *on.bundles()]).steps), 3)
+        again = self.taken({**FILES, 'resend': 1}, DOMAINS, ['--known', full.out])
+        self.assertEqual([description_in(it)['id'] for it in folders_in(again.out)], ['F1.r1.1of2', 'F1'])
+
+    # ---- what is refused
+
+    def test_what_no_bundle_takes_is_refused_by_kind_and_key(self):
+        wanted = 'files/envelope.json: the domain a.example alone has more rows or bytes than one bundle takes'
+        for words in (rows_at_most(1), ['--part-bytes', '20']):
+            self.refused(wanted, words=words)
+        deletes = {**FULL, 'deletes': [GONE]}
+        self.refused('files/gone.csv:2: the domain a.example alone has more', deletes,
+                     {'gone.csv': b'name,clID\na.example,R1\n'}, ['--part-bytes', '12'])
+
+    def test_files_that_are_not_as_described(self):
+        for wanted, text in (
+                ('d.csv: it does not begin with the fields of domain: name,clID', b'\n'),
+                ('d.csv:1: 1 fields, and not the 2 that are declared', b'name\n'),
+                ('d.csv:4: 3 fields, and not the 2', b'name,clID\na,R1\n\nb,R1,\n'),
+                ('d.csv:2: field 2 has bytes that are no text', b'name,clID\na,\xff\n'),
+                ('d.csv:2: a domain without name', b'name,clID\n,R1\n'),
+                ('d.csv:2: the name of a domain is longer than 255 bytes', b'name,clID\n' + b'x' * 256 + b',R1\n'),
+                ('d.csv:3: a row begins with a byte order mark', b'name,clID\na,R1\n\xef\xbb\xbfb,R1\n'),
+                ('d.csv:2: no row of CSV: unexpected end of data', b'name,clID\n"a,R1\n'),
+                ("d.csv:2: no row of CSV: ',' expected after '\"'", b'name,clID\n"a"b,R1\n')):
+            with self.subTest(wanted):
+                self.refused(wanted, files={**DOMAINS, 'd.csv': text})
+
+    def test_files_that_are_not_there(self):
+        self.refused('the file s.csv is not in', files={'d.csv': DOMAINS['d.csv']})
+        for name in ('', '.', '..', '../d.xml', '/etc/passwd', 'a/d.csv'):
+            with self.subTest(name):
+                self.refused('no name of a file', {**FULL, 'contents': [{**DOMAIN, 'from': [name]}]})
+
+    def test_links_and_pipes(self):
+        for target, wanted in (('../d.xml', 'is a link out of'), ('pipe', 'it is no plain file')):
+            with self.subTest(target), tempfile.TemporaryDirectory(prefix='case-') as folder:
+                os.mkdir(f'{folder}/files')
+                os.mkfifo(f'{folder}/files/pipe')
+                os.symlink(target, f'{folder}/files/d.csv')
+                found = Described(folder, {**FULL, 'contents': [DOMAIN]}, {})
+                self.assertEqual(found.status, 1)
+                self.assertIn(wanted, found.lines[-1])
+
+    def test_descriptions_of_another_form(self):
+        def of(table=None, **header):
+            return {**FULL, 'contents': [{**DOMAIN, **(table or {})}], **header}
+
+        for wanted, description in (
+                ('it is no JSON', b'{'), ('it is no JSON', b'\xff'), ('it is no JSON', b'[' * 100_000),
+                ('it is no JSON', json.dumps({**FILES, 'x': float('nan')}).encode()),
+                ('it is no JSON', json.dumps({**FILES, 'x': '\ud800'}).encode()),
+                ('it is no JSON', json.dumps(FILES).encode()[:-1] + b',"x":1e999}'),
+                ('it is no JSON object', b'[]'),
+                ('id: missing', of(id='a b')), ('type: missing', of(type='full')), ('watermark: missing', of(watermark=1)),
+                ('watermark 2024-03-03: no date and time', of(watermark='2024-03-03')),
+                ('watermark 2024-02-30T00:00:00Z: day is out of range', of(watermark='2024-02-30T00:00:00Z')),
+                ('watermark 2300-01-01T00:00:00Z: its year', of(watermark='2300-01-01T00:00:00Z')),
+                ('prevId: missing, and it is a Differential', of(type='DIFF')), ('prevId: missing', of(prevId=0)),
+                ('resend: missing', of(resend='1')), ('resend: missing', of(resend=1_000_000)), ('resend: missing', of(resend=True)),
+                ('counts: missing', of(counts=[])), ('counts: missing', of(counts={'domain': -1})),
+                ('counts: missing', of(counts={'host': 1.5})), ('contents: missing', of(contents={})),
+                ('deletes: missing', of(deletes=None)), ('contents table 1, name: missing', of(contents=[0])),
+                ('contents table 1, name: missing', of({'name': 'a-b'})), ('contents table 1, kind: missing', of({'kind': []})),
+                ('contents table 1, role: missing', of({'role': 'Parent'})),
+                ('deletes table 1, role: missing', of(deletes=[{**GONE, 'role': 'child'}])),
+                ('contents table 1, fields: missing', of({'fields': []})),
+                ('contents table 1, fields: missing', of({'fields': ['name', 'name']})),
+                ('contents table 1, fields: missing', of({'fields': ['name', ['a']]})),
+                ('contents table 1, fields: missing', of({'fields': ['name', *map(str, range(64))]})),
+                ('contents table 1, key: missing', of({'key': 'id'})), ('contents table 1, file: missing', of({'file': 'D.csv'})),
+                ('contents table 1, file: missing', of({'file': 'envelope.json'})),
+                ('contents table 1, from: missing', of({'from': None})), ('contents table 1, from: missing', of({'from': [1]})),
+                ('contents table 1, heading: missing', of({'heading': 1})),
+                ('contents table 2, name: that of an earlier table', of(contents=[DOMAIN, DOMAIN])),
+                ('contents table 2, kind: that of an earlier parent', of(contents=[DOMAIN, {**DOMAIN, 'name': 'other'}])),
+                ('the section d.csv is named twice', of(contents=[DOMAIN, {**STATUSES, 'file': 'd.csv', 'from': []}])),
+                ('the file d.csv is named twice', of({'from': ['d.csv', 's.csv', 'd.csv']})),
+                ('the file d.csv is named twice', of(deletes=[{**GONE, 'from': ['d.csv']}])),
+                ('the table second has the name of a file', of({'name': 'second'}))):
+            with self.subTest(wanted, description=str(description)[:90]):
+                self.refused(wanted, description)
+
+    def test_usage_and_what_is_unknown(self):
+        self.refused('it has what is unknown, and --strict was given', files={**DOMAINS, 'more.CSV': b''}, words=['--strict'])
+        self.refused('--map is for documents', words=['--map', 'names.csv'], status=2)
+        found = self.taken(FILES, DOMAINS)
+        found.run(['--described'])
+        self.assertEqual(found.status, 3)
+        self.assertIn('something is at its place', found.lines[-1])
+        os.rename(found.out, f'{found.out}-1')
+        os.remove(f'{found.folder}/files/envelope.json')
+        found.run(['--described'])
+        self.assertEqual(found.status, 3)
+        self.assertIn("'files/envelope.json'", found.lines[-1])
