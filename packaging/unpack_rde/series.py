@@ -71,13 +71,28 @@ def known_in(folder: str) -> Known:
     if not folders:
         raise Refusal(folder, f'it has no {DESCRIPTION}')
     try:
-        headers = [header_in(it) for it in folders]
+        return known_of(folder, folders, [header_in(it) for it in folders])
     except (ValueError, KeyError, TypeError, AttributeError):
         raise Refusal(folder, f'its {DESCRIPTION} is none that unpack_rde wrote') from None
+
+
+def known_of(folder: str, folders: list[str], headers: list[Header]) -> Known:
+    """The deposit in these folders, by their headers."""
+    if folders != [folder]:
+        check_parts(folder, headers)
     last = headers[-1]
     return Known(last['id'], headers[0]['type'], nanoseconds(last['watermark']),
-                 last.get('resend', 0), folder, folders,
+                 last.get('resend') or 0, folder, folders,
                  [Place(nanoseconds(it['watermark']), it['type']) for it in headers])
+
+
+def check_parts(folder: str, headers: list[Header]) -> None:
+    """Refuses parts that are not all those of one deposit."""
+    own, of = headers[-1]['id'], len(headers)
+    for part, header in enumerate(headers, 1):
+        if header.get('series') != {'deposit': own, 'part': part, 'of': of}:
+            raise Refusal(
+                folder, f'in the place of part {part} of {of} of {own} it has {header["id"]}')
 
 
 def header_in(folder: str) -> Header:

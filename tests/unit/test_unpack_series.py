@@ -5,6 +5,7 @@ import io
 import os
 import random
 import re
+import shutil
 import tempfile
 
 from support.documents import KEYS
@@ -18,6 +19,7 @@ from support.escrow import objects_in
 from support.escrow import some_objects
 from support.files import read
 from support.formats import deposit as deposit_in
+from support.formats import place_text
 from support.unpacking import WATERMARK
 from support.unpacking import Case
 from support.unpacking import Unpacked
@@ -248,6 +250,11 @@ class Series(Case):
                     self.assertEqual(found.objects, wanted)
                     self.assertEqual([found.listed[it][4] for it in found.steps],
                                      [row_of(it)[-65:-1] for it in [*after, *on]])
+                # The former bundles are held, and stand outside the chain; the place of the last
+                # one is that of the new last one.
+                states = {it.place: (it.state, it.resend) for it in found.gaps()}
+                self.assertEqual([states[deposit_in(it).place] for it in before],
+                                 [('standing', 0)] * (len(before) - 1) + [('chain', 1)])
 
     def test_without_one_of_its_bundles_a_resend_blocks_what_is_on_it(self):
         before, after, on, wanted = self.revisions(15, 12)
@@ -266,6 +273,29 @@ class Series(Case):
                     self.assertEqual(states[deposit_in(after[-1]).place].awaited, 1)
                 self.assertEqual(
                     desk([*before, *after, *on], [*arrived, after[missing]]).objects, wanted)
+
+    def test_in_any_order_its_bundles_make_the_same(self):
+        bundles = self.made(FULL, self.full('orders', 8), rows_at_most(20)).bundles()
+        wanted = desk(bundles).objects
+        for seed in range(6):
+            arrivals = random.Random(seed).sample(bundles, len(bundles))
+            for count in range(len(arrivals)):
+                # Until all are there the chain has the first ones, up to one that is missing.
+                front = [it in arrivals[:count] for it in bundles].index(False)
+                self.assertEqual(desk(bundles, arrivals[:count]).steps, [*range(front)])
+            self.assertEqual(desk(bundles, arrivals).objects, wanted)
+
+    def test_without_a_bundle_in_its_middle_those_after_it_are_blocked(self):
+        bundles = self.made(FULL, self.full('middle', 8), rows_at_most(20)).bundles()
+        on = self.made(DIFF, []).bundles()
+        self.assertGreater(len(bundles), 3)
+        for missing in range(1, len(bundles) - 1):
+            listed = [*bundles, *on]
+            found = desk(listed, [it for it in listed if it is not bundles[missing]])
+            place = found.listed[missing][1]
+            self.assertEqual([(it.state, it.blocker) for it in found.gaps()],
+                             [('chain', None)] * missing + [('missing', None)] +
+                             [('blocked', place_text(place))] * (len(listed) - missing - 1))
 
     def test_a_bundle_that_comes_twice_changes_nothing(self):
         bundles = self.made(FULL, self.full('twice'), rows_at_most(15)).bundles()
@@ -345,6 +375,40 @@ class Series(Case):
         found = desk([*full.bundles(), *before.bundles(), *after.bundles()])
         self.assertEqual(found.objects, desk([*full.bundles(), *after.bundles()]).objects)
         self.assertEqual(len(found.steps), len(full.bundles()) + len(after.bundles()))
+
+    def test_parts_that_are_not_all_those_of_one_deposit_are_refused(self):
+        objects = self.full('mixed', 8)
+        one, other = (self.made({**FULL, 'id': it}, objects, rows_at_most(30)).out
+                      for it in ('F1', 'F2'))
+        names = sorted(os.listdir(one))
+        of = len(names)
+        self.assertGreater(of, 2)
+        # A part of another deposit, and a part that is gone.
+        os.rename(f'{one}/{names[1]}', f'{one}/was')
+        shutil.copytree(f'{other}/{names[1]}', f'{one}/{names[1]}')
+        shutil.rmtree(f'{other}/{names[0]}')
+        for folder, wanted in ((one, f'in the place of part 2 of {of} of F1 it has F2.2of{of}'),
+                               (other, f'in the place of part 1 of {of - 1} of F2 it has F2.2of{of}')):
+            found = self.made(DIFF, [], ['--known', folder], status=1)
+            self.assertEqual(found.lines[-1], f'unpack_rde: {folder}: {wanted}')
+        shutil.rmtree(f'{one}/{names[1]}')
+        os.rename(f'{one}/was', f'{one}/{names[1]}')
+        self.made(DIFF, [], ['--known', one])
+
+    def test_a_table_without_rows_stays_declared(self):
+        objects = [[('host', {'name': f'ns{at}.example', 'roid': f'H{at}'})] for at in range(5)]
+        found = self.made(FULL, objects, model='CSV')
+        wanted = {it['name'] for it in description_in(found.out)['contents']}
+        files = {
+            it: read(os.path.join(found.folder, it))
+            for it in os.listdir(found.folder)
+            if it.endswith('.csv')
+        }
+        again = self.unpacked(read(os.path.join(found.folder, 'd.xml')), files,
+                              words=rows_at_most(2))
+        told = [description_in(it)['contents'] for it in folders_in(again.out)]
+        self.assertEqual(len(told), 3)
+        self.assertEqual({it['name'] for its in told for it in its}, wanted)
 
     def test_what_no_table_has_is_in_the_last_part(self):
         text = deposit(
