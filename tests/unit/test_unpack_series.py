@@ -20,12 +20,15 @@ from support.escrow import some_objects
 from support.files import read
 from support.formats import deposit as deposit_in
 from support.formats import place_text
+from support.unpacking import ADDRESSES
+from support.unpacking import HOST
 from support.unpacking import WATERMARK
 from support.unpacking import Case
 from support.unpacking import Unpacked
 from support.unpacking import counted
 from support.unpacking import deposit
 from support.unpacking import desk
+from support.unpacking import in_files
 from support.unpacking import registrar
 from support.unpacking import row_of
 
@@ -396,19 +399,14 @@ class Series(Case):
         self.made(DIFF, [], ['--known', one])
 
     def test_a_table_without_rows_stays_declared(self):
-        objects = [[('host', {'name': f'ns{at}.example', 'roid': f'H{at}'})] for at in range(5)]
-        found = self.made(FULL, objects, model='CSV')
-        wanted = {it['name'] for it in description_in(found.out)['contents']}
-        files = {
-            it: read(os.path.join(found.folder, it))
-            for it in os.listdir(found.folder)
-            if it.endswith('.csv')
-        }
-        again = self.unpacked(read(os.path.join(found.folder, 'd.xml')), files,
-                              words=rows_at_most(2))
-        told = [description_in(it)['contents'] for it in folders_in(again.out)]
-        self.assertEqual(len(told), 3)
-        self.assertEqual({it['name'] for its in told for it in its}, wanted)
+        rows = ''.join(f'ns{at}.example,H{at}\n' for at in range(5))
+        found = self.unpacked(
+            deposit(in_files('csvHost', HOST, ADDRESSES)), {
+                'h.csv': rows.encode(), 'a.csv': b''
+            }, words=rows_at_most(2))
+        told = [description_in(it)['contents'] for it in folders_in(found.out)]
+        self.assertEqual([[it['name'] for it in its] for its in told],
+                         [['host', 'hostAddresses'], ['host'], ['host']])
 
     def test_what_no_table_has_is_in_the_last_part(self):
         text = deposit(
