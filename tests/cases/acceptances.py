@@ -5,7 +5,7 @@ from collections import defaultdict
 
 from support.acceptance import Seen, beginning, is_accepted, is_bundle, tests_of, word_of
 from support.files import read
-from support.flawed import draw_release, misnamed_releases
+from support.flawed import draw_release, draw_series, misnamed_releases
 from support.formats import KINDS, read_record, record
 from support.stage import Failed, case, compare, text_of
 from support.stores import EMPTY_LOG, change_row
@@ -13,6 +13,8 @@ from support.stores import EMPTY_LOG, change_row
 # The seeds of the releases. The last ones are rare: in these the day of the chain's end has a later place, a revision is missing below the
 # one that is used, a place is missing on the day of the end, and a deposit before the last one has orphans.
 SEEDS = (*range(26), 305, 129, 68, 28)
+# Those of releases whose deposits are series.
+SERIES = (2, 3, 4, 7, 9, 13, 15, 16, 18, 29, 33, 37)
 TESTS = ('end', 'resends', 'gaps', 'parked', 'findings', 'orphans', 'counts', 'fields', 'names', 'bodies', 'tables')
 
 
@@ -99,6 +101,21 @@ def test_random_releases(stage):
                 spoil(stage, store, desk, random.Random(seed))
                 with case(name):
                     check_store(stage, store, desk, seen)
-    # (The releases are such that each test passes in some of them, and not in others.)
-    compare('words', text_of(f'{it} {"told" if it == "gaps" else "wrong"} ok' for it in TESTS),
-            text_of(' '.join([it, *sorted(seen[it], reverse=True)]) for it in TESTS))
+    check_words(seen, TESTS)
+
+
+def test_random_series(stage):
+    """What is said of random releases whose deposits are series."""
+    seen = defaultdict(set)
+    for seed in SERIES:
+        release, store = draw_series(seed), f'{seed}.db'
+        release.rebuild(stage, store)
+        with case(f'seed {seed}'):
+            check_store(stage, store, release.desk(), seen)
+    check_words(seen, [it for it in TESTS if it not in ('bodies', 'tables')])
+
+
+def check_words(seen, tests):
+    """The releases are such that each of these tests passes in some of them, and not in others."""
+    compare('words', text_of(f'{it} {"told" if it == "gaps" else "wrong"} ok' for it in tests),
+            text_of(' '.join([it, *sorted(seen[it], reverse=True)]) for it in tests))

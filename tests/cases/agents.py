@@ -38,7 +38,7 @@ def rebuild(stage, *bundles):
 
 
 def restored(stage, *deposits):
-    """The objects that are in a store after these deposits, each the folder of its description: by kind and key, as `export` prints them."""
+    """The objects that are in a store after these deposits, each the folder of its description."""
     os.mkdir(stage.at('bundles'))
     bundles = []
     for name in deposits:
@@ -46,6 +46,11 @@ def restored(stage, *deposits):
             bundles.append(part.replace('/', '-'))
             run(stage, f'bundle --envelope {part}/envelope.json {part} bundles/{bundles[-1]}', 'pack')
     rebuild(stage, *bundles)
+    return exported(stage)
+
+
+def exported(stage):
+    """The objects of the store, by kind and key, as `export` prints them."""
     rows = {}
     for kind in KINDS:
         text = io.StringIO(run(stage, f'export --store desk.db {kind}').decode(), newline='')
@@ -100,8 +105,7 @@ def test_changes(stage):
 
 def test_series(stage):
     """Deposits that are larger than one bundle are restored as they were, and what is based on them."""
-    limit = ['--part-rows', '25']
-    for seed in range(2):
+    for seed, limit in enumerate((['--part-rows', '25'], ['--part-bytes', '1800'])):
         first, second = (some_objects(random.Random(f'series {seed} {it}'), most=9) for it in range(2))
         hosts = {rows[0][1]['name']: rows[0][1]['roid'] for rows in first if rows[0][0] == 'host'}
         gone = {'domain': [rows[0][1]['name'] for rows in first if rows[0][0] == 'domain'][:2]}
@@ -116,6 +120,21 @@ def test_series(stage):
                 unpacked(stage, more, model, second, gone, ['--known', 'F1', *limit], roids=hosts)
                 check_same(wanted, restored(stage, 'F1', 'D2'))
             clear(stage)
+
+
+def test_bare_files(stage):
+    """Bare CSV files with their description, larger than one bundle, are restored as they were."""
+    for seed in range(2):
+        objects = some_objects(random.Random(f'bare {seed}'), most=9)
+        with case(f'seed {seed}'):
+            unpacked(stage, FULL, 'XML', objects)
+            words = [sys.executable, f'{TOP}/packaging/unpack_rde', '--described', '--part-rows', '20', 'F1', 'parts']
+            subprocess.run(words, cwd=stage.room.name, check=True, capture_output=True)
+            os.mkdir(stage.at('bundles'))
+            run(stage, 'series parts bundles/F1', 'pack')
+            rebuild(stage, *sorted(os.listdir(stage.at('bundles'))))
+            check_same(lowered(objects), exported(stage))
+        clear(stage)
 
 
 # The table, its fields, a heading of its file, and whether that names the fields.

@@ -1,11 +1,14 @@
-"""Small releases at random, with flaws: what an agent may leave out or get wrong, and what it may name otherwise."""
+"""Small releases at random, with flaws: what an agent may leave out or get wrong, and what it may name otherwise. Their deposits may be
+series, which `unpack_rde --described` makes of them."""
 import random
+import tempfile
 
 from support.acceptance import GUIDES
 from support.bundles import Header, manifest
-from support.formats import KINDS
+from support.formats import KINDS, envelope_in, sections
 from support.registries import TABLES, Registry, deposit
 from support.releases import Release, numbered
+from support.unpacking import Described
 
 # How many objects of each kind there are at first.
 FIRST = {'registrar': 2, 'idn': 1, 'contact': 3, 'host': 3, 'domain': 4, 'nndn': 1}
@@ -134,6 +137,10 @@ class Agent:
         self.spoil(contents)
         return contents.body(header, deletes, self.counts())
 
+    def bundles(self, header, body):
+        """A deposit, or the bundles of the series that it is made."""
+        return [(header, body)]
+
     def hand_in(self, header, body, is_awaited):
         """Lists a deposit and lets it arrive; or one of both, or no deposit at all."""
         is_late = self.listed != [] or self.random.random() < 0.2
@@ -154,7 +161,8 @@ class Agent:
         is_awaited = self.has('awaited', 0.4)
         for resend in range(2 if is_awaited or self.has('revised', 0.4) else 1):
             header = header._replace(resend=resend)
-            self.hand_in(header, self.body(header, objects, deletes), is_awaited and resend > 0)
+            for its, body in self.bundles(header, self.body(header, objects, deletes)):
+                self.hand_in(its, body, is_awaited and resend > 0)
         self.last_id = header.id
 
     def add_later(self, day):
@@ -179,11 +187,51 @@ class Agent:
         return Release(manifest(self.listed), numbered(self.bodies), moment)
 
 
-def draw_release(seed):
-    """The release of a seed: some have no flaw, most have a few, and half of them wrong names."""
-    chance = random.Random(seed)
+class AgentOfSeries(Agent):
+    """An agent whose deposits are series: a bundle has fewer rows or bytes than it may."""
+
+    def __init__(self, seed, flaws=()):
+        super().__init__(seed, flaws)
+        self.full = None  # the folder of the last Full
+
+    def limits(self):
+        pick = self.random.randint
+        return ['--part-rows', f'{pick(9, 30)}'] if pick(0, 1) else ['--part-bytes', f'{pick(900, 2000)}']
+
+    def bundles(self, header, body):
+        (_, envelope), *files = sections(body)
+        folder = tempfile.TemporaryDirectory(prefix='case-')
+        known = ['--known', f'{self.full.name}/out'] if self.full else []
+        made = Described(folder.name, envelope, dict(files), ['--series', *self.limits(), *known])
+        if made.status:
+            raise AssertionError(made.lines)
+        if header.type == 'FULL':
+            self.full = folder
+        return [(header_in(it), it) for it in made.bundles()]
+
+
+def header_in(body):
+    """The header of a bundle."""
+    told = envelope_in(body)
+    resend = told['resend'].whole() if 'resend' in told else 0
+    return Header(told['id'], told['type'], told['watermark'], told.get('prevId', ''), resend)
+
+
+def draw_flaws(chance, flaws):
+    """Of some there are none, of most a few, and half of them have wrong names."""
     names = [chance.choice(('left out', 'doubled', 'renamed', 'renamed table'))] if chance.random() < 0.5 else []
-    return Agent(seed, names + chance.sample(FLAWS, chance.randint(0, 6))).make()
+    return names + chance.sample(flaws, chance.randint(0, 6))
+
+
+def draw_series(seed):
+    """The release of a seed whose deposits are series. (The last bundle of a Full would be a Differential of the same day.)"""
+    chance = random.Random(f'series {seed}')
+    return AgentOfSeries(seed, draw_flaws(chance, [it for it in FLAWS if it != 'same day'])).make()
+
+
+def draw_release(seed):
+    """The release of a seed."""
+    return Agent(seed, draw_flaws(random.Random(seed), FLAWS)).make()
 
 
 def some_release(seed):
