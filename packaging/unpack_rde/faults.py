@@ -29,8 +29,8 @@ class Notes:
         """`unknown`: no line of the table of names has it, and the folder doesn't. `left out`: the
         desk has no table for it. `empty`, `orphan`: a row is in the folder, and lacks a field that
         is required, or the object that it is of. `control`: a cell has control characters.
-        `renamed`: it has another name in the folder, or had another one before. `twice`: another row
-        has its key. `given`: as what a deposit is given."""
+        `renamed`: it has another name in the folder, or had another one before. `twice`: another
+        row has its key. `given`: as what a deposit is given."""
         place = word, what
         if place not in self.counts and len(self.counts) >= MOST_TOLD:
             place = word, 'others, which are not told one by one'

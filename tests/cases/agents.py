@@ -16,7 +16,7 @@ from support.escrow import some_objects
 from support.escrow import told
 from support.files import read
 from support.formats import KINDS
-from support.stage import Failed, Wanted, case
+from support.stage import Failed, Wanted, case, compare_all
 from support.stores import run
 
 # Kinds whose keys are told apart without regard to case.
@@ -135,6 +135,28 @@ def test_bare_files(stage):
             rebuild(stage, *sorted(os.listdir(stage.at('bundles'))))
             check_same(lowered(objects), exported(stage))
         clear(stage)
+
+
+# The description of files by their headings, as docs/FROM_ESCROW.md has it.
+HEADS = 'mkdir heads; for file in files/*.csv; do head -n 1 "$file" > "heads/${file##*/}"; done'
+
+
+def test_described_by_headings(stage):
+    """A file that is larger than a bundle may be is described by its heading, and restored."""
+    rows = {f'd{at}.example': f'{at}' * 250_000 for at in range(10, 50)}
+    stage.write('files/domain-1.csv', ''.join(f'{it}\n' for it in ['name,note', *map(','.join, rows.items())]).encode())
+    stage.check('describe files', Wanted(1, '', 'E2 files/domain-1.csv\n'), program='pack')
+    subprocess.run(['bash', '-c', HEADS], cwd=stage.room.name, check=True)
+    described = stage.end(stage.begin(['describe', 'heads'], 'pack')).out.decode()
+    stage.write('files/envelope.json', described.replace('"ID"', '"F1"').replace('1970', '2024').encode())
+    subprocess.run([sys.executable, f'{TOP}/packaging/unpack_rde', '--described', 'files', 'F1'], cwd=stage.room.name, check=True,
+                   capture_output=True)
+    os.mkdir(stage.at('bundles'))
+    run(stage, 'series F1 bundles/F1', 'pack')
+    names = sorted(os.listdir(stage.at('bundles')))
+    compare_all('names', ['F1-001', 'F1-002'], names)
+    rebuild(stage, *names)
+    check_same({('domain', key): told([('domain', {'name': key, 'note': note})]) for key, note in rows.items()}, exported(stage))
 
 
 # The table, its fields, a heading of its file, and whether that names the fields.

@@ -5,7 +5,7 @@ from support.formats import KINDS
 # What cells are made of: what means something in CSV, and letters of several alphabets.
 CELLS = ('', 'a', 'R1', 'é漢\U0001f600', ' x ', 'a,b', 'q"q', '"', 'two\nlines', 'cr\rlf\r\n', ';', '\t')
 KEYS = ('k1', 'k2', 'K2', 'é1', 'k,3', 'k"4', 'k 5', 'nobody')
-# A parent table's name, and those of its child tables; letters of either case are told apart.
+# What the names of child tables end with: letters of either case are told apart.
 NAMES = ('t', 'T', 'more_1', 'domainNs', 'z' * 64)
 
 

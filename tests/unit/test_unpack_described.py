@@ -29,8 +29,91 @@ STATUSES = {
     'fields': ['name', 'status'], 'file': 's.csv', 'heading': True
 }
 GONE = {**DOMAIN, 'file': 'g.csv', 'from': ['gone.csv']}
-DOMAINS = {'d.csv': b'name,clID\na.example,R1\nB.example,R1\n', 's.csv': b'name,status\na.example,ok\nb.example,ok\n'}
+DOMAINS = {
+    'd.csv': b'name,clID\na.example,R1\nB.example,R1\n',
+    's.csv': b'name,status\na.example,ok\nb.example,ok\n'
+}
 FILES = {**FULL, 'contents': [DOMAIN, STATUSES]}
+# A table, its fields, the heading of its file, and whether that names them.
+HEADINGS = (
+    ('domain', 'name,clID,registrant,idnTableId', 'name,fClID,fRegistrant,fIdnTableId', True),
+    ('domain', 'name,crDate,exDate,status', 'name,fCrDate,fExDate,fStatus', True),
+    ('domainContacts', 'name,contactId', 'name,fId', True),
+    ('domainNs', 'name,hostName', 'name,fHostName', True),
+    ('domainNs', 'name,contactId', 'name,fId', False),
+    ('domain', 'name,clID', 'fName,clID', False),
+    ('domain', 'name,fClID', 'name,clID', False),
+    ('domain', 'name,clID,status', 'name,status,clID', False),
+)
+# Where a file is wrong, and how, and the file.
+NOT_AS_DESCRIBED = {
+    ': it does not begin with the fields of domain: name,clID': b'\n',
+    ':1: 1 fields, and not the 2 that are declared': b'name\n',
+    ':4: 3 fields, and not the 2 that are declared': b'name,clID\na,R1\n\nb,R1,\n',
+    ':2: field 2 has bytes that are no text': b'name,clID\na,\xff\n',
+    ':2: a domain without name': b'name,clID\n,R1\n',
+    ':2: the name of a domain is longer than 255 bytes': b'name,clID\n' + b'x' * 256 + b',R1\n',
+    ':3: a row begins with a byte order mark': b'name,clID\na,R1\n\xef\xbb\xbfb,R1\n',
+    ':2: no row of CSV: unexpected end of data': b'name,clID\n"a,R1\n',
+    ":2: no row of CSV: ',' expected after '\"'": b'name,clID\n"a"b,R1\n',
+}
+
+
+def of_table(**members):
+    return {**FULL, 'contents': [{**DOMAIN, **members}]}
+
+
+def of_header(**members):
+    return {**FILES, **members}
+
+
+# What is said of a description, and the description.
+NO_DESCRIPTIONS = (
+    ('it is no JSON', b'{'),
+    ('it is no JSON', b'\xff'),
+    ('it is no JSON', b'[' * 100_000),
+    ('it is no JSON', json.dumps({**FILES, 'x': float('nan')}).encode()),
+    ('it is no JSON', json.dumps({**FILES, 'x': '\ud800'}).encode()),
+    ('it is no JSON', json.dumps(FILES).encode()[:-1] + b',"x":1e999}'),
+    ('it is no JSON object', b'[]'),
+    ('id: missing', of_header(id='a b')),
+    ('type: missing', of_header(type='full')),
+    ('watermark: missing', of_header(watermark=1)),
+    ('watermark 2024-03-03: no date and time', of_header(watermark='2024-03-03')),
+    ('watermark 2024-02-30T00:00:00Z: day is', of_header(watermark='2024-02-30T00:00:00Z')),
+    ('watermark 2300-01-01T00:00:00Z: its year', of_header(watermark='2300-01-01T00:00:00Z')),
+    ('prevId: missing, and it is a Differential', of_header(type='DIFF')),
+    ('prevId: missing', of_header(prevId=0)),
+    ('resend: missing', of_header(resend='1')),
+    ('resend: missing', of_header(resend=1_000_000)),
+    ('resend: missing', of_header(resend=True)),
+    ('counts: missing', of_header(counts=[])),
+    ('counts: missing', of_header(counts={'domain': -1})),
+    ('counts: missing', of_header(counts={'host': 1.5})),
+    ('contents: missing', of_header(contents={})),
+    ('deletes: missing', of_header(deletes=None)),
+    ('contents table 1, name: missing', of_header(contents=[0])),
+    ('contents table 1, name: missing', of_table(name='a-b')),
+    ('contents table 1, kind: missing', of_table(kind=[])),
+    ('contents table 1, role: missing', of_table(role='Parent')),
+    ('deletes table 1, role: missing', of_header(deletes=[{**GONE, 'role': 'child'}])),
+    ('contents table 1, fields: missing', of_table(fields=[])),
+    ('contents table 1, fields: missing', of_table(fields=['name', 'name'])),
+    ('contents table 1, fields: missing', of_table(fields=['name', ['a']])),
+    ('contents table 1, fields: missing', of_table(fields=['name', *map(str, range(64))])),
+    ('contents table 1, key: missing', of_table(key='id')),
+    ('contents table 1, file: missing', of_table(file='D.csv')),
+    ('contents table 1, file: missing', of_table(file='envelope.json')),
+    ('contents table 1, from: missing', of_table(**{'from': None})),
+    ('contents table 1, from: missing', of_table(**{'from': [1]})),
+    ('contents table 1, heading: missing', of_table(heading=1)),
+    ('contents table 2, name: that of an earlier', of_header(contents=[DOMAIN, DOMAIN])),
+    ('contents table 2, kind: that of', of_header(contents=[DOMAIN, {**DOMAIN, 'name': 'x'}])),
+    ('section d.csv is named', of_header(contents=[DOMAIN, {**STATUSES, 'file': 'd.csv'}])),
+    ('the file d.csv is named twice', of_table(**{'from': ['d.csv', 's.csv', 'd.csv']})),
+    ('the file d.csv is named twice', of_header(deletes=[{**GONE, 'from': ['d.csv']}])),
+    ('the table second has the name of a file', of_table(name='second')),
+)
 
 
 def rows_at_most(number):
@@ -107,28 +190,39 @@ class DescribedFiles(Case):
     # ---- what it makes
 
     def test_the_parts_of_a_deposit(self):
-        header = {**FULL, 'resend': 2, 'prevId': '', 'tld': 'example', 'counts': {'domain': 9}, 'notes': ['before 1']}
-        given = {**header, 'contents': [STATUSES, DOMAIN], 'deletes': [{**GONE, 'heading': False}]}
-        files = {**DOMAINS, 's.csv': b'name,status\nb.example,ok\nnobody,ok\n', 'gone.csv': b'c.example,x\n', 'more.csv': b''}
+        given = {
+            **FULL, 'resend': 2, 'prevId': '', 'tld': 'example', 'counts': {'domain': 9},
+            'notes': ['before 1'], 'contents': [STATUSES, DOMAIN],
+            'deletes': [{**GONE, 'heading': False}]
+        }
+        rows = {'gone.csv': b'c.example,x\n', 's.csv': b'b.example,ok\nnobody,ok\n'}
+        files = {**DOMAINS, **rows, 's.csv': b'name,status\n' + rows['s.csv'], 'more.csv': b''}
         found = self.taken(given, files, rows_at_most(2))
         told = [description_in(it) for it in folders_in(found.out)]
-        self.assertEqual([(it['id'], it['type'], it.get('prevId'), it.get('resend')) for it in told],
-                         [('F1.r2.1of3', 'FULL', None, None), ('F1.r2.2of3', 'DIFF', 'F1.r2.1of3', None),
-                          ('F1', 'DIFF', 'F1.r2.2of3', 2)])
-        self.assertEqual([(it.get('counts'), it.get('notes'), it['tld']) for it in told], [
-            (None, None, 'example'), (None, None, 'example'),
-            ({'domain': 9}, ['before 1', 'orphan: row of domainStatuses of a domain that is not in the deposit 1',
-                             'unknown: file more.csv beside the description, which does not name it 1'], 'example')])
+        members = ('id', 'type', 'prevId', 'resend', 'tld', 'counts')
+        self.assertEqual([tuple(map(it.get, members)) for it in told],
+                         [('F1.r2.1of3', 'FULL', None, None, 'example', None),
+                          ('F1.r2.2of3', 'DIFF', 'F1.r2.1of3', None, 'example', None),
+                          ('F1', 'DIFF', 'F1.r2.2of3', 2, 'example', {'domain': 9})])
+        lines = [
+            'orphan: row of domainStatuses of a domain that is not in the deposit 1',
+            'unknown: file more.csv beside the description, which does not name it 1'
+        ]
+        self.assertEqual([it.get('notes') for it in told], [None, None, ['before 1', *lines]])
         self.assertEqual(found.printed.splitlines(), [
             'part-001/domain.csv 1', 'part-001/domain-delete.csv 1', 'part-002/domain.csv 1',
-            'part-002/domainStatuses.csv 1', 'part-003/domainStatuses.csv 1'])
-        size = sum(map(len, ('c.example,x\n', 'a.example,R1\nB.example,R1\n', 'b.example,ok\nnobody,ok\n')))
-        self.assertEqual(found.lines[-1], f'unpack_rde: 5 rows and {size} bytes: a series of 3 bundles, part-001 to part-003')
+            'part-002/domainStatuses.csv 1', 'part-003/domainStatuses.csv 1'
+        ])
+        size = sum(map(len, rows.values())) + len('a.example,R1\nB.example,R1\n')
+        self.assertEqual(found.lines, [
+            *lines, f'unpack_rde: 5 rows and {size} bytes: a series of 3 bundles, '
+            'part-001 to part-003'
+        ])
 
     def test_files_that_one_bundle_takes(self):
         found = self.taken(FILES, DOMAINS)
-        self.assertEqual(found.lines, [
-            'unpack_rde: one bundle takes them: pack bundle --envelope out/envelope.json out BUNDLE'])
+        command = 'pack bundle --envelope out/envelope.json out BUNDLE'
+        self.assertEqual(found.lines, [f'unpack_rde: one bundle takes them: {command}'])
         self.assertEqual(desk(found.bundles()).objects, desk([found.given()]).objects)
         self.assertEqual(len(self.taken(FILES, DOMAINS, ['--series']).bundles()), 2)
 
@@ -136,26 +230,20 @@ class DescribedFiles(Case):
         files = {**DOMAINS, 'd.csv': b'name,clID\na.example,R1\nb.example,R1\nA.example,R2\n'}
         found = self.taken(FILES, files, rows_at_most(3))
         self.assertEqual(len(found.bundles()), 2)
-        self.assertIn('twice: row of domain of a domain that an earlier row has: of several the desk takes the last 1',
-                      found.lines)
+        self.assertEqual(
+            found.lines[0], 'twice: row of domain of a domain that an earlier row has: '
+            'of several the desk takes the last 1')
         self.assertEqual(desk(found.bundles()).objects, desk([found.given()]).objects)
 
     def test_headings_may_have_the_names_of_rfc_9022(self):
-        names = {'clID': 'fClID', 'registrant': 'fRegistrant', 'idnTableId': 'fIdnTableId', 'crDate': 'fCrDate',
-                 'exDate': 'fExDate', 'status': 'fStatus'}
-        for table, fields, heading, is_right in (
-                ('domain', ['name', *names], ['name', *names.values()], True),
-                ('domainContacts', ['name', 'contactId'], ['name', 'fId'], True),
-                ('domainNs', ['name', 'hostName'], ['name', 'fHostName'], True),
-                ('domainNs', ['name', 'contactId'], ['name', 'fId'], False),
-                ('domain', ['name', 'clID'], ['fName', 'clID'], False),
-                ('domain', ['name', 'fClID'], ['name', 'clID'], False),
-                ('domain', ['name', 'clID', 'status'], ['name', 'status', 'clID'], False)):
-            given = {**FULL, 'contents': [{**DOMAIN, 'name': table, 'fields': fields}]}
-            files = {'d.csv': ','.join(heading).encode()}
+        for table, fields, heading, is_right in HEADINGS:
+            names = fields.split(',')
+            given = {**FULL, 'contents': [{**DOMAIN, 'name': table, 'fields': names}]}
+            files = {'d.csv': heading.encode()}
             with self.subTest(table=table, heading=heading):
                 if is_right:
-                    self.assertEqual(description_in(self.taken(given, files).out)['contents'][0]['fields'], fields)
+                    told = description_in(self.taken(given, files).out)
+                    self.assertEqual(told['contents'][0]['fields'], names)
                 else:
                     self.refused(f'does not begin with the fields of {table}: ', given, files)
 
@@ -166,37 +254,31 @@ class DescribedFiles(Case):
         self.assertEqual((told['type'], told['prevId']), ('DIFF', 'F1'))
         self.assertEqual(len(desk([*full.bundles(), *on.bundles()]).steps), 3)
         again = self.taken({**FILES, 'resend': 1}, DOMAINS, ['--known', full.out])
-        self.assertEqual([description_in(it)['id'] for it in folders_in(again.out)], ['F1.r1.1of2', 'F1'])
+        told = [description_in(it)['id'] for it in folders_in(again.out)]
+        self.assertEqual(told, ['F1.r1.1of2', 'F1'])
 
     # ---- what is refused
 
     def test_what_no_bundle_takes_is_refused_by_kind_and_key(self):
-        wanted = 'files/envelope.json: the domain a.example alone has more rows or bytes than one bundle takes'
+        wanted = 'a.example alone has more rows or bytes than one bundle takes'
         for words in (rows_at_most(1), ['--part-bytes', '20']):
-            self.refused(wanted, words=words)
+            self.refused(f'files/envelope.json: the domain {wanted}', words=words)
         deletes = {**FULL, 'deletes': [GONE]}
-        self.refused('files/gone.csv:2: the domain a.example alone has more', deletes,
-                     {'gone.csv': b'name,clID\na.example,R1\n'}, ['--part-bytes', '12'])
+        files = {'gone.csv': b'name,clID\na.example,R1\n'}
+        self.refused(f'files/gone.csv:2: the domain {wanted}', deletes, files,
+                     ['--part-bytes', '12'])
 
     def test_files_that_are_not_as_described(self):
-        for wanted, text in (
-                ('d.csv: it does not begin with the fields of domain: name,clID', b'\n'),
-                ('d.csv:1: 1 fields, and not the 2 that are declared', b'name\n'),
-                ('d.csv:4: 3 fields, and not the 2', b'name,clID\na,R1\n\nb,R1,\n'),
-                ('d.csv:2: field 2 has bytes that are no text', b'name,clID\na,\xff\n'),
-                ('d.csv:2: a domain without name', b'name,clID\n,R1\n'),
-                ('d.csv:2: the name of a domain is longer than 255 bytes', b'name,clID\n' + b'x' * 256 + b',R1\n'),
-                ('d.csv:3: a row begins with a byte order mark', b'name,clID\na,R1\n\xef\xbb\xbfb,R1\n'),
-                ('d.csv:2: no row of CSV: unexpected end of data', b'name,clID\n"a,R1\n'),
-                ("d.csv:2: no row of CSV: ',' expected after '\"'", b'name,clID\n"a"b,R1\n')):
+        for wanted, text in NOT_AS_DESCRIBED.items():
             with self.subTest(wanted):
-                self.refused(wanted, files={**DOMAINS, 'd.csv': text})
+                self.refused(f'd.csv{wanted}', files={**DOMAINS, 'd.csv': text})
 
     def test_files_that_are_not_there(self):
         self.refused('the file s.csv is not in', files={'d.csv': DOMAINS['d.csv']})
         for name in ('', '.', '..', '../d.xml', '/etc/passwd', 'a/d.csv'):
+            given = {**FULL, 'contents': [{**DOMAIN, 'from': [name]}]}
             with self.subTest(name):
-                self.refused('no name of a file', {**FULL, 'contents': [{**DOMAIN, 'from': [name]}]})
+                self.refused('no name of a file', given)
 
     def test_links_and_pipes(self):
         for target, wanted in (('../d.xml', 'is a link out of'), ('pipe', 'it is no plain file')):
@@ -209,46 +291,13 @@ class DescribedFiles(Case):
                 self.assertIn(wanted, found.lines[-1])
 
     def test_descriptions_of_another_form(self):
-        def of(table=None, **header):
-            return {**FULL, 'contents': [{**DOMAIN, **(table or {})}], **header}
-
-        for wanted, description in (
-                ('it is no JSON', b'{'), ('it is no JSON', b'\xff'), ('it is no JSON', b'[' * 100_000),
-                ('it is no JSON', json.dumps({**FILES, 'x': float('nan')}).encode()),
-                ('it is no JSON', json.dumps({**FILES, 'x': '\ud800'}).encode()),
-                ('it is no JSON', json.dumps(FILES).encode()[:-1] + b',"x":1e999}'),
-                ('it is no JSON object', b'[]'),
-                ('id: missing', of(id='a b')), ('type: missing', of(type='full')), ('watermark: missing', of(watermark=1)),
-                ('watermark 2024-03-03: no date and time', of(watermark='2024-03-03')),
-                ('watermark 2024-02-30T00:00:00Z: day is out of range', of(watermark='2024-02-30T00:00:00Z')),
-                ('watermark 2300-01-01T00:00:00Z: its year', of(watermark='2300-01-01T00:00:00Z')),
-                ('prevId: missing, and it is a Differential', of(type='DIFF')), ('prevId: missing', of(prevId=0)),
-                ('resend: missing', of(resend='1')), ('resend: missing', of(resend=1_000_000)), ('resend: missing', of(resend=True)),
-                ('counts: missing', of(counts=[])), ('counts: missing', of(counts={'domain': -1})),
-                ('counts: missing', of(counts={'host': 1.5})), ('contents: missing', of(contents={})),
-                ('deletes: missing', of(deletes=None)), ('contents table 1, name: missing', of(contents=[0])),
-                ('contents table 1, name: missing', of({'name': 'a-b'})), ('contents table 1, kind: missing', of({'kind': []})),
-                ('contents table 1, role: missing', of({'role': 'Parent'})),
-                ('deletes table 1, role: missing', of(deletes=[{**GONE, 'role': 'child'}])),
-                ('contents table 1, fields: missing', of({'fields': []})),
-                ('contents table 1, fields: missing', of({'fields': ['name', 'name']})),
-                ('contents table 1, fields: missing', of({'fields': ['name', ['a']]})),
-                ('contents table 1, fields: missing', of({'fields': ['name', *map(str, range(64))]})),
-                ('contents table 1, key: missing', of({'key': 'id'})), ('contents table 1, file: missing', of({'file': 'D.csv'})),
-                ('contents table 1, file: missing', of({'file': 'envelope.json'})),
-                ('contents table 1, from: missing', of({'from': None})), ('contents table 1, from: missing', of({'from': [1]})),
-                ('contents table 1, heading: missing', of({'heading': 1})),
-                ('contents table 2, name: that of an earlier table', of(contents=[DOMAIN, DOMAIN])),
-                ('contents table 2, kind: that of an earlier parent', of(contents=[DOMAIN, {**DOMAIN, 'name': 'other'}])),
-                ('the section d.csv is named twice', of(contents=[DOMAIN, {**STATUSES, 'file': 'd.csv', 'from': []}])),
-                ('the file d.csv is named twice', of({'from': ['d.csv', 's.csv', 'd.csv']})),
-                ('the file d.csv is named twice', of(deletes=[{**GONE, 'from': ['d.csv']}])),
-                ('the table second has the name of a file', of({'name': 'second'}))):
-            with self.subTest(wanted, description=str(description)[:90]):
+        for wanted, description in NO_DESCRIPTIONS:
+            with self.subTest(wanted, description=f'{description}'[:90]):
                 self.refused(wanted, description)
 
     def test_usage_and_what_is_unknown(self):
-        self.refused('it has what is unknown, and --strict was given', files={**DOMAINS, 'more.CSV': b''}, words=['--strict'])
+        self.refused('it has what is unknown, and --strict was given',
+                     files={**DOMAINS, 'more.CSV': b''}, words=['--strict'])
         self.refused('--map is for documents', words=['--map', 'names.csv'], status=2)
         found = self.taken(FILES, DOMAINS)
         found.run(['--described'])
