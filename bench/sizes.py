@@ -58,9 +58,10 @@ def uses(release: str, restore: Program, handover: Program) -> Iterator[tuple[st
 def measure(domains: int, programs: argparse.Namespace, work: str) -> None:
     print(f'{domains:,} domains')
     release = made(f'{work}/release', domains)
-    for command, use in uses(release, Program(programs.restore, work), Program(programs.handover, work)):
-        seconds, processor = use.took / 1000, use.processor / 1000
-        print(f'  {command:24} {seconds:8.1f} s {processor:8.1f} s of processor {use.memory:6,.0f} MB', flush=True)
+    restore, handover = (Program(it, work) for it in (programs.restore, programs.handover))
+    for command, use in uses(release, restore, handover):
+        times = f'{use.took / 1000:8.1f} s {use.processor / 1000:8.1f} s of processor'
+        print(f'  {command:24} {times} {use.memory:6,.0f} MB', flush=True)
 
 
 def main() -> None:

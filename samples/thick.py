@@ -40,7 +40,7 @@ SHAPES = {
         ('domainContacts', 'domain', 'child', 'name contactId contactType'),
         ('domainNs', 'domain', 'child', 'name hostName'),
         ('secDNS', 'domain', 'child', 'name keyTag dsAlg digestType digest'),
-        ('nndn', 'nndn', 'parent', 'aName nameState crDate'),
+        ('nndn', 'nndn', 'parent', 'aName idnTableId nameState crDate'),
     )
 }
 # What one bundle takes, with room for its envelope.
@@ -170,7 +170,8 @@ class Thick:
 
     def nndn(self, number: int) -> Rows:
         return [('nndn', {
-            'aName': f'reserved{number}.example', 'nameState': 'blocked', 'crDate': day(number, 12)
+            'aName': f'reserved{number}.example', 'idnTableId': 'de', 'nameState': 'blocked',
+            'crDate': day(number, 12)
         })]
 
 
@@ -328,7 +329,8 @@ OBJECTS: dict[str, tuple[str, Callable[[str, Rows], str]]] = {
     'contact': ('contact', within_contact),
     'host': ('host', within_host),
     'domain': ('domain', within_domain),
-    'nndn': ('NNDN', lambda prefix, rows: texts(prefix, rows[0][1], 'aName nameState crDate')),
+    'nndn': ('NNDN', lambda prefix, rows: texts(prefix, rows[0][1],
+                                                'aName idnTableId nameState crDate')),
 }
 
 

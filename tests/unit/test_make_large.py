@@ -8,6 +8,9 @@ import unittest
 from collections import Counter
 
 from support import TOP
+from support.acceptance import Seen
+from support.acceptance import is_accepted
+from support.acceptance import tests_of
 from support.escrow import objects_in
 from support.files import read
 from support.formats import deposit
@@ -39,6 +42,8 @@ class Thick(unittest.TestCase):
             self.assertEqual({kind: number
                               for kind, number in deposit(bodies[-1]).counts.items()},
                              dict(Counter(kind for kind, _ in desk.objects)))
+            tests = list(tests_of(Seen(desk)))
+            self.assertTrue(is_accepted(tests), tests)
         with tempfile.TemporaryDirectory() as folder:
             (document, ) = os.listdir(made(folder, '--domains', '150', '--xml'))
             found = Unpacked(folder, read(f'{folder}/made/{document}'))
