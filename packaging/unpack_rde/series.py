@@ -172,25 +172,48 @@ class Series:
         """Refuses a deposit whose bundles can't be listed beside those that are known."""
         if of > MOST_PARTS:
             raise self.refused(f'it needs {of} bundles, and a store lists at most {MOST_PARTS}')
-        places = [self.place(1, of), self.place(of, of)]
-        revisions = self.revisions()
+        first, last = self.place(1, of), self.place(of, of)
+        what, revisions = 'it' if of == 1 else f'its series of {of}', self.revisions()
         for known in self.known:
             if known in revisions:
-                self.check_revision(known, places[1], of)
+                self.check_revision(known, last, of)
                 continue
             taken = next((it for it in known.places
-                          if places[0].moment <= it.moment < self.moment or it == places[1]), None)
+                          if first.moment <= it.moment < last.moment or it == last), None)
+            if is_within(first, known.places):
+                taken = known.places[-1]
             if taken is not None:
-                what = 'it' if of == 1 else f'its series of {of}'
                 raise self.refused(
                     f'there is no room for {what}: {known.id} in {known.folder} has the place '
                     f'{watermark_text(taken.moment)} {taken.type}')
+            if of > 1 and self.is_base_of(known, first):
+                raise self.refused(
+                    f'the Incremental {known.id} in {known.folder} would be based on its first '
+                    f'bundle alone: unpack this without it, and then {known.id} again with --known')
+
+    def is_base_of(self, known: Known, first: Place) -> bool:
+        """Whether this is the last Full before a known Incremental, which was not given as a
+        Differential on it."""
+        moment = known.places[0].moment
+        between = (it for it in self.known if it.type == 'FULL' and it not in self.revisions()
+                   and first.moment < it.places[0].moment < moment)
+        return (first.type, known.type) == (
+            'FULL', 'INCR') and first.moment < moment and next(between, None) is None
 
     def check_revision(self, known: Known, last: Place, of: int) -> None:
         if known.places[-1] != last:
             before, now = ('a series' if it else 'one bundle' for it in (known.is_series, of > 1))
             raise self.refused(
                 f'{known.id} in {known.folder} is {before}, and this is {now}: one deposit has one '
-                'place. Unpack both with --series, or list the latest revision alone in a new store')
+                'place. Unpack both with --series, or list the latest revision alone in a new '
+                'store'
+            )
         if known.resend == self.resend and known.id != self.id:
             raise self.refused(f'{known.id} in {known.folder} has its watermark, type and resend')
+
+
+def is_within(place: Place, full: list[Place]) -> bool:
+    """Whether an Incremental would be based on the first part of a Full that is not whole by
+    then."""
+    return (place.type, full[0].type) == (
+        'INCR', 'FULL') and full[0].moment < place.moment <= full[-1].moment
