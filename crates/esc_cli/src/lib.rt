@@ -58,11 +58,15 @@
 mod answers;
 mod files;
 mod one_line;
+mod system;
 mod table;
+mod why;
 mod words;
 
 pub use answers::{DONE, USAGE, print_answer};
 pub use files::{Links, Listing, path_in, plain_files, read_front, read_whole};
 pub use one_line::OneLine;
+pub use system::SystemCause;
 pub use table::{Argument, ArgumentForm, Program, Subcommand};
+pub use why::{Asked, Why, print_refusal, print_why};
 pub use words::{given_words, print_invalid_utf8};

@@ -15,7 +15,7 @@ pub struct Program {
     pub about: &'static str,
     /// What its help ends with.
     pub details: &'static str,
-    /// The arguments of every command, before its own.
+    /// The arguments of every command, before its own. (The last is `--verbose`, in each program.)
     pub shared: &'static [Argument],
     /// Its commands, in the order in which its help lists them.
     pub commands: &'static [Subcommand],
@@ -54,11 +54,22 @@ pub enum ArgumentForm {
     Option,
     /// An option without a value, `--ID`, which may be left out.
     Flag,
+    /// The same, for which also `-` and this letter may stand.
+    ShortFlag(char),
     /// One word, known by its position.
     Word,
     /// All words from its position on, at least one.
     Words,
 }
+
+/// The last argument of every command of every program.
+pub(crate) static VERBOSE: Argument = Argument {
+    id: "verbose",
+    form: ArgumentForm::ShortFlag('v'),
+    value_name: "",
+    values: ValueParser::Bool,
+    help: "Says why, in a second line on standard error",
+};
 
 impl Program {
     /// What the words ask for; the first of them is the program's name. A request for help or for
@@ -92,7 +103,8 @@ impl Subcommand {
             None => command,
         };
         let command = with_arguments(alloc, command, shared)?;
-        with_arguments(alloc, command, self.arguments)
+        let command = with_arguments(alloc, command, self.arguments)?;
+        command.arg(VERBOSE.arg(alloc))
     }
 }
 
@@ -118,6 +130,9 @@ impl Argument {
         match self.form {
             ArgumentForm::Option => self.with_value(arg).long(self.id),
             ArgumentForm::Flag => arg.long(self.id).action(ArgAction::SetTrue),
+            ArgumentForm::ShortFlag(letter) => {
+                arg.short(letter).long(self.id).action(ArgAction::SetTrue)
+            }
             ArgumentForm::Word => self.with_value(arg),
             ArgumentForm::Words => self.with_value(arg).num_args(1..),
         }
