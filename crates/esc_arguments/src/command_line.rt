@@ -5,7 +5,7 @@ use crate::moment::moment_named;
 use crate::stop::{Stop, print_stop};
 use clap::builder::ValueParser;
 use clap::{ArgMatches, Error};
-use esc_cli::{Argument, ArgumentForm, Program, Subcommand, print_answer};
+use esc_cli::{Argument, ArgumentForm, Asked, Program, Subcommand, print_answer};
 use esc_envelope::Kind;
 use esc_manifest::Manifest;
 use esc_reports::Report;
@@ -259,7 +259,7 @@ pub fn print_error<O: Write, E: Write>(
 ) -> u8 {
     match print_answer(rt.alloc(), error, out, err) {
         Ok(status) => status,
-        Err(error) => print_stop(rt, err, &stop_at(rt, "-", &error)),
+        Err(error) => print_stop(rt, err, Asked::NOTHING, &stop_at(rt, "-", error)),
     }
 }
 

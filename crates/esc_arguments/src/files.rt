@@ -2,7 +2,7 @@
 
 ghost use Rattle.std.specs.Prelude.{◌≡◌, Ok, IfOk, IfErr};
 ghost use Rattle.esc_manifest.specs.Manifest.{manifest_of};
-ghost use Rattle.esc_arguments.specs.Refusals.{IsManifestStop};
+ghost use Rattle.esc_arguments.specs.Refusals.{IsManifestStop, IsStopAt};
 
 use crate::stop::{NO_MEMORY, Stop};
 use esc_cli::{Links, read_front, read_whole};
@@ -13,21 +13,25 @@ use std::io::{Error, ErrorKind};
 
 /// The stop for a path that can't be read, listed or written: `E1 PATH`, or `S2` where memory was
 /// refused.
-pub fn stop_at(rt: &HostRuntime, path: &str, error: &Error) -> Stop {
+pub fn stop_at(rt: &HostRuntime, path: &str, error: Error) -> Stop
+    ensures { IsStopAt path.now error result }
+{
     if error.kind() == ErrorKind::OutOfMemory {
         return NO_MEMORY;
     }
     match String::from_str(rt.alloc(), path) {
-        Ok(path) => Stop::Unreadable(path),
+        Ok(path) => Stop::Unreadable { path, error },
         Err(_) => NO_MEMORY,
     }
 }
 
 /// What a call at a path returned, or the stop for it.
-pub fn or_stop<T>(rt: &HostRuntime, path: &str, outcome: Result<T, Error>) -> Result<T, Stop> {
+pub fn or_stop<T>(rt: &HostRuntime, path: &str, outcome: Result<T, Error>) -> Result<T, Stop>
+    ensures stop { IfErr outcome (λ error. IfErr result (IsStopAt path.now error)) }
+{
     match outcome {
         Ok(value) => Ok(value),
-        Err(error) => Err(stop_at(rt, path, &error)),
+        Err(error) => Err(stop_at(rt, path, error)),
     }
 }
 

@@ -19,6 +19,8 @@ const UNSAID: &[u8] = b"why: memory was refused\n";
 pub struct Asked<'a> {
     /// The command, as `take`.
     pub command: &'a str,
+    /// The path of its store; empty if it has none.
+    pub store: &'a str,
     /// Whether a second line says why something is refused.
     pub is_verbose: bool,
 }
@@ -29,6 +31,7 @@ impl<'a> Asked<'a> {
         match matches.subcommand() {
             Some((command, given)) => Asked {
                 command,
+                store: given.get_str("store").unwrap_or(""),
                 is_verbose: given.get_flag(VERBOSE.id),
             },
             None => Asked::NOTHING,
@@ -38,6 +41,7 @@ impl<'a> Asked<'a> {
     /// What is asked for where the words can't be read.
     pub const NOTHING: Asked<'static> = Asked {
         command: "",
+        store: "",
         is_verbose: false,
     };
 }

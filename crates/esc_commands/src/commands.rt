@@ -6,10 +6,10 @@ use crate::run::Run;
 use esc_arguments::{
     Command, Invocation, Stop, check_access, invocation_of, matches_of, print_error, print_stop,
 };
-use esc_cli::USAGE;
-use esc_desk::{Cause, Desk, Reads, StoreFault};
+use esc_cli::{Asked, USAGE};
+use esc_desk::{Desk, Reads};
 use esc_recovery::{
-    PathFault, close_desk, migrated_desk_at, new_desk_at, open_desk_at, reader_at,
+    Obstacle, PathFault, close_desk, migrated_desk_at, new_desk_at, open_desk_at, reader_at,
 };
 use esc_reports::Report;
 use sqlite::{File, FileStore, Unknown};
@@ -35,13 +35,20 @@ where
         Ok(matches) => matches,
         Err(error) => return print_error(rt, &error, out, err),
     };
+    let asked = Asked::of(&matches);
     match invocation_of(rt, &matches) {
         Ok(Some(invocation)) => {
-            let mut run = Run { rt, net, out, err };
+            let mut run = Run {
+                rt,
+                net,
+                out,
+                err,
+                asked,
+            };
             run.finish(&invocation)
         }
         Ok(None) => USAGE,
-        Err(stop) => print_stop(rt, err, &stop),
+        Err(stop) => print_stop(rt, err, asked, &stop),
     }
 }
 
@@ -55,7 +62,7 @@ where
     fn finish(&mut self, invocation: &Invocation<'_>) -> u8 {
         match self.perform(invocation) {
             Ok(status) => status,
-            Err(stop) => print_stop(self.rt, self.err, &stop),
+            Err(stop) => print_stop(self.rt, self.err, self.asked, &stop),
         }
     }
 
@@ -158,18 +165,12 @@ fn opened(
 // else the store's fault.
 fn stop_of(rt: &HostRuntime, path: &str, fault: PathFault) -> Stop {
     match fault {
+        PathFault::Missing => Stop::Missing,
         PathFault::Store(fault) => Stop::Store(fault),
-        PathFault::Unopened if names_no_file(path) => Stop::Store(StoreFault::Failed(
-            Cause::Unopened,
-        )),
-        PathFault::Unopened => match check_access(rt, path) {
-            Ok(()) => Stop::Store(StoreFault::Failed(Cause::Unopened)),
+        PathFault::Unopened(Obstacle::NoFileName) => Stop::Unopened(Obstacle::NoFileName),
+        PathFault::Unopened(obstacle) => match check_access(rt, path) {
+            Ok(()) => Stop::Unopened(obstacle),
             Err(stop) => stop,
         },
     }
-}
-
-// Whether a path means something else to SQLite than a file of that name.
-fn names_no_file(path: &str) -> bool {
-    path == ":memory:" || path.starts_with("file:")
 }

@@ -1,17 +1,18 @@
 //! What every command works with.
 
 use esc_arguments::{Stop, or_stop};
-use esc_cli::OneLine;
+use esc_cli::{Asked, OneLine, Why, print_refusal};
 use std::io::Write;
 
-/// One run of the program: the runtime, the network, and the two streams that it writes to. The
-/// commands are its methods, each in its module.
+/// One run of the program: the runtime, the network, the two streams that it writes to, and what
+/// is asked for. The commands are its methods, each in its module.
 #[derive(Drop)]
 pub(crate) struct Run<'a, N, O, E> {
     pub rt: &'a HostRuntime,
     pub net: &'a N,
     pub out: &'a mut O,
     pub err: &'a mut E,
+    pub asked: Asked<'a>,
 }
 
 impl<N, O: Write, E: Write> Run<'_, N, O, E> {
@@ -20,11 +21,17 @@ impl<N, O: Write, E: Write> Run<'_, N, O, E> {
         or_stop(self.rt, "-", self.out.write_all(text))
     }
 
-    /// Prints a refusal that doesn't stop the program. A failure of standard error is ignored:
-    /// there is nowhere to report it.
-    pub fn print_refusal(&mut self, refusal: &str, name: &str) -> Result<(), Stop> {
+    /// Prints a refusal of a name that doesn't stop the program, and why if that is asked for. A
+    /// failure of standard error is ignored: there is nowhere to report it.
+    pub fn print_refusal(&mut self, refusal: &str, name: &str, cause: &str) -> Result<(), Stop> {
         let line = format!(in self.rt.alloc(); "{refusal} {}\n", OneLine(name))?;
-        let _ = self.err.write_all(line.as_bytes());
+        let why = Why {
+            command: self.asked.command,
+            path: name,
+            cause,
+        };
+        let is_told = self.asked.is_verbose;
+        let _ = print_refusal(self.rt.alloc(), self.err, line.as_str(), is_told, &why);
         Ok(())
     }
 }

@@ -8,6 +8,10 @@ use esc_reports::{receipt_line, receipts_heading};
 use sqlite::Alter;
 use std::io::Write;
 
+const NO_NUMBER: &str = "the name is not 1 to 64 of A-Z a-z 0-9 . _ -";
+
+const TOO_LONG: &str = "it has over 16,777,216 bytes";
+
 impl<N, O: Write, E: Write> Run<'_, N, O, E> {
     /// Takes every plain file of a folder in byte order of names, the name being the arrival's
     /// number, and prints the receipts report: its heading once the folder is listed, then a line
@@ -27,7 +31,7 @@ impl<N, O: Write, E: Write> Run<'_, N, O, E> {
     // Reports so many names that are not UTF-8, and so no numbers.
     fn refuse_unnamed(&mut self, count: usize) -> Result<(), Stop> {
         for _ in 0..count {
-            self.print_refusal("N1", "(a name that is no UTF-8)")?;
+            self.print_refusal("N1", "(a name that is no UTF-8)", NO_NUMBER)?;
         }
         Ok(())
     }
@@ -56,12 +60,12 @@ impl<N, O: Write, E: Write> Run<'_, N, O, E> {
     ) -> Result<bool, Stop> {
         let alloc = self.rt.alloc();
         let Ok(number) = number(name) else {
-            self.print_refusal("N1", name)?;
+            self.print_refusal("N1", name, NO_NUMBER)?;
             return Ok(false);
         };
         let path = path_in(alloc, folder, name)?;
         let Some(body) = read_body(self.rt, path.as_str())? else {
-            self.print_refusal("E2", name)?;
+            self.print_refusal("E2", name, TOO_LONG)?;
             return Ok(false);
         };
         let (reply, _work) = desk.arrive(alloc, &number, &body)?;

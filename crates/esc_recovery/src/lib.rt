@@ -85,6 +85,7 @@ mod opening;
 mod path;
 mod reading;
 
+pub use esc_store::Obstacle;
 pub use files::{close_desk, desk_of_files, files_of, reopen_desk};
 pub use opening::{migrated_desk, new_desk, open_desk};
 pub use path::{PathFault, is_missing, migrated_desk_at, new_desk_at, open_desk_at};

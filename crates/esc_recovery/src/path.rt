@@ -15,6 +15,7 @@ use crate::connecting::connection_at;
 use crate::opening::{desk_or_fault, migrated_desk, new_desk};
 use esc_desk::{Desk, StoreFault};
 use esc_manifest::Manifest;
+use esc_store::Obstacle;
 use sqlite::{Error, ErrorCode, FileFrom, FileStore, Start};
 use std::fs;
 use std::io::ErrorKind;
@@ -22,9 +23,11 @@ use std::io::ErrorKind;
 /// Why there is no desk over the files at a path.
 #[derive(Clone, Copy, Debug, PartialEq, Eq)]
 pub enum PathFault {
-    /// The files can't be opened: the system doesn't let them be read and written, or the path
-    /// means something else to SQLite than a file of that name (`:memory:`, a URI).
-    Unopened,
+    /// There is no file, and none is made: `S3`.
+    Missing,
+    /// The files can't be opened, and what is in the way: the system doesn't let them be read and
+    /// written, or the path means something else to SQLite than a file of that name.
+    Unopened(Obstacle),
     /// `S1` to `S3` of the store.
     Store(StoreFault),
 }
@@ -34,7 +37,7 @@ impl From<Error> for PathFault {
 
     fn from(error: Error) -> PathFault {
         match error {
-            Error::SqliteFailure(ErrorCode::CannotOpen) => PathFault::Unopened,
+            Error::SqliteFailure(ErrorCode::CannotOpen) => PathFault::Unopened(Obstacle::Unknown),
             error => PathFault::Store(StoreFault::from(error)),
         }
     }
@@ -49,8 +52,8 @@ impl From<StoreFault> for PathFault {
 }
 
 /// The desk over the store of the files at a path. `start` says in the contract what they hold.
-/// `S3` where there is no file, which makes none, or where the files hold no store of this version;
-/// `S1`, `S2`.
+/// `Missing` where there is no file, which makes none; `S3` where the files hold no store of this
+/// version; `S1`, `S2`.
 pub fn open_desk_at<S: Start>(
     rt: &HostRuntime,
     path: &str,
@@ -61,7 +64,7 @@ pub fn open_desk_at<S: Start>(
     ensures cause { IfErr result (IsUnopenedOr IsOpenFault) }
 {
     if is_missing(rt, path) {
-        return Err(PathFault::Store(StoreFault::NotAStore));
+        return Err(PathFault::Missing);
     }
     let connection = connection_at(rt, path, start)?;
     Ok(desk_or_fault(rt.alloc(), connection)?)
@@ -89,8 +92,8 @@ pub fn new_desk_at<S: Start>(
 }
 
 /// The desk over the store of version 1 that the files at a path hold, which is made one of this
-/// version. `start` says in the contract what they hold. `S3` where there is no file, which makes
-/// none, or where the files hold no store of version 1; `S1`, `S2`.
+/// version. `start` says in the contract what they hold. `Missing` where there is no file, which
+/// makes none; `S3` where the files hold no store of version 1; `S1`, `S2`.
 pub fn migrated_desk_at<S: Start>(
     rt: &HostRuntime,
     path: &str,
@@ -101,7 +104,7 @@ pub fn migrated_desk_at<S: Start>(
     ensures cause { IfErr result (IsUnopenedOr IsOpenFault) }
 {
     if is_missing(rt, path) {
-        return Err(PathFault::Store(StoreFault::NotAStore));
+        return Err(PathFault::Missing);
     }
     let connection = connection_at(rt, path, start)?;
     match migrated_desk(rt.alloc(), connection) {

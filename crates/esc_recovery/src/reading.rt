@@ -22,9 +22,9 @@ use sqlite_trees::store::Store;
 use std::alloc::Global;
 
 /// A reader of the store of the files at a path, which writes nothing. The version was tested;
-/// another row is tested where it is read. `start` says in the contract what the files hold. `S3`
-/// where there is no file, which makes none, or where the files hold no store of this version;
-/// `S1`, `S2`.
+/// another row is tested where it is read. `start` says in the contract what the files hold.
+/// `Missing` where there is no file, which makes none; `S3` where the files hold no store of this
+/// version; `S1`, `S2`.
 pub fn reader_at<S: Start>(
     rt: &HostRuntime,
     path: &str,
@@ -35,7 +35,7 @@ pub fn reader_at<S: Start>(
     ensures cause { IfErr result (IsUnopenedOr IsOpenFault) }
 {
     if is_missing(rt, path) {
-        return Err(PathFault::Store(StoreFault::NotAStore));
+        return Err(PathFault::Missing);
     }
     let files = files_at(rt, path, start)?;
     let options = options(rt)?;

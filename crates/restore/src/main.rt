@@ -34,7 +34,7 @@
 #![tactic(auto)]
 
 use esc_arguments::{NO_MEMORY, print_stop};
-use esc_cli::{given_words, print_invalid_utf8};
+use esc_cli::{Asked, given_words, print_invalid_utf8};
 use esc_commands::run_words;
 use std::net::{Net, TcpListener, TcpStream};
 use std::process::ExitCode;
@@ -51,6 +51,6 @@ where
     match given_words(rt, "restore") {
         Ok(Some(given)) => run_words(rt, net, &given, &mut rt.stdout(), &mut rt.stderr()),
         Ok(None) => print_invalid_utf8(&mut rt.stderr()),
-        Err(_) => print_stop(rt, &mut rt.stderr(), &NO_MEMORY),
+        Err(_) => print_stop(rt, &mut rt.stderr(), Asked::NOTHING, &NO_MEMORY),
     }
 }
