@@ -4,7 +4,7 @@ use crate::store_file::{Task, use_store};
 use crate::tables::Tabling;
 use clap::builder::ValueParser;
 use clap::{ArgMatches, Error};
-use esc_cli::{Argument, ArgumentForm, Program, Subcommand, USAGE, print_answer};
+use esc_cli::{Argument, ArgumentForm, Asked, Program, Subcommand, USAGE, print_answer};
 use esc_handover::{Stop, check_place, or_stop, place_file, tell_stop};
 use std::io::Write;
 
@@ -190,7 +190,7 @@ pub fn run_words<O: Write, E: Write>(
         Err(error) => return tell_error(rt, &error, out, err),
     };
     match command_of(rt, &matches) {
-        Some(command) => finish(rt, err, perform(rt, command, out)),
+        Some(command) => finish(rt, err, Asked::of(&matches), perform(rt, command, out)),
         None => USAGE,
     }
 }
@@ -223,10 +223,10 @@ fn perform<O: Write>(rt: &HostRuntime, command: Command<'_>, out: &mut O) -> Res
 }
 
 // The status of what was done.
-fn finish<E: Write>(rt: &HostRuntime, err: &mut E, done: Result<u8, Stop>) -> u8 {
+fn finish<E: Write>(rt: &HostRuntime, err: &mut E, asked: Asked<'_>, done: Result<u8, Stop>) -> u8 {
     match done {
         Ok(status) => status,
-        Err(stop) => tell_stop(rt, err, &stop),
+        Err(stop) => tell_stop(rt, err, asked, &stop),
     }
 }
 
@@ -263,5 +263,5 @@ fn task_of<'a>(rt: &'a HostRuntime, name: &str, given: &ArgMatches<'a>) -> Optio
 // status.
 fn tell_error<O: Write, E: Write>(rt: &HostRuntime, error: &Error, out: &mut O, err: &mut E) -> u8 {
     let printed = or_stop(rt, "-", print_answer(rt.alloc(), error, out, err));
-    finish(rt, err, printed)
+    finish(rt, err, Asked::NOTHING, printed)
 }

@@ -50,7 +50,7 @@ mod tables;
 mod walking;
 
 use command_line::run_words;
-use esc_cli::{given_words, print_invalid_utf8};
+use esc_cli::{Asked, given_words, print_invalid_utf8};
 use esc_handover::{Stop, tell_stop};
 use std::process::ExitCode;
 
@@ -63,6 +63,6 @@ fn run(rt: &HostRuntime) -> u8 {
     match given_words(rt, "handover") {
         Ok(Some(given)) => run_words(rt, &given, &mut rt.stdout(), &mut rt.stderr()),
         Ok(None) => print_invalid_utf8(&mut rt.stderr()),
-        Err(_) => tell_stop(rt, &mut rt.stderr(), &Stop::NO_MEMORY),
+        Err(_) => tell_stop(rt, &mut rt.stderr(), Asked::NOTHING, &Stop::NO_MEMORY),
     }
 }

@@ -57,7 +57,8 @@ fn perform<R: Reads>(
 // Why the store isn't opened: its fault, or the system's.
 fn stop_of(rt: &HostRuntime, path: &str, fault: PathFault) -> Stop {
     match fault {
+        PathFault::Missing => Stop::Missing,
         PathFault::Store(fault) => Stop::Store(fault),
-        PathFault::Unopened => unopened_stop(rt, path),
+        PathFault::Unopened(obstacle) => unopened_stop(rt, path, obstacle),
     }
 }

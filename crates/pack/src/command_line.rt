@@ -8,7 +8,7 @@ use crate::series::{Series, write_series};
 use crate::stop::{REFUSED, Stop, print, tell_stop};
 use clap::builder::ValueParser;
 use clap::{ArgMatches, Error};
-use esc_cli::{Argument, ArgumentForm, DONE, Program, Subcommand, USAGE, print_answer};
+use esc_cli::{Argument, ArgumentForm, Asked, DONE, Program, Subcommand, USAGE, print_answer};
 use std::io::Write;
 
 /// What the program is asked to do: the words live for `'a`, and what was matched of them for `'m`.
@@ -224,7 +224,7 @@ pub fn run_words<O: Write, E: Write>(
         Err(error) => return tell_error(rt, &error, out, err),
     };
     match task_of(&matches) {
-        Some(task) => run(rt, task, out, err),
+        Some(task) => run(rt, task, Asked::of(&matches), out, err),
         None => USAGE,
     }
 }
@@ -249,6 +249,7 @@ fn task_of<'m, 'a>(matches: &'m ArgMatches<'a>) -> Option<Task<'m, 'a>> {
             folder: given.get_str("folder")?,
         }),
         "check" => Some(Task::Check(Checking {
+            asked: Asked::of(matches),
             manifest: given.get_str("manifest")?,
             folder: given.get_str("folder")?,
         })),
@@ -257,7 +258,13 @@ fn task_of<'m, 'a>(matches: &'m ArgMatches<'a>) -> Option<Task<'m, 'a>> {
 }
 
 // Does what is asked for. Returns the status.
-fn run<O: Write, E: Write>(rt: &HostRuntime, task: Task<'_, '_>, out: &mut O, err: &mut E) -> u8 {
+fn run<O: Write, E: Write>(
+    rt: &HostRuntime,
+    task: Task<'_, '_>,
+    asked: Asked<'_>,
+    out: &mut O,
+    err: &mut E,
+) -> u8 {
     let done = match task {
         Task::Manifest { paths } => print_manifest(rt, paths, out),
         Task::Bundle(words) => make_bundle(rt, words, err),
@@ -267,7 +274,7 @@ fn run<O: Write, E: Write>(rt: &HostRuntime, task: Task<'_, '_>, out: &mut O, er
     };
     match done {
         Ok(status) => status,
-        Err(stop) => tell_stop(rt, err, &stop),
+        Err(stop) => tell_stop(rt, err, asked, &stop),
     }
 }
 
@@ -323,6 +330,9 @@ fn print_manifest<O: Write>(rt: &HostRuntime, paths: &[&str], out: &mut O) -> Re
 fn tell_error<O: Write, E: Write>(rt: &HostRuntime, error: &Error, out: &mut O, err: &mut E) -> u8 {
     match print_answer(rt.alloc(), error, out, err) {
         Ok(status) => status,
-        Err(error) => tell_stop(rt, err, &Stop::unreadable(rt, "-", &error)),
+        Err(error) => {
+            let stop = Stop::unreadable(rt, "-", error);
+            tell_stop(rt, err, Asked::NOTHING, &stop)
+        }
     }
 }

@@ -68,7 +68,7 @@ pub fn check_folder(rt: &HostRuntime, path: &str) -> Result<(), Stop> {
     if or_stop(rt, path, fs::metadata(rt, path))?.is_dir() {
         Ok(())
     } else {
-        Err(Stop::at(rt, Refusal::Unreadable, path))
+        Err(Stop::unreadable(rt, path, Error::from(ErrorKind::NotADirectory)))
     }
 }
 

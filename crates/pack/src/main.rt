@@ -53,7 +53,7 @@ mod series;
 mod stop;
 
 use command_line::run_words;
-use esc_cli::{given_words, print_invalid_utf8};
+use esc_cli::{Asked, given_words, print_invalid_utf8};
 use std::process::ExitCode;
 use stop::{Stop, tell_stop};
 
@@ -66,6 +66,6 @@ fn run(rt: &HostRuntime) -> u8 {
     match given_words(rt, "pack") {
         Ok(Some(given)) => run_words(rt, &given, &mut rt.stdout(), &mut rt.stderr()),
         Ok(None) => print_invalid_utf8(&mut rt.stderr()),
-        Err(_) => tell_stop(rt, &mut rt.stderr(), &Stop::NoMemory),
+        Err(_) => tell_stop(rt, &mut rt.stderr(), Asked::NOTHING, &Stop::NoMemory),
     }
 }

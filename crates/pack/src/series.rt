@@ -49,7 +49,7 @@ fn part_names(rt: &HostRuntime, folder: &str) -> Result<Vec<String>, Stop> {
     }
     names.sort_unstable();
     if names.is_empty() || !are_numbered(&names) {
-        return Err(Stop::at(rt, Refusal::Unreadable, folder));
+        return Err(Stop::at(rt, Refusal::Unparted, folder));
     }
     Ok(names)
 }

@@ -1,7 +1,7 @@
 //! What the program stops for, its statuses, and its two streams.
 
 use esc_bundle::{NoMemory, Refusal as BodyRefusal};
-use esc_cli::OneLine;
+use esc_cli::{Asked, OneLine, SystemCause, Why, print_refusal};
 use esc_manifest::ManifestRefusal;
 use std::alloc::{AllocError, AllocFailed};
 use std::fmt;
@@ -13,11 +13,16 @@ pub const REFUSED: u8 = 1;
 /// A file failed, or memory was refused.
 const STOPPED: u8 = 3;
 
+/// Why a file is refused by `E2`.
+pub const TOO_LARGE: &str = "it has over 16,777,216 bytes";
+
 /// What is wrong with a file or a folder.
 #[derive(Clone, Copy)]
 pub enum Refusal {
-    /// It can't be read or written.
-    Unreadable,
+    /// It can't be read or written, by this error.
+    Unreadable(Error),
+    /// It has no folders of the parts 1, 2 and so on.
+    Unparted,
     /// It has over 16,777,216 bytes.
     TooLarge,
     /// It is no deposit, by this refusal.
@@ -70,22 +75,34 @@ impl Stop {
     }
 
     /// A file that can't be read or written.
-    pub fn unreadable(rt: &HostRuntime, path: &str, error: &Error) -> Stop {
+    pub fn unreadable(rt: &HostRuntime, path: &str, error: Error) -> Stop {
         if error.kind() == ErrorKind::OutOfMemory {
             return Stop::NoMemory;
         }
-        Stop::at(rt, Refusal::Unreadable, path)
+        Stop::at(rt, Refusal::Unreadable(error), path)
     }
 
     /// The program's status.
     pub fn status(&self) -> u8 {
         match self {
             Stop::At {
-                refusal: Refusal::Unreadable,
+                refusal: Refusal::Unreadable(_) | Refusal::Unparted,
                 ..
             }
             | Stop::NoMemory => STOPPED,
             Stop::At { .. } | Stop::Unlisted { .. } => REFUSED,
+        }
+    }
+
+    // Whether there is more to say of it than its line has.
+    fn has_cause(&self) -> bool {
+        match self {
+            Stop::At { refusal, .. } => matches!(
+                refusal,
+                Refusal::Unreadable(_) | Refusal::Unparted | Refusal::TooLarge
+            ),
+            Stop::Unlisted { .. } => false,
+            Stop::NoMemory => true,
         }
     }
 }
@@ -131,13 +148,52 @@ fn fmt_at<W: fmt::Write>(
     let name = match refusal {
         Refusal::Unread(refusal) => return write!(f, "{refusal} {path}"),
         Refusal::Row(row) => return write!(f, "U9 {path} row {row}"),
-        Refusal::Unreadable => "E1",
+        Refusal::Unreadable(_) | Refusal::Unparted => "E1",
         Refusal::TooLarge => "E2",
         Refusal::Heading => "H1",
         Refusal::Marked => "H2",
         Refusal::Undescribed => "H3",
     };
     write!(f, "{name} {path}")
+}
+
+// Why a command stops.
+#[derive(Clone, Copy)]
+struct StopCause<'a> {
+    command: &'a str,
+    stop: &'a Stop,
+}
+
+impl fmt::Display for StopCause<'_> {
+    fn fmt<W: fmt::Write>(&self, f: &mut fmt::Formatter<W>) -> fmt::Result {
+        match self.stop {
+            Stop::At { refusal, path } => {
+                let why = Why {
+                    command: self.command,
+                    path: path.as_str(),
+                    cause: RefusalCause(*refusal),
+                };
+                write!(f, "{why}")
+            }
+            Stop::NoMemory => write!(f, "{}: memory was refused", self.command),
+            Stop::Unlisted { .. } => Ok(()),
+        }
+    }
+}
+
+// Why a path is refused.
+#[derive(Clone, Copy)]
+struct RefusalCause(Refusal);
+
+impl fmt::Display for RefusalCause {
+    fn fmt<W: fmt::Write>(&self, f: &mut fmt::Formatter<W>) -> fmt::Result {
+        match self.0 {
+            Refusal::Unreadable(error) => write!(f, "{}", SystemCause(error)),
+            Refusal::Unparted => f.write_str("it has no folders part-001, part-002 and so on"),
+            Refusal::TooLarge => f.write_str(TOO_LARGE),
+            _ => Ok(()),
+        }
+    }
 }
 
 impl From<NoMemory> for Stop {
@@ -162,7 +218,7 @@ impl<T: Drop> From<AllocFailed<T>> for Stop {
 pub fn or_stop<T>(rt: &HostRuntime, path: &str, found: Result<T, Error>) -> Result<T, Stop> {
     match found {
         Ok(found) => Ok(found),
-        Err(error) => Err(Stop::unreadable(rt, path, &error)),
+        Err(error) => Err(Stop::unreadable(rt, path, error)),
     }
 }
 
@@ -171,13 +227,20 @@ pub fn print<O: Write>(rt: &HostRuntime, out: &mut O, text: &[u8]) -> Result<(),
     or_stop(rt, "-", out.write_all(text))
 }
 
-/// Prints what the program stops for, and returns its status. If there is no memory for the line,
-/// it prints `S2` instead, which doesn't allocate, and returns the status of that.
-pub fn tell_stop<E: Write>(rt: &HostRuntime, err: &mut E, stop: &Stop) -> u8 {
+/// Prints what the program stops for, and why if that is asked for. Returns the status. If there is
+/// no memory for the line, it prints `S2` instead, which doesn't allocate, and returns the status of
+/// that.
+pub fn tell_stop<E: Write>(rt: &HostRuntime, err: &mut E, asked: Asked<'_>, stop: &Stop) -> u8 {
     let Ok(line) = format!(in rt.alloc(); "{stop}\n") else {
         let _ = err.write_all(b"S2\n");
         return Stop::NoMemory.status();
     };
-    let _ = err.write_all(line.as_bytes());
+    let is_told = asked.is_verbose && stop.has_cause();
+    let cause = StopCause {
+        command: asked.command,
+        stop,
+    };
+    // A failure of standard error is ignored: there is nowhere to report it.
+    let _ = print_refusal(rt.alloc(), err, line.as_str(), is_told, &cause);
     stop.status()
 }
