@@ -66,7 +66,7 @@ Example, with a folder of bundles named n1, n2 and so on:
 Refusals go to standard error, one a line: E1 PATH (can't be read, listed or written), E2 NAME (over 16,777,216 bytes),
 E3 MOMENT (it is no watermark), N1 NAME (the name is no number of an arrival), M1 to M13 with the row (the manifest), S1 (the
 store failed), S2 (no memory), S3 (no store, one of another version, or a used database), S4 (the store is full), S5 (1,024
-bundles wait for a row).
+bundles wait for a row). With -v a second line says why, but for E3 and M: why: take desk.db: locked by another process.
 Status: 0 done; 1 the manifest or the moment is refused, or a file was not taken as a listed deposit; 2 invalid usage; 3
 stopped by S or E1.
 ";

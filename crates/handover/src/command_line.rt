@@ -25,7 +25,8 @@ H4 TABLE (rows of this table have different fields), H5 TABLE (no field has the 
 this table), H6 TABLE (its rows begin with a byte order mark), H7 (there is no chain yet), H8 OUT
 (the bundle reads as other objects), H9 TABLE (another table has the same name but for case), H10
 TABLE (SQLite can't have this table: two of its columns have the same name but for case, it has over
-2,000 of them, or its name begins with sqlite_).
+2,000 of them, or its name begins with sqlite_). With -v a second line says why it is E or S: why:
+check desk.db: locked by another process.
 Status: 0 done; 1 refused by U or H, or by a test of check; 2 invalid usage; 3 stopped by S or E1.
 ";
 

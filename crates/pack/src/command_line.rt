@@ -56,6 +56,7 @@ M10 PATH row 2 against OTHER (no manifest lists these deposits, by M7 or M10 to 
 bundle PATH contradicts that of OTHER, where it is about two; rows count from 1, in the order of
 places), M1 row 0 (they are too many), H1 PATH (another heading than the declared fields), H2 PATH
 (rows that begin with a byte order mark), H3 PATH (no description of the folder), S2 (no memory).
+With -v a second line says why it is E, N1 or S2: why: manifest deposits/n1: permission denied.
 Status: 0 done; 1 refused by E2, N1, U, M or H, or check found a file that is not A1; 2 invalid usage;
 3 stopped by E1 or S2.
 ";
