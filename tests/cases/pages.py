@@ -46,7 +46,9 @@ def test_help(stage):
         codes = set().union(*(codes_of(help_of(stage, program, *it)) for it in ([], *([it] for it in wanted))))
         wanted |= {it: rf'^(#+ {it}$|\| `?{it}\b)' for it in codes}
         wanted |= {f'status {it}': rf'^\| {it} \|' for it in re.findall(r'\d', told.partition('Status:')[2])}
+        wanted['-v'] = '`-v`'
         missing = sorted(it for it, form in wanted.items() if not re.search(form, text, re.M))
+        missing += [f'the help of {it}' for it in commands if it != 'help' and '  -v, --verbose ' not in help_of(stage, program, it)]
         if missing or len(commands) < 2 or not codes:
             raise Failed(f'{program}: no heading and no row has {missing}, of {sorted(wanted)}')
 
