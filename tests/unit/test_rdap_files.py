@@ -306,6 +306,14 @@ class Answers(Case):
         self.assertEqual(sorted(os.listdir(found.out)),
                          ['404.json', 'domain', 'entity', 'help', 'nameserver'])
 
+    def test_a_slash_at_the_end_of_its_name_changes_nothing(self):
+        found = self.made()
+        found.out = f'{found.folder}/other/'
+        found.run()
+        self.assertEqual((found.status, files_in(found.out)),
+                         (0, files_in(f'{found.folder}/answers')))
+        self.assertEqual(sorted(os.listdir(found.folder)), ['answers', 'other', 'tables', 'zone'])
+
     def test_the_base_may_have_a_path_and_needs_no_slash(self):
         found = self.made(words=('--base', 'http://a.example:8080/rdap'))
         self.assertEqual(found.answers()['entity/1001']['links'][0]['href'],

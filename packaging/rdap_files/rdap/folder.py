@@ -16,7 +16,8 @@ class Folder:
     """A folder that is being written. Nothing is at its place until `finish`."""
 
     def __init__(self, target: str) -> None:
-        self.target, self.part, self.is_begun = target, f'{target}.part', False
+        self.target = target.rstrip('/')
+        self.part, self.is_begun = f'{self.target}.part', False
 
     def begin(self) -> None:
         for it in (self.target, self.part):
