@@ -4,9 +4,7 @@ Nothing of it is kept in memory.
 Each object is made of its number alone: contacts with two postal forms, hosts with addresses of
 both versions, domains with three contacts, statuses, servers, and a DS record for some. All of them
 would be valid by RFC 9022."""
-import csv
 import hashlib
-import io
 from collections.abc import Callable
 from collections.abc import Iterable
 from collections.abc import Iterator

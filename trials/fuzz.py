@@ -1,22 +1,28 @@
 #!/usr/bin/env python3
-"""trials/fuzz.py [--bundles N] [--manifests N] [--requests N] [--seed N]: gives the program damaged input, and looks for what is not
-refused by its name.
+"""trials/fuzz.py [--bundles N] [--manifests N] [--requests N] [--seed N]: gives the program damaged
+input, and looks for what is not refused by its name.
 
-N bundles (2,000) are damaged by `fuzzing/bundles.py` and listed by their SHA-256, so that they are read, and taken in folders of
-100; N manifests (500) are given to `init`; N requests (2,000) are sent over a socket to `serve`, among good ones, in pieces,
-cut or broken off. `formats.py` and `messages.py` of `tests/support/` read the same bytes by the definitions, in plain Python: from
-them comes, to the byte, what the program has to print or respond, and its status; where the outcome is plain from how the input was
-made that is asked too. So each crash, each other status, each other text is wrong, and so is what does not end in time. After each
-folder and each server the C library's checks have to pass and the folder, taken again, has to get the same receipts. Then a client
-of each kind holds its connection (`fuzzing/clients.py`), with a good one behind it, which has to get its response within a deadline.
-At last some bundles as large as a bundle may be are taken one by one, with their time and peak memory.
+N bundles (2,000) are damaged by `fuzzing/bundles.py` and listed by their SHA-256, so that they are
+read, and taken in folders of 100; N manifests (500) are given to `init`; N requests (2,000) are
+sent over a socket to `serve`, among good ones, in pieces, cut or broken off. `formats.py` and
+`messages.py` of `tests/support/` read the same bytes by the definitions, in plain Python: from them
+comes, to the byte, what the program has to print or respond, and its status; where the outcome is
+plain from how the input was made that is asked too. So each crash, each other status, each other
+text is wrong, and so is what does not end in time. After each folder and each server the C
+library's checks have to pass and the folder, taken again, has to get the same receipts. Then a
+client of each kind holds its connection (`fuzzing/clients.py`), with a good one behind it, which
+has to get its response within a deadline. At last some bundles as large as a bundle may be are
+taken one by one, with their time and peak memory.
 
-It needs python3 alone, and the program, which `./build` builds. Each wrong input stays in a folder, with how to run it
-again. The last line is `N inputs, wrong K`."""
-import random, sys, time
+It needs python3 alone, and the program, which `./build` builds. Each wrong input stays in a folder,
+with how to run it again. The last line is `N inputs, wrong K`."""
+import random
+import sys
+import time
 
 sys.path.append(f'{sys.path[0]}/../tests')
-from fuzzing.arrivals import mutated_release, over_bundles
+from fuzzing.arrivals import mutated_release
+from fuzzing.arrivals import over_bundles
 from fuzzing.clients import over_clients
 from fuzzing.desk import over_requests
 from fuzzing.largest import over_largest
@@ -43,14 +49,17 @@ def main():
             print(f'{time.perf_counter() - begun:5.0f} s: {what}', flush=True)
         for batch, many in batches(given.bundles, 100):
             over_bundles(trial, batch, rng, many)
-        said(f'{given.bundles} bundles: ' + ', '.join(f'{verdict} {counts[verdict]}' for verdict in ('A1', 'A3', 'A4')))
+        said(f'{given.bundles} bundles: '
+             + ', '.join(f'{verdict} {counts[verdict]}' for verdict in ('A1', 'A3', 'A4')))
         for number in range(given.manifests):
             over_manifest(trial, rng, number)
         said(f'{given.manifests} manifests, {counts["accepted manifests"]} accepted')
         for batch, many in batches(given.requests, 250):
             over_requests(trial, batch, rng, mutated_release(rng, 25), many)
-        said(f'{given.requests} requests and the arrivals before them, the slowest {counts["slowest"]:.2f} s')
-        for over, what in ((over_clients, 'clients that hold their connection'), (over_largest, 'the largest bundles')):
+        said(f'{given.requests} requests and the arrivals before them, the slowest '
+             f'{counts["slowest"]:.2f} s')
+        for over, what in ((over_clients, 'clients that hold their connection'),
+                           (over_largest, 'the largest bundles')):
             over(trial)
             said(what)
     print(f'{trial.counts["inputs"]} inputs, wrong {trial.counts["wrong"]}')

@@ -1,18 +1,28 @@
 #!/usr/bin/env python3
-"""trials/page_looks.py [--restore FILE] [--handover FILE] [--large FOLDER] OUT: pictures of what `handover page` writes, in the folder OUT.
+"""trials/page_looks.py [--restore FILE] [--handover FILE] [--large FOLDER] OUT: pictures of what
+`handover page` writes, in the folder OUT.
 
-Rebuilds the samples, a release with flaws, one of 4,096 places, and the large release of docs/RUNBOOK.md if its folder is named (made by
-`samples/make_large FOLDER`), writes a page of each, and opens it from its file in headless Chromium (Debian's package `chromium`), at 400
-and at 1,600 pixels, light and dark: OUT has a picture of each, and the page as it is printed. Of each it tests that nothing but the page is
-asked for, that no script, style or message stands on the console, that the page is not wider than the window, that no two labels of the
-picture overlap, and that each text has a contrast of 4.5 at least to what is behind it, and each mark one of 3 (WCAG 2.2, AA).
+Rebuilds the samples, a release with flaws, one of 4,096 places, and the large release of
+docs/RUNBOOK.md if its folder is named (made by `samples/make_large FOLDER`), writes a page of each,
+and opens it from its file in headless Chromium (Debian's package `chromium`), at 400 and at 1,600
+pixels, light and dark: OUT has a picture of each, and the page as it is printed. Of each it tests
+that nothing but the page is asked for, that no script, style or message stands on the console, that
+the page is not wider than the window, that no two labels of the picture overlap, and that each text
+has a contrast of 4.5 at least to what is behind it, and each mark one of 3 (WCAG 2.2, AA).
 
 The last line is `N passed, M failed`."""
-import base64, json, os, select, shutil, subprocess, sys
+import base64
+import json
+import os
+import select
+import shutil
+import subprocess
+import sys
 
 sys.path.append(f'{sys.path[0]}/../tests')
 from cases.page import many_places
-from support import arguments_of, built
+from support import arguments_of
+from support import built
 from support.files import write
 from support.flawed import draw_release
 from support.releases import SAMPLES
@@ -27,10 +37,22 @@ CONTRASTS = r"""(() => {
   const parsed = text => (text.match(/[\d.]+/g) || []).map(Number);
   const part = v => (v /= 255, v <= 0.03928 ? v / 12.92 : ((v + 0.055) / 1.055) ** 2.4);
   const light = c => 0.2126 * part(c[0]) + 0.7152 * part(c[1]) + 0.0722 * part(c[2]);
-  const behind = e => { for (; e; e = e.parentElement) { const c = parsed(getComputedStyle(e).backgroundColor); if (c.length == 3 || c[3] == 1) return c; } return [255, 255, 255]; };
-  const ratio = (a, b) => { const [x, y] = [light(a), light(b)].sort((p, q) => q - p); return (x + 0.05) / (y + 0.05); };
+  const behind = e => {
+    for (; e; e = e.parentElement) {
+      const c = parsed(getComputedStyle(e).backgroundColor);
+      if (c.length == 3 || c[3] == 1) return c;
+    }
+    return [255, 255, 255];
+  };
+  const ratio = (a, b) => {
+    const [x, y] = [light(a), light(b)].sort((p, q) => q - p);
+    return (x + 0.05) / (y + 0.05);
+  };
   const found = [];
-  const check = (e, color, least) => { const r = ratio(parsed(color), behind(e.parentElement)); if (r < least) found.push([e.tagName, (e.id || e.textContent).slice(0, 30), r]); };
+  const check = (e, color, least) => {
+    const r = ratio(parsed(color), behind(e.parentElement));
+    if (r < least) found.push([e.tagName, (e.id || e.textContent).slice(0, 30), r]);
+  };
   for (const e of document.body.querySelectorAll('*')) {
     const style = getComputedStyle(e);
     if ([...e.childNodes].some(n => n.nodeType == 3 && n.data.trim()) && e.tagName != 'title')
@@ -42,8 +64,11 @@ CONTRASTS = r"""(() => {
 })()"""
 # The labels of the picture that overlap, in pairs.
 OVERLAPS = r"""(() => {
-  const all = [...document.querySelectorAll('svg text')].map(e => [e.textContent, e.getBoundingClientRect()]);
-  return all.flatMap(([a, r], i) => all.slice(i + 1).filter(([_, s]) => r.left < s.right && s.left < r.right && r.top < s.bottom && s.top < r.bottom)
+  const all = [...document.querySelectorAll('svg text')].map(
+    e => [e.textContent, e.getBoundingClientRect()]);
+  const meet = (r, s) =>
+    r.left < s.right && s.left < r.right && r.top < s.bottom && s.top < r.bottom;
+  return all.flatMap(([a, r], i) => all.slice(i + 1).filter(([_, s]) => meet(r, s))
                      .map(([b]) => [a, b]));
 })()"""
 counts = {'passed': 0, 'failed': 0}
@@ -68,8 +93,10 @@ class Browser:
             os.dup2(ends[0], 3)
             os.dup2(ends[1], 4)
 
-        words = ['--headless=new', '--no-sandbox', '--disable-gpu', '--hide-scrollbars', '--remote-debugging-pipe', f'--user-data-dir={room}']
-        self.child = subprocess.Popen([program, *words, 'about:blank'], preexec_fn=prepare, close_fds=False, stdout=subprocess.DEVNULL,
+        words = ['--headless=new', '--no-sandbox', '--disable-gpu', '--hide-scrollbars',
+                 '--remote-debugging-pipe', f'--user-data-dir={room}']
+        self.child = subprocess.Popen([program, *words, 'about:blank'], preexec_fn=prepare,
+                                      close_fds=False, stdout=subprocess.DEVNULL,
                                       stderr=subprocess.DEVNULL)
         self.come, self.number, self.events, self.session = b'', 0, [], None
         target = self.ask('Target.createTarget', url='about:blank')['targetId']
@@ -79,7 +106,8 @@ class Browser:
 
     def next(self):
         while b'\0' not in self.come:
-            if not select.select([self.answers], [], [], SECONDS)[0] or not (piece := os.read(self.answers, 1 << 20)):
+            is_there = select.select([self.answers], [], [], SECONDS)[0]
+            if not is_there or not (piece := os.read(self.answers, 1 << 20)):
                 sys.exit('page_looks: the browser does not answer')
             self.come += piece
         message, _, self.come = self.come.partition(b'\0')
@@ -88,7 +116,8 @@ class Browser:
     def ask(self, method, **params):
         self.number += 1
         session = {'sessionId': self.session} if self.session else {}
-        os.write(self.asks, json.dumps({'id': self.number, 'method': method, 'params': params} | session).encode() + b'\0')
+        message = {'id': self.number, 'method': method, 'params': params} | session
+        os.write(self.asks, json.dumps(message).encode() + b'\0')
         while (message := self.next()).get('id') != self.number:
             self.events.append(message)
         if 'error' in message:
@@ -96,11 +125,14 @@ class Browser:
         return message['result']
 
     def value(self, expression):
-        return self.ask('Runtime.evaluate', expression=expression, returnByValue=True)['result'].get('value')
+        found = self.ask('Runtime.evaluate', expression=expression, returnByValue=True)
+        return found['result'].get('value')
 
     def open(self, path, width, look):
-        self.ask('Emulation.setEmulatedMedia', features=[{'name': 'prefers-color-scheme', 'value': look}])
-        self.ask('Emulation.setDeviceMetricsOverride', width=width, height=900, deviceScaleFactor=1, mobile=width < 500)
+        self.ask('Emulation.setEmulatedMedia',
+                 features=[{'name': 'prefers-color-scheme', 'value': look}])
+        self.ask('Emulation.setDeviceMetricsOverride', width=width, height=900, deviceScaleFactor=1,
+                 mobile=width < 500)
         self.events.clear()
         self.ask('Page.navigate', url=f'file://{path}')
         while not any(it.get('method') == 'Page.loadEventFired' for it in self.events):
@@ -112,7 +144,8 @@ class Browser:
     def picture(self, width):
         height = self.ask('Page.getLayoutMetrics')['cssContentSize']['height']
         clip = {'x': 0, 'y': 0, 'width': width, 'height': min(height, 16_000), 'scale': 1}
-        return base64.b64decode(self.ask('Page.captureScreenshot', captureBeyondViewport=True, clip=clip)['data'])
+        found = self.ask('Page.captureScreenshot', captureBeyondViewport=True, clip=clip)
+        return base64.b64decode(found['data'])
 
     def print(self):
         return base64.b64decode(self.ask('Page.printToPDF', printBackground=False)['data'])
@@ -124,7 +157,8 @@ class Browser:
 
 def make_stores(stage, large):
     """Rebuilds the stores, and gives the names of the pages."""
-    releases = {it.replace(' ', '-'): release for it, release in SAMPLES.items()} | {'flawed': draw_release(5), 'many': many_places()}
+    releases = {it.replace(' ', '-'): release for it, release in SAMPLES.items()}
+    releases |= {'flawed': draw_release(5), 'many': many_places()}
     for name, release in releases.items():
         release.rebuild(stage, f'{name}.db')
     if large:
@@ -139,8 +173,12 @@ def look_at(browser, name, path, out):
         for look in LOOKS:
             browser.open(path, width, look)
             what = f'{name} at {width}, {look}'
-            check(f'requests of {what}', [it['request']['url'] for it in browser.seen('Network.requestWillBeSent')], [f'file://{path}'])
-            check(f'console of {what}', browser.seen('Log.entryAdded', 'Runtime.exceptionThrown', 'Runtime.consoleAPICalled'), [])
+            check(f'requests of {what}',
+                  [it['request']['url'] for it in browser.seen('Network.requestWillBeSent')],
+                  [f'file://{path}'])
+            check(f'console of {what}',
+                  browser.seen('Log.entryAdded', 'Runtime.exceptionThrown',
+                               'Runtime.consoleAPICalled'), [])
             check(f'width of {what}', browser.value('document.documentElement.scrollWidth'), width)
             check(f'contrast in {what}', browser.value(CONTRASTS), [])
             check(f'labels of {what}', browser.value(OVERLAPS), [])
@@ -158,7 +196,8 @@ def main():
     if not (chromium := shutil.which('chromium') or shutil.which('google-chrome')):
         sys.exit('page_looks: there is no chromium')
     os.makedirs(given.out, exist_ok=True)
-    with Stage({it: os.path.abspath(getattr(given, it)) for it in ('restore', 'handover')}) as stage:
+    programs = {it: os.path.abspath(getattr(given, it)) for it in ('restore', 'handover')}
+    with Stage(programs) as stage:
         names = make_stores(stage, given.large)
         browser = Browser(chromium, stage.at('browser'))
         for name in names:

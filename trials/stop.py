@@ -1,32 +1,45 @@
 #!/usr/bin/env python3
-"""trials/stop.py [--kills N] [--disks N] [--seed N]: stops the program in the middle of a take, and looks for what a stop may not leave.
+"""trials/stop.py [--kills N] [--disks N] [--seed N]: stops the program in the middle of a take, and
+looks for what a stop may not leave.
 
-A release of a Full and 30 Differentials (seeded) is taken, and the program is killed (SIGKILL) at N random moments (100), each time
-from a fresh store; then it is run on N disks (100) of rising size, each a small ext2 file system in a file, on which the store does
-not fit until the last. After each stop the folder is taken again, for a disk on a larger one: every line that was printed before the
-stop is there again, the receipts and exports are those of an undisturbed run, and the C library's checks pass. The disks need root
-and mkfs.ext2; without them they are left out. It needs the program, which `./build` builds. The last line is
-'N stops, M undisturbed, wrong K'."""
-import os, random, shutil, subprocess, sys, time
+A release of a Full and 30 Differentials (seeded) is taken, and the program is killed (SIGKILL) at N
+random moments (100), each time from a fresh store; then it is run on N disks (100) of rising size,
+each a small ext2 file system in a file, on which the store does not fit until the last. After each
+stop the folder is taken again, for a disk on a larger one: every line that was printed before the
+stop is there again, the receipts and exports are those of an undisturbed run, and the C library's
+checks pass. The disks need root and mkfs.ext2; without them they are left out. It needs the
+program, which `./build` builds. The last line is 'N stops, M undisturbed, wrong K'."""
+import os
+import random
+import shutil
+import subprocess
+import sys
+import time
 
 sys.path.append(f'{sys.path[0]}/../tests')
-from support import TOP, arguments_over_restore
-from support.stores import copy, readings
+from support import TOP
+from support import arguments_over_restore
+from support.stores import copy
+from support.stores import readings
 from trial import Trial
 
-SMALL = ('--rows', '3000', '--diffs', '30', '--touch', '60', '--growth', '1000', '--again', '1', '--puts', '1', '--chain', '1')
+SMALL = ('--rows', '3000', '--diffs', '30', '--touch', '60', '--growth', '1000', '--again', '1',
+         '--puts', '1', '--chain', '1')
 
 
 class Stops(Trial):
     """A trial with a release, and what an undisturbed take of it prints and leaves."""
 
     def __enter__(self):
-        release, self.folder, self.manifest = self.at('release'), self.at('deposits'), self.at('release/manifest.csv')
-        subprocess.run([sys.executable, f'{TOP}/bench/release.py', release, *SMALL], check=True, stdout=subprocess.DEVNULL)
+        release, self.folder = self.at('release'), self.at('deposits')
+        self.manifest = self.at('release/manifest.csv')
+        subprocess.run([sys.executable, f'{TOP}/bench/release.py', release, *SMALL], check=True,
+                       stdout=subprocess.DEVNULL)
         shutil.copytree(f'{release}/diffs', self.folder)
         shutil.copy(f'{release}/full/f1', f'{self.folder}/a-f1')
         self.fresh, store = self.at('fresh.db'), self.at('whole.db')
-        self.expect('init', 0, self.run('init', '--store', self.fresh, '--manifest', self.manifest)[0])
+        self.expect('init', 0,
+                    self.run('init', '--store', self.fresh, '--manifest', self.manifest)[0])
         begun = time.perf_counter()
         self.whole = self.run('take', '--store', copy(self.fresh, store), self.folder)
         self.seconds, self.size = time.perf_counter() - begun, os.path.getsize(store)
@@ -38,8 +51,10 @@ class Stops(Trial):
         self.counts['undisturbed' if is_done else 'stops'] += 1
         lines = printed[:printed.rfind(b'\n') + 1]
         self.expect(f'{what}: lines printed before the stop', True, self.whole[1].startswith(lines))
-        self.expect(f'{what}: taken again', self.whole, self.run('take', '--store', store, self.folder))
-        self.expect(f'{what}: receipts, reports or exports', self.undisturbed, readings(self.run, store))
+        self.expect(f'{what}: taken again', self.whole,
+                    self.run('take', '--store', store, self.folder))
+        self.expect(f'{what}: receipts, reports or exports', self.undisturbed,
+                    readings(self.run, store))
         self.check_store(what, store)
 
     def kill(self, after):
@@ -54,11 +69,13 @@ class Stops(Trial):
 
     def on_disk(self, size):
         """A take on a disk of so many kilobytes, and again on a larger one."""
-        what, image, disk, store = f'disk of {size} KB', self.at('image'), self.at('disk'), self.at('moved.db')
+        what = f'disk of {size} KB'
+        image, disk, store = self.at('image'), self.at('disk'), self.at('moved.db')
         os.makedirs(disk, exist_ok=True)
         with open(image, 'wb') as file:
             file.truncate(size * 1024)
-        subprocess.run(['mkfs.ext2', '-q', '-F', '-b', '1024', '-m', '0', '-N', '16', image], check=True)
+        subprocess.run(['mkfs.ext2', '-q', '-F', '-b', '1024', '-m', '0', '-N', '16', image],
+                       check=True)
         subprocess.run(['mount', '-o', 'loop', image, disk], check=True)
         try:
             made = self.run('init', '--store', f'{disk}/desk.db', '--manifest', self.manifest)
@@ -81,7 +98,8 @@ def main():
     given = arguments.parse_args()
     moments = random.Random(given.seed)
     with Stops(given.restore) as trial:
-        print(f'a take of {len(os.listdir(trial.folder))} deposits: {trial.seconds:.2f} s, a store of {trial.size // 1024} KB', flush=True)
+        print(f'a take of {len(os.listdir(trial.folder))} deposits: {trial.seconds:.2f} s, a store '
+              f'of {trial.size // 1024} KB', flush=True)
         for _ in range(given.kills):
             trial.kill(moments.uniform(0, trial.seconds))
         if os.geteuid() or not shutil.which('mkfs.ext2'):

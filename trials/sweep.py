@@ -1,45 +1,68 @@
 #!/usr/bin/env python3
-"""trials/sweep.py [OPTION ..]: refuses one growth of memory after the other, then lets one call of the database after the other fail.
+"""trials/sweep.py [OPTION ..]: refuses one growth of memory after the other, then lets one call of
+the database after the other fail.
 
 Looked for is an answer that changes in place of the error.
 
-Every growth is refused in turn in `init`, `take`, each `report` and `export`, and `serve` with a request to each route, on the
-first sample; in `init` and `take` with four arrivals of which the last takes two steps back; in `amend`, `as-of` and `report
-parked` over a release in two parts; in `migrate` of a store of version 1, and in `take` of the arrivals that it kept as A2. On
-the second sample every growth up to the 400th is refused, and every N-th beyond, so that it is 200 at most. Then each call of the
-database fails in turn in `init` and `take` with the four arrivals, `export`, `amend`, `as-of`, `migrate` and the `take` after it.
-`--harness FILE` is over the program of the tests alone, as on the second sample (`crates/desk_harness/out/desk_harness`, which
-`./check` leaves there). `--some N` makes at most N refusals in each part, evenly; `--only PART` takes the parts with that in their
-names.
+Every growth is refused in turn in `init`, `take`, each `report` and `export`, and `serve` with a
+request to each route, on the first sample; in `init` and `take` with four arrivals of which the
+last takes two steps back; in `amend`, `as-of` and `report parked` over a release in two parts; in
+`migrate` of a store of version 1, and in `take` of the arrivals that it kept as A2. On the second
+sample every growth up to the 400th is refused, and every N-th beyond, so that it is 200 at most.
+Then each call of the database fails in turn in `init` and `take` with the four arrivals, `export`,
+`amend`, `as-of`, `migrate` and the `take` after it. `--harness FILE` is over the program of the
+tests alone, as on the second sample (`crates/desk_harness/out/desk_harness`, which `./check` leaves
+there). `--some N` makes at most N refusals in each part, evenly; `--only PART` takes the parts with
+that in their names.
 
-A command has to do what it does undisturbed, or to end with status 3 and `S2` (for the database `S1`) after a beginning of what it
-prints; a client of `serve` has to see the whole response, or 503 `S2`. The same again, undisturbed, has to give what it gives at
-first, and to leave the same rows: it is run once for each content of the store's two files that a refusal leaves. The files are in
-memory (/dev/shm). It needs gcc, python3 and the program, which `./build` builds. The last line is 'N passed, M failed': each refusal
-counts once."""
-import os, shutil, sys
+A command has to do what it does undisturbed, or to end with status 3 and `S2` (for the database
+`S1`) after a beginning of what it prints; a client of `serve` has to see the whole response, or 503
+`S2`. The same again, undisturbed, has to give what it gives at first, and to leave the same rows:
+it is run once for each content of the store's two files that a refusal leaves. The files are in
+memory (/dev/shm). It needs gcc, python3 and the program, which `./build` builds. The last line is
+'N passed, M failed': each refusal counts once."""
+import os
+import shutil
+import sys
 
 sys.path.append(f'{sys.path[0]}/../tests')
-from support import TOP, arguments_over_restore, program
-from support.messages import get, put
-from sweeping.commands import over_change, over_commands, over_init, over_migrate, over_reading, over_take
+from support import TOP
+from support import arguments_over_restore
+from support import program
+from support.messages import get
+from support.messages import put
+from sweeping.commands import over_change
+from sweeping.commands import over_commands
+from sweeping.commands import over_init
+from sweeping.commands import over_migrate
+from sweeping.commands import over_reading
+from sweeping.commands import over_take
 from sweeping.harness import over_harness
 from sweeping.refusals import Sweep
-from sweeping.releases import Parts, Release, Unkept, write_four
-from sweeping.responses import over_routes, over_serve
+from sweeping.releases import Parts
+from sweeping.releases import Release
+from sweeping.releases import Unkept
+from sweeping.releases import write_four
+from sweeping.responses import over_routes
+from sweeping.responses import over_serve
 
 arguments = arguments_over_restore(__doc__)
-arguments.add_argument('--some', type=int, default=0, help='at most N refusals in each part, for a look at it')
-arguments.add_argument('--jobs', type=int, default=os.cpu_count() or 1, help='refusals side by side')
+arguments.add_argument('--some', type=int, default=0,
+                       help='at most N refusals in each part, for a look at it')
+arguments.add_argument('--jobs', type=int, default=os.cpu_count() or 1,
+                       help='refusals side by side')
 arguments.add_argument('--only', default='', help='the parts whose names have this in them')
-arguments.add_argument('--harness', type=program, metavar='FILE', help='this program of the tests alone')
+arguments.add_argument('--harness', type=program, metavar='FILE',
+                       help='this program of the tests alone')
 
 
 def over_program(sweep):
     first = Release(sweep, 'first sample', os.path.join(TOP, 'samples', 'first'), True)
     four = Release(sweep, 'four arrivals', write_four(sweep.work), True)
     second = Release(sweep, 'second sample', os.path.join(TOP, 'samples', 'release'), False)
-    assert four.lines[1].endswith('1,1,A1,,F1,0,new,0\n2,2,A1,,D2,0,new,0\n3,3,A1,,D3,0,new,0\n4,4,A1,,D2,1,new,0\n'), four.lines
+    told = ('1,1,A1,,F1,0,new,0\n2,2,A1,,D2,0,new,0\n'
+            '3,3,A1,,D3,0,new,0\n4,4,A1,,D2,1,new,0\n')
+    assert four.lines[1].endswith(told), four.lines
     over_commands(sweep, first)
     over_routes(sweep, first)
     over_init(sweep, four, 'S2')

@@ -1,15 +1,21 @@
 """A trial of the program: its runs, in a folder of its own, and what was counted."""
-import collections, os, resource, tempfile
+import collections
+import os
+import resource
+import tempfile
 
 from support.files import write
 from support.outputs import prepared
 from support.sockets import serve
-from support.stage import Failed, Stage
-from support.stores import READINGS, is_whole
+from support.stage import Failed
+from support.stage import Stage
+from support.stores import READINGS
+from support.stores import is_whole
 
 
 class Trial(Stage):
-    """`restore` with its most memory, a folder in which wrong inputs are kept, and the counts. It is there in a `with` statement."""
+    """`restore` with its most memory, a folder in which wrong inputs are kept, and the counts. It
+    is there in a `with` statement."""
     bounded = staticmethod(prepared([(resource.RLIMIT_AS, 6 * 2**30)]))
 
     def __init__(self, program, keep=None):
@@ -19,7 +25,8 @@ class Trial(Stage):
         self.counts = collections.Counter()
 
     def end_of(self, child):
-        """Status, output and refusals of a run. The status of one that does not end in time is None."""
+        """Status, output and refusals of a run. The status of one that does not end in time is
+        None."""
         try:
             got = self.end(child)
         except Failed as late:
@@ -31,9 +38,11 @@ class Trial(Stage):
         return self.end_of(self.begin(words, prepare=self.bounded))
 
     def set_up(self, name, manifest, files=()):
-        """Writes a manifest, and a folder of files, names with bodies: the store's path, the folder's, and what making the store says."""
+        """Writes a manifest, and a folder of files, names with bodies: the store's path, the
+        folder's, and what making the store says."""
         store, folder = self.at(name), self.at(f'{name}-folder')
-        for path, content in ((f'{store}.csv', manifest), *((os.path.join(folder, it), body) for it, body in files)):
+        for path, content in ((f'{store}.csv', manifest),
+                              *((os.path.join(folder, it), body) for it, body in files)):
             write(path, content)
         return store, folder, self.run('init', '--store', store, '--manifest', f'{store}.csv')
 
@@ -44,7 +53,8 @@ class Trial(Stage):
         """Keeps a wrong input, and how to run it again."""
         self.counts['wrong'] += 1
         folder = os.path.join(self.kept, f'{self.counts["wrong"]:04d}')
-        for name, content in {**files, 'how': f'{what}\nexpected {expected!r}\ngot {got!r}\n'.encode()}.items():
+        how = f'{what}\nexpected {expected!r}\ngot {got!r}\n'
+        for name, content in {**files, 'how': how.encode()}.items():
             write(os.path.join(folder, name), content)
         print(f'WRONG {what}: {expected!r:.300}, got {got!r:.300}: {folder}', flush=True)
 
@@ -57,7 +67,8 @@ class Trial(Stage):
 
     def texts(self, store):
         """What the reports and exports print but those of arrivals, by their paths over HTTP."""
-        said = {f'/export/{what}' if command == 'export' else f'/{what}': self.run(command, '--store', store, what)
+        said = {f'/export/{what}' if command == 'export'
+                else f'/{what}': self.run(command, '--store', store, what)
                 for command, what in READINGS if what not in ('receipts', 'parked')}
         for path, (status, _, refusals) in said.items():
             self.expect(f'{path} of {store}', (0, b''), (status, refusals))

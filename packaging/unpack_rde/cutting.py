@@ -6,7 +6,6 @@ the file of the keys; then each row is written into the portion of its object. T
 stay in their order."""
 import csv
 import os
-import sqlite3
 from bisect import bisect_right
 from collections.abc import Iterator
 

@@ -206,8 +206,7 @@ class Series:
             raise self.refused(
                 f'{known.id} in {known.folder} is {before}, and this is {now}: one deposit has one '
                 'place. Unpack both with --series, or list the latest revision alone in a new '
-                'store'
-            )
+                'store')
         if known.resend == self.resend and known.id != self.id:
             raise self.refused(f'{known.id} in {known.folder} has its watermark, type and resend')
 

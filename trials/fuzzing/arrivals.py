@@ -1,12 +1,14 @@
-"""What arrives at a desk: the deposits of a seeded release, damaged, each with what the row that lists it says, and the numbers of arrivals; and
-what `take` has to make of folders of them, by the definitions."""
+"""What arrives at a desk: the deposits of a seeded release, damaged, each with what the row that
+lists it says, and the numbers of arrivals; and what `take` has to make of folders of them, by the
+definitions."""
 import shutil
 from typing import NamedTuple
 
 from fuzzing import bundles
 from fuzzing.damage import flipped
 from support import registries
-from support.bundles import Header, manifest
+from support.bundles import Header
+from support.bundles import manifest
 from support.model import Desk
 from support.reports import report
 
@@ -23,13 +25,15 @@ def mutated_release(rng, many):
     rows, seen, world = [], set(), None
     while len(rows) < many:
         name, number = f'B{len(rows)}', len(rows)
-        watermark = f'2024-04-01T{number // 3600:02d}:{number // 60 % 60:02d}:{number % 60:02d}{".5" * (number % 7 == 6)}Z'
+        watermark = (f'2024-04-01T{number // 3600:02d}:{number // 60 % 60:02d}:{number % 60:02d}'
+                     f'{".5" * (number % 7 == 6)}Z')
         kind = 'FULL' if world is None else rng.choice(('FULL', 'DIFF', 'DIFF', 'INCR'))
         prev = rows[-1].header.id if kind == 'DIFF' else ''
         if kind == 'FULL':
             world, body = registries.full(rng.random(), 40, name, watermark)
         else:
-            told = dict(id=name, type=kind, watermark=watermark, **({'prevId': prev} if prev else {}))
+            told = dict(id=name, type=kind, watermark=watermark,
+                        **({'prevId': prev} if prev else {}))
             body = registries.delta(world, told, 6)
         what, change = rng.choice(bundles.CHANGES)
         made = Listed(what, change(rng, body), Header(name, kind, watermark, prev))
@@ -50,7 +54,8 @@ def names(rng, many):
 def expected_take(files, desk):
     """Status, output and refusals of a folder that the model of a desk takes."""
     receipts = [desk.arrive(name, files[name]) for name in sorted(files)]
-    return int(any(it.verdict != 'A1' for it in receipts)), report('receipts', map(desk.row_text, receipts)).encode(), b''
+    return (int(any(it.verdict != 'A1' for it in receipts)),
+            report('receipts', map(desk.row_text, receipts)).encode(), b'')
 
 
 def folder_of(rng, rows):
@@ -62,13 +67,17 @@ def folder_of(rng, rows):
 
 
 def blame(trial, batch, rows, files, expected, got, **kept):
-    """Says which bundles of a folder are wrong: those of other lines, or the one at which the program stopped."""
+    """Says which bundles of a folder are wrong: those of other lines, or the one at which the
+    program stopped."""
     lines, found = expected[1].splitlines(), [*got[1].splitlines(), f'status {got[0]}'.encode()]
-    for want, is_line in [(want, is_line) for want, is_line in zip(lines, found) if want != is_line] or [(expected[1], got)]:
+    for want, is_line in [(want, is_line) for want, is_line in zip(lines, found)
+                          if want != is_line] or [(expected[1], got)]:
         body = files.get(want.decode().split(',')[1], b'')
         mutation = next((row.mutation for row in rows if row.body == body), 'not listed')
-        how = 'restore init --store s --manifest manifest.csv; restore take --store s FOLDER_OF_bundle'
-        trial.wrong(f'bundle ({mutation}) of folder {batch}: {how}', want, is_line, bundle=body, **kept)
+        how = ('restore init --store s --manifest manifest.csv; '
+               'restore take --store s FOLDER_OF_bundle')
+        trial.wrong(f'bundle ({mutation}) of folder {batch}: {how}', want, is_line, bundle=body,
+                    **kept)
 
 
 def over_bundles(trial, batch, rng, many):
@@ -83,10 +92,13 @@ def over_bundles(trial, batch, rng, many):
         blame(trial, batch, rows, files, expected, got, **{'manifest.csv': listed})
     trial.check_store(f'folder {batch}', store)
     before = trial.texts(store)
-    trial.expect(f'folder {batch} taken again', expected, trial.run('take', '--store', store, folder))
+    trial.expect(f'folder {batch} taken again', expected,
+                 trial.run('take', '--store', store, folder))
     trial.expect(f'folder {batch}: the reports after that', before, trial.texts(store))
     for name, told in (('receipts', desk.receipt_rows()), ('parked', desk.parked_rows())):
-        trial.expect(f'{name} of folder {batch}', (0, report(name, told).encode(), b''), trial.run('report', '--store', store, name))
-    trial.counts.update({it.row: it.verdict for it in desk.receipts.values() if it.row is not None}.values())
+        trial.expect(f'{name} of folder {batch}', (0, report(name, told).encode(), b''),
+                     trial.run('report', '--store', store, name))
+    verdicts = {it.row: it.verdict for it in desk.receipts.values() if it.row is not None}
+    trial.counts.update(verdicts.values())
     trial.counts['inputs'] += many
     shutil.rmtree(folder)

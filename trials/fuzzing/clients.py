@@ -1,16 +1,23 @@
-"""Clients that hold their connection to `serve`: each on a desk of its own, with a good client after it.
+"""Clients that hold their connection to `serve`: each on a desk of its own, with a good client
+after it.
 
-The desk grants a client 10 seconds, and one more for each 65,536 bytes that came or went, and reads for 10 seconds what comes
-after the response. So the good client has to get its whole response within that time, and a margin for the machine; the desk
-has to tell each client that it gave up, and to end by itself with its store as it was."""
-import concurrent.futures, itertools, socket, threading, time
+The desk grants a client 10 seconds, and one more for each 65,536 bytes that came or went, and reads
+for 10 seconds what comes after the response. So the good client has to get its whole response
+within that time, and a margin for the machine; the desk has to tell each client that it gave up,
+and to end by itself with its store as it was."""
+import concurrent.futures
+import itertools
+import socket
+import threading
+import time
 from dataclasses import dataclass
 from typing import Iterable
 
 from fuzzing.damage import table_of
 from support.bundles import manifest
 from support.messages import response
-from support.sockets import HOST, received
+from support.sockets import HOST
+from support.sockets import received
 from support.stores import copy
 
 FIRST_SECONDS, BYTES_A_SECOND, MARGIN = 10, 65_536, 5
@@ -22,8 +29,9 @@ SHORT, LONG = b'GET /gaps HTTP/1.1\r\n\r\n', b'GET /export/contact HTTP/1.1\r\n\
 
 @dataclass
 class Kind:
-    """A kind of client: what it sends at once; what it sends then, a piece each so many seconds; how many bytes it reads with
-    each piece; what the desk tells of it; how many bytes may earn it time; and whether it ends what it sends."""
+    """A kind of client: what it sends at once; what it sends then, a piece each so many seconds;
+    how many bytes it reads with each piece; what the desk tells of it; how many bytes may earn it
+    time; and whether it ends what it sends."""
     first: bytes = b''
     then: Iterable = ()
     every: float = 0.25
@@ -48,13 +56,15 @@ def kinds(longest):
         'sends a head and no body': Kind(PUT),
         'sends half a body and stands still': Kind(PUT + bytes(10**6), earns=10**6),
         'sends its body byte by byte': Kind(PUT, again(b'x')),
-        'sends 2,000,000 bytes in 16 seconds': Kind(PUT, [bytes(31_250)] * 64, fault=b'', earns=2 * 10**6, ends=True),
+        'sends 2,000,000 bytes in 16 seconds': Kind(PUT, [bytes(31_250)] * 64, fault=b'',
+                                                    earns=2 * 10**6, ends=True),
         'reads nothing of a long response': Kind(LONG, fault=WRITE_FAULT, earns=longest),
         'reads a long response byte by byte': Kind(LONG, reads=1, fault=WRITE_FAULT, earns=longest),
         'reads nothing of a short response': Kind(SHORT, fault=b''),
         'has its response and stands still': Kind(SHORT, reads=4096, fault=b''),
         'has its response and sends byte by byte': Kind(SHORT, again(b'x'), fault=b''),
-        'is refused and sends its body byte by byte': Kind(b'PUT /nowhere HTTP/1.1\r\n\r\n', again(b'x'), fault=b''),
+        'is refused and sends its body byte by byte': Kind(b'PUT /nowhere HTTP/1.1\r\n\r\n',
+                                                           again(b'x'), fault=b''),
         'breaks off in its head': Kind(HEAD, ends=True, fault=b''),
     }
 
@@ -98,7 +108,8 @@ def asked(port, request, seconds):
 
 
 def over_one(trial, base, what, kind, expected):
-    """Holds one connection, and asks on one that comes after it. Compares what comes, how long it takes, and how the desk ends."""
+    """Holds one connection, and asks on one that comes after it. Compares what comes, how long it
+    takes, and how the desk ends."""
     server, port = trial.serve(copy(base, f'{base}-{abs(hash(what))}'), 2)
     done, most = threading.Event(), kind.most()
     with connection(port, 2 * most) as client:
@@ -109,17 +120,20 @@ def over_one(trial, base, what, kind, expected):
         done.set()
         holder.join()
     print(f'{what:56} the next client after {seconds:5.1f} s of at most {most:5.1f}', flush=True)
-    trial.expect(f'client ({what})', (expected, True, (0, b'', kind.fault)), (got, seconds <= most, trial.end_of(server)))
+    trial.expect(f'client ({what})', (expected, True, (0, b'', kind.fault)),
+                 (got, seconds <= most, trial.end_of(server)))
     trial.counts['inputs'] += 1
 
 
 def over_clients(trial):
     """A client of each kind on a desk of its own, all side by side, and a good one after it."""
     body = table_of(b''.join(b'%059d\n' % key for key in range(60_000)))
-    store, folder, _ = trial.set_up('held', manifest([('L,FULL,2024-04-01T00:00:00Z,,', body)]), [('n1', body)])
+    store, folder, _ = trial.set_up('held', manifest([('L,FULL,2024-04-01T00:00:00Z,,', body)]),
+                                    [('n1', body)])
     trial.run('take', '--store', store, folder)
     told = trial.texts(store)
     expected = response(200, told['/gaps'], 'text/csv')
     with concurrent.futures.ThreadPoolExecutor(20) as pool:
-        for it in [pool.submit(over_one, trial, store, *kind, expected) for kind in kinds(len(told['/export/contact'])).items()]:
+        for it in [pool.submit(over_one, trial, store, *kind, expected)
+                   for kind in kinds(len(told['/export/contact'])).items()]:
             it.result()

@@ -1,7 +1,11 @@
-"""Damage to the bytes of any input, seeded: bits flipped, bytes overwritten, put in, cut out, put in twice; and bundles of any sections."""
+"""Damage to the bytes of any input, seeded: bits flipped, bytes overwritten, put in, cut out, put
+in twice; and bundles of any sections."""
 import json
 
-from support.bundles import FIRST_LINE, Table, compact, deposit
+from support.bundles import FIRST_LINE
+from support.bundles import Table
+from support.bundles import compact
+from support.bundles import deposit
 from support.formats import sections
 
 
@@ -19,8 +23,8 @@ def damaged_once(random, text):
         return flipped(random, text)
     if kind == 3:
         at = random.randrange(len(text) + 1)
-        piece = random.choice((random.randbytes(random.randint(1, 9)), b'\n', b'\r\n', b',', b'"', b'""', b'\0', b'\xef\xbb\xbf',
-                               b' ', b'end\n'))
+        piece = random.choice((random.randbytes(random.randint(1, 9)), b'\n', b'\r\n', b',', b'"',
+                               b'""', b'\0', b'\xef\xbb\xbf', b' ', b'end\n'))
         return text[:at] + piece + text[at:]
     at = random.randrange(len(text))
     if kind == 2:
@@ -59,5 +63,6 @@ def opened_sections(envelope, files):
 
 def table_of(text, fields=1):
     """A bundle with one table of contacts with these bytes."""
-    contacts = Table('contact', 'contact', 'parent', [f'f{number}' for number in range(fields)], text)
+    contacts = Table('contact', 'contact', 'parent', [f'f{number}' for number in range(fields)],
+                     text)
     return deposit('L,FULL,2024-04-01T00:00:00Z,,', [contacts])

@@ -1,21 +1,28 @@
 """A desk on a socket, what it has to answer, and the requests that it gets."""
-import re, socket, time
+import re
+import socket
+import time
 
 from fuzzing import requests
-from fuzzing.arrivals import expected_take, names
+from fuzzing.arrivals import expected_take
+from fuzzing.arrivals import names
 from support import model
 from support.bundles import manifest
 from support.clients import replied
-from support.messages import asked, response
+from support.messages import asked
+from support.messages import response
 from support.reports import report
-from support.sockets import HOST, breaks_off, received
+from support.sockets import HOST
+from support.sockets import breaks_off
+from support.sockets import received
 
 # How long a connection may take.
 PATIENCE = 60
 
 
 class Desk:
-    """A desk on a socket, which serves so many connections beside those of its rows, and what it has to answer."""
+    """A desk on a socket, which serves so many connections beside those of its rows, and what it
+    has to answer."""
 
     def __init__(self, trial, batch, rng, rows, many):
         self.trial, self.name = trial, f'server {batch}'
@@ -24,7 +31,9 @@ class Desk:
         self.bodies = [row.body for row in rows] + [b'', b'abc', rng.randbytes(5000)]
         self.numbers = names(rng, 6) + ['n1']
         self.store, *_ = trial.set_up(f'desk-{batch}', listed)
-        twin, self.folder, _ = trial.set_up(f'twin-{batch}', listed, [(f'n{number}', row.body) for number, row in enumerate(rows)])
+        twin, self.folder, _ = trial.set_up(f'twin-{batch}', listed,
+                                            [(f'n{number}', row.body)
+                                             for number, row in enumerate(rows)])
         trial.run('take', '--store', twin, self.folder)
         self.texts = trial.texts(twin)
         self.server, self.port = trial.serve(self.store, len(rows) + many)
@@ -35,7 +44,8 @@ class Desk:
         if what == 'PUT':
             return replied(self.model.row_text(self.model.arrive(*more)))
         if what == 'GET':
-            return response(200, self.report(*more), 'text/plain' if more == ['/status'] else 'text/csv')
+            return response(200, self.report(*more), 'text/plain' if more == ['/status']
+                            else 'text/csv')
         return response(what, more[0], allow=more[1])
 
     def report(self, path):
@@ -46,7 +56,8 @@ class Desk:
             return report('parked', self.model.parked_rows())
         if path != '/status':
             return self.texts[path]
-        return re.sub('receipts [0-9]+', f'receipts {len(self.model.receipts)}', self.texts[path].decode())
+        return re.sub('receipts [0-9]+', f'receipts {len(self.model.receipts)}',
+                      self.texts[path].decode())
 
     def ask(self, rng, what, text):
         """Sends a request in pieces, and compares what comes."""
@@ -56,11 +67,13 @@ class Desk:
             got = sent(self.port, pieces(rng, text))
         except OSError as fault:
             got = repr(fault).encode()
-        self.trial.counts['slowest'] = max(self.trial.counts['slowest'], time.perf_counter() - begun)
+        self.trial.counts['slowest'] = max(self.trial.counts['slowest'],
+                                           time.perf_counter() - begun)
         self.trial.expect(f'request ({what}) to {self.name}', expected, got, request=text)
 
     def break_off(self, rng):
-        """Sends the front of a PUT, and breaks the connection: nothing arrives, and a read fault is told."""
+        """Sends the front of a PUT, and breaks the connection: nothing arrives, and a read fault is
+        told."""
         text = requests.put_request(rng, 'broken', rng.choice(self.bodies) + b'more')
         with socket.create_connection((HOST, self.port), PATIENCE) as client:
             client.sendall(text[:rng.randrange(1, len(text))])
@@ -68,14 +81,18 @@ class Desk:
         self.faults += 1
 
     def close(self):
-        """The server has ended by itself, told each connection that broke, and left a whole store."""
-        self.trial.expect(f'the end of {self.name}', (0, b'', b'read fault\n' * self.faults), self.trial.end_of(self.server))
+        """The server has ended by itself, told each connection that broke, and left a whole
+        store."""
+        self.trial.expect(f'the end of {self.name}', (0, b'', b'read fault\n' * self.faults),
+                          self.trial.end_of(self.server))
         self.trial.check_store(self.name, self.store)
         told = self.trial.run('report', '--store', self.store, 'receipts')
-        self.trial.expect(f'receipts of {self.name}', (0, report('receipts', self.model.receipt_rows()).encode(), b''), told)
+        self.trial.expect(f'receipts of {self.name}',
+                          (0, report('receipts', self.model.receipt_rows()).encode(), b''), told)
         again = self.trial.run('take', '--store', self.store, self.folder)
         files = {f'n{number}': body for number, body in enumerate(self.bodies[:-3])}
-        self.trial.expect(f'the folder of {self.name} taken again', expected_take(files, self.model), again)
+        self.trial.expect(f'the folder of {self.name} taken again',
+                          expected_take(files, self.model), again)
         export = self.trial.texts(self.store)['/export/domain']
         self.trial.expect(f'the domains of {self.name}', self.texts['/export/domain'], export)
 

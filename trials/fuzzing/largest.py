@@ -1,8 +1,11 @@
 """Bundles as large as a bundle may be, or nearly: what comes of each, its time and peak memory."""
-import subprocess, sys, time
+import subprocess
+import sys
+import time
 
 from fuzzing.damage import table_of
-from support.bundles import manifest, sealed
+from support.bundles import manifest
+from support.bundles import sealed
 from support.reports import report
 from support.stores import copy
 
@@ -17,17 +20,23 @@ def largest():
         'JSON nested 100,000 deep, closed': (b'"x":' + b'[' * 100_000 + b']' * 100_000, 'A3 U5'),
         'JSON nested 100,000 deep, open': (b'"x":' + b'[' * 100_000, 'A3 U5'),
         'JSON nested 15,000,000 deep': (b'"x":' + b'[' * most, 'A3 U5'),
-        'JSON objects nested 3,000,000 deep': (b'"x":' + b'{"":' * (most // 5) + b'0' + b'}' * (most // 5), 'A3 U5'),
+        'JSON objects nested 3,000,000 deep': (b'"x":' + b'{"":' * (most // 5) + b'0' + b'}'
+                                               * (most // 5), 'A3 U5'),
         'JSON, an array of 7,500,000 numbers': (b'"x":[' + b'0,' * (most // 2) + b'0]', 'A1'),
         'JSON, an array of 5,000,000 arrays': (b'"x":[' + b'[],' * (most // 3) + b'0]', 'A1'),
-        'JSON, an object of 1,000,000 members': (b'"x":{' + b''.join(b'"%07d":0,' % number for number in range(10**6)) + b'"":0}', 'A1'),
+        'JSON, an object of 1,000,000 members': (b'"x":{'
+                                                 + b''.join(b'"%07d":0,' % number
+                                                            for number in range(10**6)) + b'"":0}',
+                                                 'A1'),
         'JSON, one member 2,500,000 times': (b'"x":{' + b'"a":0,' * (most // 6) + b'"b":0}', 'A1'),
         'JSON, a text of 15,000,000 bytes': (b'"x":"' + b'x' * most + b'"', 'A1'),
         'JSON, a text of 2,500,000 escapes': (b'"x":"' + b'\\u00e9' * (most // 6) + b'"', 'A1'),
         'JSON, an integer of 15,000,000 digits': (b'"x":' + b'9' * most, 'A3 U5'),
         'JSON, a fraction of 15,000,000 digits': (b'"x":0.' + b'1' * most, 'A1'),
         'JSON, 15,000,000 spaces': (b' ' * most + b'"x":0', 'A1'),
-        'JSON, 200,000 declarations that are none': (b'"contents":[' + b'{"name":"a","kind":"host"},' * 200_000 + b'0]', 'A3 U7'),
+        'JSON, 200,000 declarations that are none': (b'"contents":['
+                                                     + b'{"name":"a","kind":"host"},' * 200_000
+                                                     + b'0]', 'A3 U7'),
     }
     front = b'{"id":"L","type":"FULL","watermark":"2024-04-01T00:00:00Z",'
     made = {name: (sealed(front + text + b'}', []), known) for name, (text, known) in texts.items()}
@@ -42,7 +51,8 @@ def largest():
     return made
 
 
-# Runs the program and tells its peak memory, from a process that is small itself: a child's peak begins with its parent's size.
+# Runs the program and tells its peak memory, from a process that is small itself: a child's peak
+# begins with its parent's size.
 MEASURE = """import os, subprocess, sys
 child = subprocess.Popen(sys.argv[1:])
 _, status, usage = os.wait4(child.pid, 0)
@@ -57,13 +67,14 @@ def over_largest(trial):
         listed = manifest([(HEADER, body)])
         store, folder, _ = trial.set_up('large', listed, [('n1', body)])
         begun = time.perf_counter()
-        taken = subprocess.run([sys.executable, '-c', MEASURE, trial.program, 'take', '--store', store, folder], capture_output=True,
-                               preexec_fn=trial.bounded)
+        taken = subprocess.run([sys.executable, '-c', MEASURE, trial.program, 'take', '--store',
+                                store, folder], capture_output=True, preexec_fn=trial.bounded)
         took = time.perf_counter() - begun
         *refusals, peak = taken.stderr.decode().splitlines()
         verdict, _, fault = known.partition(' ')
         reply = f'1,n1,{verdict},{fault},L,0,' + ('new,0' if verdict == 'A1' else ',')
-        expected, got = (int(verdict != 'A1'), report('receipts', [reply]), []), (taken.returncode, taken.stdout.decode(), refusals)
+        expected = int(verdict != 'A1'), report('receipts', [reply]), []
+        got = taken.returncode, taken.stdout.decode(), refusals
         if got != expected:
             trial.wrong(name, expected, got, bundle=body, **{'manifest.csv': listed})
         trial.check_store(name, store)

@@ -1,17 +1,22 @@
-"""Manifests that were damaged, seeded, and what `init` has to say of each: what support/formats.py reads in it."""
+"""Manifests that were damaged, seeded, and what `init` has to say of each: what support/formats.py
+reads in it."""
 import os
 
 from fuzzing.damage import damaged
-from support import bundles, formats
+from support import bundles
+from support import formats
 from support.stores import copy
 
 HEADING = bundles.HEADING.encode()
 # What may stand in a column, beside what stands in another row or column.
-CELLS = ('', ' ', 'a b', 'a/b', 'a' * 64, 'a' * 65, '\udcff', 'FULL', 'INCR', 'DIFF', 'full', 'FULL ', '2024-03-03', '2024-02-30T00:00:00Z',
-         '1969-12-31T23:59:59.999999999Z', '2025-01-01T00:00:00Z', '\udc80', '-1', '0', '000', '5', '1000000', '0x1', ' 1', '\u0661', f'{2**64}', 'xy',
-         '0' * 63, '0' * 65, 'f' * 64, 'g' * 64)
-HEADINGS = (b'', b'\n\n' + HEADING, b'"' + HEADING, b'\xef\xbb\xbf' + HEADING, HEADING.upper(), HEADING.replace(b',', b', '), HEADING[7:],
-            b'"id","type","watermark","prevId","resend","sha256"\r\n\r\n', b'type,id,watermark,prevId,resend,sha256\n')
+CELLS = ('', ' ', 'a b', 'a/b', 'a' * 64, 'a' * 65, '\udcff', 'FULL', 'INCR', 'DIFF', 'full',
+         'FULL ', '2024-03-03', '2024-02-30T00:00:00Z', '1969-12-31T23:59:59.999999999Z',
+         '2025-01-01T00:00:00Z', '\udc80', '-1', '0', '000', '5', '1000000', '0x1', ' 1', '\u0661',
+         f'{2**64}', 'xy', '0' * 63, '0' * 65, 'f' * 64, 'g' * 64)
+HEADINGS = (b'', b'\n\n' + HEADING, b'"' + HEADING, b'\xef\xbb\xbf' + HEADING, HEADING.upper(),
+            HEADING.replace(b',', b', '), HEADING[7:],
+            b'"id","type","watermark","prevId","resend","sha256"\r\n\r\n',
+            b'type,id,watermark,prevId,resend,sha256\n')
 MOST = 4_194_304
 
 
@@ -22,19 +27,23 @@ def good_rows(random, many):
         kind = 'FULL' if not rows else random.choice(('FULL', 'DIFF', 'INCR'))
         prev = random.choice(rows)[0] if rows and (kind == 'DIFF' or random.random() < 0.2) else ''
         moment = f'2024-03-{1 + number // 3600:02d}T00:{number // 60 % 60:02d}:{number % 60:02d}Z'
-        rows.append([f'R{number}', kind, moment, prev, random.choice(('', '0', '7', '000001')), f'{random.getrandbits(256):064x}'])
+        rows.append([f'R{number}', kind, moment, prev, random.choice(('', '0', '7', '000001')),
+                     f'{random.getrandbits(256):064x}'])
     return rows
 
 
 def written(rows, heading=HEADING):
-    return heading + b''.join(','.join(row).encode(errors='surrogateescape') + b'\n' for row in rows)
+    return heading + b''.join(','.join(row).encode(errors='surrogateescape') + b'\n'
+                              for row in rows)
 
 
 def other_cells(random, rows):
-    """Another cell, or one of another row: a repeated digest, id, place, or a base that is not earlier."""
+    """Another cell, or one of another row: a repeated digest, id, place, or a base that is not
+    earlier."""
     for _ in range(random.choice((1, 1, 2))):
         row, column, other = random.choice(rows), random.randrange(6), random.choice(rows)
-        row[column] = random.choice((random.choice(CELLS), other[column], other[column].upper(), other[0]))
+        row[column] = random.choice((random.choice(CELLS), other[column], other[column].upper(),
+                                     other[0]))
     return written(rows)
 
 
@@ -52,14 +61,18 @@ def other_columns(random, rows):
 
 
 def too_much(random, _rows):
-    return random.choice((lambda: HEADING * 4098, lambda: written(good_rows(random, 4097)), lambda: written(good_rows(random, 4096)),
-                          lambda: HEADING + b'\n' * MOST, lambda: b',' * MOST, lambda: b'\n' * MOST, lambda: b'"' * (MOST + 1)))()
+    return random.choice((lambda: HEADING * 4098, lambda: written(good_rows(random, 4097)),
+                          lambda: written(good_rows(random, 4096)), lambda: HEADING + b'\n' * MOST,
+                          lambda: b',' * MOST, lambda: b'\n' * MOST, lambda: b'"' * (MOST + 1)))()
 
 
 CHANGES = [
-    ('as_it_is', lambda _, rows: written(rows)), *[('damaged_bytes', lambda random, rows: damaged(random, written(rows)))] * 5,
-    *[('other_cells', other_cells)] * 4, *[('one_more', one_more)] * 2, ('other_columns', other_columns),
-    ('other_heading', lambda random, rows: written(rows if random.random() < 0.9 else [], random.choice(HEADINGS))),
+    ('as_it_is', lambda _, rows: written(rows)),
+    *[('damaged_bytes', lambda random, rows: damaged(random, written(rows)))] * 5,
+    *[('other_cells', other_cells)] * 4, *[('one_more', one_more)] * 2,
+    ('other_columns', other_columns),
+    ('other_heading',
+     lambda random, rows: written(rows if random.random() < 0.9 else [], random.choice(HEADINGS))),
 ]
 
 
@@ -72,7 +85,8 @@ def over_manifest(trial, rng, number):
         expected = 1, b'', f'M{refused.code} row {refused.where}\n'.encode()
     store, _, got = trial.set_up(f'made-{number}', text)
     what = f'manifest ({what}): restore init --store s --manifest manifest.csv'
-    trial.expect(what, (expected, expected[0] == 0), (got, os.path.exists(store)), **{'manifest.csv': text})
+    trial.expect(what, (expected, expected[0] == 0), (got, os.path.exists(store)),
+                 **{'manifest.csv': text})
     if os.path.exists(store):
         trial.check_store(f'manifest {number}', store)
     trial.counts['inputs'] += 1

@@ -1,1 +1,2 @@
-"""What `sweep.py` is made of: the releases that are swept, the refusals, and what has to come of each."""
+"""What `sweep.py` is made of: the releases that are swept, the refusals, and what has to come of
+each."""

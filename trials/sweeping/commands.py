@@ -1,13 +1,16 @@
-"""What a command does where a call is refused: what it does undisturbed, or the fault after a beginning of what it prints. The same
-again, undisturbed, gives what it gives at first, and leaves the same rows. The fault says what is refused: S1 a call of the database's
-files, S2 memory."""
+"""What a command does where a call is refused: what it does undisturbed, or the fault after a
+beginning of what it prints. The same again, undisturbed, gives what it gives at first, and leaves
+the same rows. The fault says what is refused: S1 a call of the database's files, S2 memory."""
 from support.formats import KINDS
-from support.stores import REPORTS, rows
+from support.stores import REPORTS
+from support.stores import rows
 
 
 def stops(said, whole, fault):
-    """Whether a run did what it does undisturbed, or ended with the fault after a beginning of what it prints."""
-    return said == whole or said[0] == 3 and said[2] == f'{fault}\n' and whole[1].startswith(said[1])
+    """Whether a run did what it does undisturbed, or ended with the fault after a beginning of what
+    it prints."""
+    return (said == whole or said[0] == 3 and said[2] == f'{fault}\n'
+            and whole[1].startswith(said[1]))
 
 
 def running(sweep, *words):
@@ -31,7 +34,8 @@ def over_init(sweep, release, fault):
         if said == release.listed:
             return again == is_there
         # Where a sync fails it is open whether the commit stands: the store may be there.
-        return said == (3, '', f'{fault}\n') and (again == release.listed or fault == 'S1' and again == is_there)
+        return (said == (3, '', f'{fault}\n')
+                and (again == release.listed or fault == 'S1' and again == is_there))
     sweep.refuse_over(f'init, {release.name}', fault, None, play, play, is_right, release.is_whole)
 
 
@@ -40,32 +44,38 @@ def over_take(sweep, release, fault):
 
     def is_right(said, afterwards):
         return stops(said, release.lines, fault) and afterwards == (release.lines, True)
-    sweep.refuse_over(f'take, {release.name}', fault, release.fresh, play, lambda store: (play(store), rows(store) == release.told),
-                      is_right, release.is_whole)
+    sweep.refuse_over(f'take, {release.name}', fault, release.fresh, play,
+                      lambda store: (play(store), rows(store) == release.told), is_right,
+                      release.is_whole)
 
 
 def over_reading(sweep, release, fault, *words):
     play = running(sweep, *words)
     whole = play(release.taken)
     sweep.refuse_over(f'{words[0]} {words[1]}, {release.name}', fault, release.taken, play, play,
-                      lambda said, again: stops(said, whole, fault) and again == whole, release.is_whole)
+                      lambda said, again: stops(said, whole, fault) and again == whole,
+                      release.is_whole)
 
 
 def over_change(sweep, release, fault, before, *words):
-    """A command that changes a store, and once more says what it says then: either way the store is the same after it."""
+    """A command that changes a store, and once more says what it says then: either way the store is
+    the same after it."""
     play = running(sweep, *words)
     with sweep.copied(before) as after:
         whole, repeated, tables = play(after), play(after), rows(after)
     assert whole[0] == repeated[0] == 0, (whole, repeated)
 
     def is_right(said, afterwards):
-        return stops(said, whole, fault) and afterwards in [(it, True) for it in ((repeated,) if said == whole else (whole, repeated))]
-    sweep.refuse_over(f'{words[0]}, {release.name}', fault, before, play, lambda store: (play(store), rows(store) == tables),
-                      is_right, release.is_whole or fault == 'S1')
+        later = (repeated,) if said == whole else (whole, repeated)
+        return stops(said, whole, fault) and afterwards in [(it, True) for it in later]
+    sweep.refuse_over(f'{words[0]}, {release.name}', fault, before, play,
+                      lambda store: (play(store), rows(store) == tables), is_right,
+                      release.is_whole or fault == 'S1')
 
 
 def over_migrate(sweep, release, fault, before):
-    """A store of version 1 is one of that version after a refusal, or one of this version. Once more it is migrated, or S3."""
+    """A store of version 1 is one of that version after a refusal, or one of this version. Once
+    more it is migrated, or S3."""
     play = running(sweep, 'migrate')
     with sweep.copied(before) as after:
         first, whole, tables, repeated = rows(after), play(after), rows(after), play(after)
@@ -79,7 +89,10 @@ def over_migrate(sweep, release, fault, before):
         return left == first, left == tables, play(store), rows(store) == tables
 
     def is_right(said, afterwards):
-        is_left, is_done = (afterwards == it for it in ((True, False, whole, True), (False, True, repeated, True)))
+        is_left, is_done = (afterwards == it
+                            for it in ((True, False, whole, True), (False, True, repeated, True)))
         # Where a sync fails it is open whether the commit stands.
-        return is_done if said == whole else said == (3, '', f'{fault}\n') and (is_left or fault == 'S1' and is_done)
-    sweep.refuse_over(f'migrate, {release.name}', fault, before, play, play_again, is_right, release.is_whole or fault == 'S1')
+        is_stopped = said == (3, '', f'{fault}\n')
+        return is_done if said == whole else is_stopped and (is_left or fault == 'S1' and is_done)
+    sweep.refuse_over(f'migrate, {release.name}', fault, before, play, play_again, is_right,
+                      release.is_whole or fault == 'S1')

@@ -1,25 +1,34 @@
-"""desk_harness, the program of the tests. Where memory is refused to it each answer is what it is undisturbed, up to the first one that is
-a refusal, or up to its end, for which it says why."""
-import os, re, tempfile
+"""desk_harness, the program of the tests. Where memory is refused to it each answer is what it is
+undisturbed, up to the first one that is a refusal, or up to its end, for which it says why."""
+import os
+import re
+import tempfile
 
-from support.bodies import bytes_of, manifest_text
+from support.bodies import bytes_of
+from support.bodies import manifest_text
 from support.files import write
-from support.messages import get, put
+from support.messages import get
+from support.messages import put
 from support.stage import text_of
 
-# What it ends with: the fault's name, as a crate, the kit or a response has it. Its files are in memory. Where memory is refused to a file
-# it is a disk that fails: S1, or the database's name for it.
-REFUSED = re.compile('out of memory|AllocError|AllocFailed|NoMemory|OutOfMemory|S1|S2|SystemIoFailure')
+# What it ends with: the fault's name, as a crate, the kit or a response has it. Its files are in
+# memory. Where memory is refused to a file it is a disk that fails: S1, or the database's name for
+# it.
+REFUSED = re.compile('out of memory|AllocError|AllocFailed|NoMemory|OutOfMemory|S1|S2|'
+                     'SystemIoFailure')
 # (What a response is written to is in memory, too.)
 REFUSALS = ('S1', 'S2', 'out of memory', 'write fault after 0 milliseconds')
 # How a response that is a refusal ends, in hexadecimal digits.
 REFUSED_RESPONSES = tuple(f'{it}\n'.encode().hex() + '\n' for it in ('S1', 'S2'))
 # What it is told. The bodies are the worked ones of the tests.
 TOLD = (
-    'create first.csv', 'comes 1 F1', 'comes 2 D2', 'comes 3 Abc', 'amend second.csv', 'comes 4 D3', 'as-of 2024-03-04T12:00:00Z',
-    'comes 5 D2Resent', 'as-of latest', 'comes 4 D3', 'status', 'end', 'moment', 'parked', 'receipts', 'held', 'tables', 'writes',
-    'request get', 'request put', 'chain', 'close', 'query SELECT pos, kind, key FROM undo ORDER BY pos, kind, key', 'crash synced', 'open',
-    'run 3', 'comes 6 Empty', 'amend f5.csv', 'as-of 2024-03-03T00:00:00Z', 'comes 7 F5', 'as-of latest', 'reopen', 'open', 'receipts', 'held',
+    'create first.csv', 'comes 1 F1', 'comes 2 D2', 'comes 3 Abc', 'amend second.csv', 'comes 4 D3',
+    'as-of 2024-03-04T12:00:00Z', 'comes 5 D2Resent', 'as-of latest', 'comes 4 D3', 'status', 'end',
+    'moment', 'parked', 'receipts', 'held', 'tables', 'writes',
+    'request get', 'request put', 'chain', 'close',
+    'query SELECT pos, kind, key FROM undo ORDER BY pos, kind, key', 'crash synced', 'open',
+    'run 3', 'comes 6 Empty', 'amend f5.csv', 'as-of 2024-03-03T00:00:00Z', 'comes 7 F5',
+    'as-of latest', 'reopen', 'open', 'receipts', 'held',
     'tables', 'chain', 'status')
 # How many answers those have: the three events of its run have none of their own.
 COUNT = len(TOLD) - 3
@@ -28,9 +37,10 @@ COUNT = len(TOLD) - 3
 def put_files(folder):
     """What the lines name."""
     files = {name: bytes_of(name) for name in ('F1', 'D2', 'D2Resent', 'D3', 'F5', 'Abc', 'Empty')}
-    files |= {'first.csv': manifest_text(['F1', 'D3', 'D2Resent']).encode(), 'second.csv': manifest_text(['F1', 'D2']).encode(),
-              'f5.csv': manifest_text(['F5', 'F1']).encode(), 'told': text_of(TOLD).encode(), 'get': get('/receipts'),
-              'put': put('8', b'abc')}
+    files |= {'first.csv': manifest_text(['F1', 'D3', 'D2Resent']).encode(),
+              'second.csv': manifest_text(['F1', 'D2']).encode(),
+              'f5.csv': manifest_text(['F5', 'F1']).encode(), 'told': text_of(TOLD).encode(),
+              'get': get('/receipts'), 'put': put('8', b'abc')}
     for name, content in files.items():
         write(os.path.join(folder, name), content)
 
@@ -42,7 +52,8 @@ def over_harness(sweep, program):
         told = os.path.join(folder, 'told')
         undisturbed = sweep.run(program=program, folder=folder, told=told)
         wanted = answers(undisturbed[1])
-        assert undisturbed[0] == 0 and len(wanted) == COUNT and not any(map(is_refused, wanted, wanted)), undisturbed
+        assert undisturbed[0] == 0 and len(wanted) == COUNT, undisturbed
+        assert not any(map(is_refused, wanted, wanted)), undisturbed
 
         def judge(at):
             status, out, error = sweep.run(program=program, folder=folder, told=told, at=at)
@@ -66,4 +77,5 @@ def is_refused(got, want):
     """Whether an answer is a refusal, after a beginning of the one that is wanted."""
     lines = got.splitlines()
     at = next((at for at, it in enumerate(lines) if it in REFUSALS), None)
-    return at is not None and lines[:at] == want.splitlines()[:at] or got.endswith(REFUSED_RESPONSES)
+    is_beginning = at is not None and lines[:at] == want.splitlines()[:at]
+    return is_beginning or got.endswith(REFUSED_RESPONSES)

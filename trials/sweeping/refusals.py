@@ -1,10 +1,19 @@
-"""The refusals: a program runs with `refuse.c` loaded into it, once so that its calls are counted, then once for each call that is refused.
+"""The refusals: a program runs with `refuse.c` loaded into it, once so that its calls are counted,
+then once for each call that is refused.
 
-Refusals are judged side by side, in processes of their own; what they find wrong comes back to the one that prints."""
-import contextlib, hashlib, multiprocessing, os, subprocess, tempfile, threading
+Refusals are judged side by side, in processes of their own; what they find wrong comes back to the
+one that prints."""
+import contextlib
+import hashlib
+import multiprocessing
+import os
+import subprocess
+import tempfile
+import threading
 
 from support.files import read
-from support.stores import contents, copy
+from support.stores import contents
+from support.stores import copy
 
 HERE = os.path.dirname(os.path.abspath(__file__))
 # Of many calls the first ones are refused, and at most so many beyond, evenly.
@@ -12,29 +21,36 @@ LIMIT, BEYOND = 400, 200
 
 
 class Sweep:
-    """A whole sweep: what was asked of it, the folder in which it works, how many parts it has had, and how many refusals have passed
-    and failed."""
+    """A whole sweep: what was asked of it, the folder in which it works, how many parts it has had,
+    and how many refusals have passed and failed."""
 
     def __init__(self, top, given):
         self.top, self.given = top, given
-        self.work = tempfile.mkdtemp(prefix='sweep-', dir='/dev/shm' if os.path.isdir('/dev/shm') else None)
+        self.work = tempfile.mkdtemp(prefix='sweep-',
+                                     dir='/dev/shm' if os.path.isdir('/dev/shm') else None)
         self.parts, self.passed, self.failed = 0, 0, 0
         self.stores, self.port = 0, 30_000
         # What is loaded into a program, so that a call of it is refused.
         self.library = os.path.join(self.work, 'refuse.so')
-        subprocess.run(['gcc', '-O2', '-shared', '-fPIC', '-o', self.library, os.path.join(HERE, 'refuse.c'), '-ldl'], check=True)
+        subprocess.run(['gcc', '-O2', '-shared', '-fPIC', '-o', self.library,
+                        os.path.join(HERE, 'refuse.c'), '-ldl'], check=True)
 
     def settings(self, at=None, count=None, disk=False):
-        """The environment of a run in which the call with this number is refused, or the calls are counted into this file."""
+        """The environment of a run in which the call with this number is refused, or the calls are
+        counted into this file."""
         library = self.library if at or count else None
-        told = {'LD_PRELOAD': library, 'REFUSE_DISK': disk and '1', 'REFUSE_AT': at and f'{at}', 'REFUSE_COUNT': count}
+        told = {'LD_PRELOAD': library, 'REFUSE_DISK': disk and '1', 'REFUSE_AT': at and f'{at}',
+                'REFUSE_COUNT': count}
         return os.environ | {name: it for name, it in told.items() if it}
 
     def run(self, *words, program=None, folder=None, told=os.devnull, **given_settings):
-        """Status, standard output and standard error of a run, whose standard input is the file `told`."""
+        """Status, standard output and standard error of a run, whose standard input is the file
+        `told`."""
         with open(told, 'rb') as input_, subprocess.Popen(
-                [program or self.given.restore, *words], env=self.settings(**given_settings), cwd=folder, stdin=input_,
-                stdout=subprocess.PIPE, stderr=subprocess.PIPE, close_fds=False) as ran, ended_in(300, ran):
+            [program or self.given.restore, *words], env=self.settings(**given_settings),
+            cwd=folder, stdin=input_,
+            stdout=subprocess.PIPE, stderr=subprocess.PIPE, close_fds=False) as ran, ended_in(300,
+                                                                                              ran):
             out, error = ran.communicate()
         return ran.returncode, out.decode(errors='replace'), error.decode(errors='replace')
 
@@ -57,7 +73,8 @@ class Sweep:
         return numbers
 
     def refuse(self, name, tell, judge, is_whole):
-        """Refuses calls, one after the other; `judge` says what is wrong with a refusal, or nothing."""
+        """Refuses calls, one after the other; `judge` says what is wrong with a refusal, or
+        nothing."""
         if self.given.only not in name:
             return
         self.parts += 1
@@ -85,12 +102,14 @@ class Sweep:
         copy(None, store)
 
     def refuse_over(self, name, fault, before, play, play_again, is_right, is_whole):
-        """Refuses calls while something is played on a copy of a store: calls of the database's files at the fault S1, else growths of memory.
-        `is_right` judges what comes of it, and of what is played on the copy then."""
+        """Refuses calls while something is played on a copy of a store: calls of the database's
+        files at the fault S1, else growths of memory. `is_right` judges what comes of it, and of
+        what is played on the copy then."""
         known, disk = {}, fault == 'S1'
 
         def once_more(store):
-            # What comes of the same again goes by the contents of the store's files, and is run once for each.
+            # What comes of the same again goes by the contents of the store's files, and is run
+            # once for each.
             key = hashlib.sha256(repr(contents(store)).encode()).digest()
             if key not in known:
                 known[key] = play_again(store)

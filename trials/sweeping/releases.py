@@ -1,12 +1,17 @@
-"""The releases that are swept, in stores, with what the program says of each undisturbed: those of the samples, four arrivals of
-which the last takes two steps back, a release in two parts, and a store of version 1."""
+"""The releases that are swept, in stores, with what the program says of each undisturbed: those of
+the samples, four arrivals of which the last takes two steps back, a release in two parts, and a
+store of version 1."""
 import os
 
 from support import TOP
-from support.bodies import bytes_of, manifest_text
-from support.files import read, write
-from support.first_store import first_rows, write_store
-from support.stores import copy, rows
+from support.bodies import bytes_of
+from support.bodies import manifest_text
+from support.files import read
+from support.files import write
+from support.first_store import first_rows
+from support.first_store import write_store
+from support.stores import copy
+from support.stores import rows
 
 SAMPLES = f'{TOP}/samples'
 # A Full, two Differentials, and the first of these once more, at resend 1.
@@ -36,7 +41,8 @@ class Release:
 
 
 class Parts:
-    """A release in two parts: a store of the first, in which bodies wait for the second; and as version 1 had it."""
+    """A release in two parts: a store of the first, in which bodies wait for the second; and as
+    version 1 had it."""
 
     def __init__(self, sweep):
         self.name, self.is_whole, self.deposits = 'parts', True, f'{SAMPLES}/release/deposits'
@@ -44,8 +50,10 @@ class Parts:
         self.taken, self.first = f'{sweep.work}/parts-taken', f'{sweep.work}/parts-first'
         listed = sweep.run('init', '--store', self.taken, '--manifest', first)
         lines = sweep.run('take', '--store', self.taken, self.deposits)
-        assert listed == (0, 'listed 3\n', '') and lines[0] == 1 and lines[1].count(',A5,') == 3, (listed, lines)
-        arrivals = [(name, read(f'{self.deposits}/{name}')) for name in sorted(os.listdir(self.deposits))]
+        assert listed == (0, 'listed 3\n', ''), listed
+        assert lines[0] == 1 and lines[1].count(',A5,') == 3, lines
+        arrivals = [(name, read(f'{self.deposits}/{name}'))
+                    for name in sorted(os.listdir(self.deposits))]
         write_store(self.first, first_rows(read(first), arrivals))
 
 
@@ -59,5 +67,6 @@ class Unkept:
         taken = copy(self.fresh, f'{sweep.work}/unkept-taken')
         self.lines = sweep.run('take', '--store', taken, self.deposits)
         self.told = rows(taken)
-        assert migrated == (0, 'migrated\n', '') and self.lines[1].count(',A2,') == 3, (migrated, self.lines)
+        assert migrated == (0, 'migrated\n', ''), migrated
+        assert self.lines[1].count(',A2,') == 3, self.lines
         assert len(self.told['parked']) == 3, self.told

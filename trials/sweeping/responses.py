@@ -1,12 +1,18 @@
-"""What a client of `serve` sees where memory is refused: the whole response, or 503 `S2`. The same request to the store that is left
-then gets the whole response, and the store has the same rows."""
-import os, subprocess
+"""What a client of `serve` sees where memory is refused: the whole response, or 503 `S2`. The same
+request to the store that is left then gets the whole response, and the store has the same rows."""
+import os
+import subprocess
 
 from support.files import read
 from support.formats import KINDS
-from support.messages import get, put, response
-from support.sockets import HOST, response_to, serving
-from support.stores import REPORTS, rows
+from support.messages import get
+from support.messages import put
+from support.messages import response
+from support.sockets import HOST
+from support.sockets import response_to
+from support.sockets import serving
+from support.stores import REPORTS
+from support.stores import rows
 from sweeping.refusals import ended_in
 
 REFUSED = response(503, 'S2\n')
@@ -21,13 +27,16 @@ def exchange(port, request):
 
 
 def serve(sweep, store, request, **given_settings):
-    """The responses to a request and to the same once more, and how `serve` ended. Where a port is taken it is another one."""
+    """The responses to a request and to the same once more, and how `serve` ended. Where a port is
+    taken it is another one."""
     for _ in range(5):
         port = sweep.next_port()
         words = [sweep.given.restore, *serving(store, port, 2).split()]
-        with subprocess.Popen(words, env=sweep.settings(**given_settings), stdin=subprocess.DEVNULL, stdout=subprocess.PIPE,
-                              stderr=subprocess.PIPE, close_fds=False) as served, ended_in(120, served):
-            responses = [exchange(port, request), exchange(port, request)] if served.stdout.readline() else []
+        with subprocess.Popen(words, env=sweep.settings(**given_settings), stdin=subprocess.DEVNULL,
+                              stdout=subprocess.PIPE, stderr=subprocess.PIPE,
+                              close_fds=False) as served, ended_in(120, served):
+            is_served = served.stdout.readline()
+            responses = [exchange(port, request), exchange(port, request)] if is_served else []
             error = served.stderr.read().decode(errors='replace')
         if error != f'E1 {HOST}:{port}\n':
             break
@@ -47,16 +56,19 @@ def over_serve(sweep, release, name, request, before):
         responses, status, error = said
         # One growth is refused: that of one response at most.
         answered = [it for it in responses if it]
-        is_response = all(it in (whole, REFUSED) for it in answered) and answered.count(REFUSED) <= 1
+        is_known = all(it in (whole, REFUSED) for it in answered)
+        is_response = is_known and answered.count(REFUSED) <= 1
         is_done = (status, error) == (0, '') and len(answered) == 2
         is_stopped = (status, error) == (3, 'S2\n') and REFUSED not in answered
         return is_response and (is_done or is_stopped) and afterwards == ([whole, whole], True)
-    sweep.refuse_over(f'serve {name}, {release.name}', 'S2', before, play, lambda store: (play(store)[0], rows(store) == tables),
-                      is_right, release.is_whole)
+    sweep.refuse_over(f'serve {name}, {release.name}', 'S2', before, play,
+                      lambda store: (play(store)[0], rows(store) == tables), is_right,
+                      release.is_whole)
 
 
 def over_routes(sweep, release):
     first = sorted(os.listdir(release.deposits))[0]
-    over_serve(sweep, release, 'PUT /arrivals', put(first, read(os.path.join(release.deposits, first))), release.fresh)
+    over_serve(sweep, release, 'PUT /arrivals',
+               put(first, read(os.path.join(release.deposits, first))), release.fresh)
     for path in (*(f'/{it}' for it in REPORTS), *(f'/export/{it}' for it in KINDS)):
         over_serve(sweep, release, f'GET {path}', get(path), release.taken)
