@@ -9,7 +9,7 @@ use Rattle.esc_tables.specs.DepositValue.{DepositValue}
 use Rattle.esc_tables.specs.Reading.{reading}
 use Rattle.esc_manifest.specs.declared.row.MRow.{MRow}
 use Rattle.esc_apply.specs.declared.front.Step.{Step}
-use Rattle.esc_apply.specs.Registry.{State}
+use Rattle.esc_apply.specs.Registry.{State, ObjectsByKey}
 use Rattle.esc_apply.specs.Tables.{tables}
 use Rattle.esc_store.specs.StoreState.{StoreState, kept_chain, step_at, AreHeld, AreCounts}
 use Rattle.esc_store.specs.ReplyValue.{ReceiptValue}
