@@ -1,34 +1,51 @@
 #!/usr/bin/python3
-"""trials/series.py [--examples N]: unpacks lists of deposits, each with all earlier ones known, and looks for bundles that no manifest
-lists beside each other, or that make another registry than the deposits whole.
+"""trials/series.py [--examples N]: unpacks lists of deposits, each with all earlier ones known, and
+looks for bundles that no manifest lists beside each other, or that make another registry than the
+deposits whole.
 
-A list has a few Fulls, Incrementals, Differentials and resends of small files, of which each is one bundle or a series (`unpack_rde
---described --part-rows`). Some deposits never arrive. What has to come is asked of the plain model of a desk over the whole deposits.
-Hypothesis (Debian's package python3-hypothesis) draws N lists (1,000), and makes one that fails as short as it can. It needs no program
-that is built. The last line is `N lists, N deposits, N series, N refused`."""
+A list has a few Fulls, Incrementals, Differentials and resends of small files, of which each is one
+bundle or a series (`unpack_rde --described --part-rows`). Some deposits never arrive. What has to
+come is asked of the plain model of a desk over the whole deposits. Hypothesis (Debian's package
+python3-hypothesis) draws N lists (1,000), and makes one that fails as short as it can. No built
+program is needed. The last line is `N lists, N deposits, N series, N refused, N chains`."""
 import collections
 import sys
 import tempfile
 from typing import NamedTuple
 
 sys.path.append(f'{sys.path[0]}/../tests')
-from hypothesis import HealthCheck, given, note, settings, strategies
+from hypothesis import HealthCheck
+from hypothesis import given
+from hypothesis import note
+from hypothesis import settings
+from hypothesis.strategies import booleans
+from hypothesis.strategies import builds
+from hypothesis.strategies import integers
+from hypothesis.strategies import lists
+from hypothesis.strategies import sampled_from
 from support import arguments_of
 from support.bundles import HEADING
-from support.formats import TYPES, Refused, manifest, moment_text
+from support.formats import Refused
+from support.formats import TYPES
+from support.formats import manifest
+from support.formats import moment_text
 from support.model import Desk
-from support.unpacking import Described, row_of
+from support.unpacking import Described
+from support.unpacking import row_of
 
 DAY = 1_709_424_000_000_000_000
-# Moments on one day and on the next, nanoseconds apart, and where the parts of a resend may be.
-MOMENTS = tuple(DAY + at for at in (0, 1, 2, 4_096, 4_097, 86_400_000_000_000, 86_400_000_000_001))
+# Moments of some days, and on one of them nanoseconds apart, where the parts of a resend may be.
+DAYS = tuple(DAY + at * 86_400_000_000_000 for at in range(-2, 3))
+MOMENTS = (*DAYS, *DAYS, *(DAY + at for at in (1, 2, 4_096, 4_097)))
 KEYS = ('a', 'b', 'c', 'd', 'e')
 # Why a deposit may be refused, beside those that it is refused for whole.
-REFUSALS = ('there is no room for', 'one deposit has one place', 'has its watermark, type and resend', 'would be based on its first bundle alone')
+REFUSALS = ('there is no room for', 'one deposit has one place',
+            'has its watermark, type and resend', 'would be based on its first bundle alone')
 
 
 class Drawn(NamedTuple):
-    """A deposit: its place and resend, which earlier one it names, of how many rows a bundle may be, its objects, and whether it arrives."""
+    """A deposit: its place and resend, which earlier one it names, of how many rows a bundle may
+    be, its objects and deletes, and whether it arrives."""
     moment: int
     type: str
     resend: int
@@ -40,23 +57,34 @@ class Drawn(NamedTuple):
 
     @property
     def id(self):
-        return f'{self.type[0]}{self.moment - DAY}'
+        return f'{self.type[0]}{self.moment - DAY}'.replace('-', '_')
+
+    def header(self, ids):
+        told = {
+            'id': self.id, 'type': self.type, 'watermark': moment_text(self.moment),
+            'resend': self.resend
+        }
+        if self.type == 'DIFF':
+            told['prevId'] = ids[self.prev % len(ids)] if ids else 'X'
+        return told
 
     def files(self, number, ids):
-        """Its description, where its number tells its objects from others; and its files."""
-        table = {'name': 'contact', 'kind': 'contact', 'role': 'parent', 'key': 'id', 'fields': ['id', 'clID'], 'file': 'c.csv'}
-        header = {'id': self.id, 'type': self.type, 'watermark': moment_text(self.moment), 'resend': self.resend}
-        if self.type == 'DIFF':
-            header['prevId'] = ids[self.prev % len(ids)] if ids else 'X'
-        described = {**header, 'contents': [table], 'deletes': [{**table, 'fields': ['id'], 'file': 'd.csv'}]}
-        files = {'c.csv': [f'{it},{number}' for it in self.keys], 'd.csv': self.gone}
-        return described, {name: ''.join(f'{it}\n' for it in rows).encode() for name, rows in files.items()}
+        """Its description and its files. Its number tells its objects from those of others."""
+        table = {
+            'name': 'contact', 'kind': 'contact', 'role': 'parent', 'key': 'id',
+            'fields': ['id', 'clID'], 'file': 'c.csv'
+        }
+        deletes = [{**table, 'fields': ['id'], 'file': 'd.csv'}]
+        rows = {'c.csv': [f'{it},{number}' for it in self.keys], 'd.csv': self.gone}
+        files = {name: ''.join(f'{it}\n' for it in its).encode() for name, its in rows.items()}
+        return {**self.header(ids), 'contents': [table], 'deletes': deletes}, files
 
 
-SOME_KEYS = strategies.lists(strategies.sampled_from(KEYS), unique=True)
-DEPOSITS = strategies.lists(strategies.builds(
-    Drawn, strategies.sampled_from(MOMENTS), strategies.sampled_from(TYPES), strategies.sampled_from((0, 0, 1, 2)), strategies.integers(0, 3),
-    strategies.sampled_from((None, 1, 2)), SOME_KEYS, SOME_KEYS, strategies.sampled_from((True, True, True, False))), max_size=7)
+SOME_KEYS = lists(sampled_from(KEYS), unique=True)
+DEPOSITS = lists(
+    builds(Drawn, sampled_from(MOMENTS), sampled_from(TYPES), sampled_from((0, 0, 1, 2)),
+           integers(0, 3), sampled_from((None, 1, 2)), SOME_KEYS, SOME_KEYS,
+           booleans() | booleans().map(lambda _: True)), max_size=7)
 
 
 def listed(bundles):
@@ -80,48 +108,51 @@ class Desks:
 
     def __init__(self, folder, counts):
         self.folder, self.counts = folder, counts
-        self.whole, self.parts, self.arrivals, self.known, self.ids = [], [], [[], []], [], []
+        self.whole, self.parts, self.known, self.ids = [], [], [], []
+        self.arrived = [], []
 
     def unpack(self, it, number):
         words = [word for folder in self.known for word in ('--known', folder)]
-        room = f'{self.folder}/{number}'
-        made = Described(room, *it.files(number, self.ids), [*words, *(['--part-rows', f'{it.most}'] if it.most else [])])
+        words += ['--part-rows', f'{it.most}'] if it.most else []
+        made = Described(f'{self.folder}/{number}', *it.files(number, self.ids), words)
         if not is_listed([*self.whole, made.given()]):
             return
         self.counts['deposits'] += 1
         if made.status:
             assert any(why in made.lines[-1] for why in REFUSALS), made.lines
             self.counts['refused'] += 1
-            return
-        self.take(it, made)
+        else:
+            self.take(it, made)
 
     def take(self, it, made):
-        bundles = made.bundles()
-        note(f'{it} as {[row_of(body)[:60] for body in bundles]}')
-        self.counts['series'] += len(bundles) > 1
+        whole, parts = made.given(), made.bundles()
+        note(f'{it} as {[row_of(body)[:60] for body in parts]}')
+        self.counts['series'] += len(parts) > 1
         self.known.append(made.out)
         self.ids.append(it.id)
-        self.whole.append(made.given())
-        self.parts += bundles
+        self.whole.append(whole)
+        self.parts += parts
         if it.arrives:
-            self.arrivals[0].append(made.given())
-            self.arrivals[1] += bundles
+            self.arrived[0].append(whole)
+            self.arrived[1].extend(parts)
 
     def check(self):
         """The bundles can be listed, and make what the deposits make."""
         assert is_listed(self.parts), 'no manifest lists the bundles'
         whole, parts = (Desk(listed(its), [(f'n{at}', it) for at, it in enumerate(arrived)])
-                        for its, arrived in zip((self.whole, self.parts), self.arrivals))
+                        for its, arrived in zip((self.whole, self.parts), self.arrived))
         note('\n'.join([*whole.gap_rows(), '--', *parts.gap_rows()]))
+        self.counts['chains'] += len(whole.steps) > 1
         assert parts.objects == whole.objects, 'the bundles make another registry'
 
 
 def main():
     arguments = arguments_of(__doc__)
     arguments.add_argument('--examples', type=int, default=1_000, metavar='N')
-    given_words, counts = arguments.parse_args(), collections.Counter()
+    words, counts = arguments.parse_args(), collections.Counter()
 
-    @settings(max_examples=given_words.examples, deadline=None, database=None, suppress_health_check=list(HealthCheck), print_blob=False)
+    @settings(max_examples=words.examples, deadline=None, database=None,
+              suppress_health_check=list(HealthCheck))
     @given(DEPOSITS)
     def check(deposits):
         counts['lists'] += 1
@@ -132,7 +163,8 @@ def main():
             desks.check()
 
     check()
-    print(', '.join(f'{counts[it]} {it}' for it in ('lists', 'deposits', 'series', 'refused')))
+    names = ('lists', 'deposits', 'series', 'refused', 'chains')
+    print(', '.join(f'{counts[it]} {it}' for it in names))
 
 
 main()

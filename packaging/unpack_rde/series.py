@@ -180,8 +180,9 @@ class Series:
                 continue
             taken = next((it for it in known.places
                           if first.moment <= it.moment < last.moment or it == last), None)
-            if is_within(first, known.places):
-                taken = known.places[-1]
+            begin, end = known.places[0], known.places[-1]
+            if begin.moment <= last.moment < end.moment or is_within(first, known.places):
+                taken = end
             if taken is not None:
                 raise self.refused(
                     f'there is no room for {what}: {known.id} in {known.folder} has the place '

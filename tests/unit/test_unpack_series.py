@@ -227,6 +227,12 @@ class Series(Case):
             r'no room for its series of \d+: D2 in .* has the place '
             r'2024-03-02T23:59:59.999999999Z DIFF$'
         )
+        # The other way round: among the bundles of a known one, or of its resend.
+        full = self.made({**FULL, 'resend': '1'}, objects, rows_at_most(15))
+        for moment in ('2024-03-02T23:59:59.999999999Z', '2024-03-02T23:59:59.9999959Z'):
+            found = self.made({**DIFF, 'watermark': moment}, [], ['--known', full.out], status=1)
+            self.assertRegex(found.lines[-1], 'there is no room for it: F1 in .* has the place '
+                             '2024-03-03T00:00:00Z DIFF$')
 
     # ---- revisions
 
@@ -368,6 +374,26 @@ class Series(Case):
         self.assertRegex(
             found.lines[-1],
             'there is no room for it: F1 in .* has the place 2024-03-03T00:00:00Z DIFF$')
+
+    def test_an_incremental_is_not_based_on_the_first_part_of_a_full(self):
+        objects = self.full('based', 8)
+        at_once = {**INCR, 'watermark': FULL['watermark']}
+        full = self.made(FULL, objects, rows_at_most(15))
+        found = self.made(at_once, [], ['--known', full.out], status=1)
+        self.assertRegex(
+            found.lines[-1],
+            'there is no room for it: F1 in .* has the place 2024-03-03T00:00:00Z DIFF$')
+        for header in (at_once, INCR):
+            on = self.made(header, [])
+            self.made(FULL, objects, ['--known', on.out])
+            found = self.made(FULL, objects, ['--known', on.out, *rows_at_most(15)], status=1)
+            self.assertIn(f'the Incremental I4 in {on.out} would be based on its first bundle alone',
+                          found.lines[-1])
+            # One that builds on a later Full has nothing to do with it.
+            if header is INCR:
+                between = self.made({**FULL, 'id': 'F3', 'watermark': '2024-03-04T00:00:00Z'}, [])
+                self.made(FULL, objects,
+                          ['--known', on.out, '--known', between.out, *rows_at_most(15)])
 
     def test_a_resend_may_have_another_id(self):
         one, other = self.full('one', 8), self.full('other', 8)
