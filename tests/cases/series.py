@@ -1,5 +1,7 @@
-"""The bundles of a series, as `pack` writes them and `restore` takes them: in any order, twice, missing, between two runs, and of a deposit
-that was sent again. What the desk has to say is asked of the plain model."""
+"""The bundles of a series, as `pack` writes them and `restore` takes them: in any order, twice,
+missing, between two runs, and of a deposit that was sent again. What the desk has to say is asked
+of the plain model."""
+import collections
 import csv
 import hashlib
 import io
@@ -22,18 +24,26 @@ from support.unpacking import Described, bundle_in, row_of
 FULL = {'id': 'F1', 'type': 'FULL', 'watermark': '2024-03-03T00:00:00Z'}
 INCR = {'id': 'I2', 'type': 'INCR', 'watermark': '2024-03-04T00:00:00Z'}
 DOMAINS = [f'd{at}.example' for at in range(8)]
-TABLES = (('registrar', 'registrar', 'parent', ('id',)), ('domain', 'domain', 'parent', ('name', 'clID')),
-          ('domainStatuses', 'domain', 'child', ('name', 'status')))
+TABLES = (
+    ('registrar', 'registrar', 'parent', ('id',)),
+    ('domain', 'domain', 'parent', ('name', 'clID')),
+    ('domainStatuses', 'domain', 'child', ('name', 'status')),
+)
 
 
 def described(header, names, word, gone=()):
-    """A description, and its files: a registrar, and domains with a status each, which have a word."""
-    contents = [{'name': name, 'kind': kind, 'role': role, 'key': fields[0], 'fields': fields, 'file': f'{name.lower()}.csv'}
-                for name, kind, role, fields in TABLES]
+    """A description, and its files: a registrar, and domains with a word and a status each."""
+    contents = [{
+        'name': name, 'kind': kind, 'role': role, 'key': fields[0], 'fields': fields,
+        'file': f'{name.lower()}.csv'
+    } for name, kind, role, fields in TABLES]
     deletes = [{**contents[1], 'fields': ['name'], 'file': 'gone.csv'}] if gone else []
-    rows = {'registrar.csv': ['R1'], 'domain.csv': [f'{it},{word}' for it in names], 'domainstatuses.csv': [f'{it},ok' for it in names],
-            'gone.csv': gone}
-    return {**header, 'contents': contents, 'deletes': deletes}, {name: ''.join(f'{it}\n' for it in its).encode() for name, its in rows.items()}
+    rows = {
+        'registrar.csv': ['R1'], 'domain.csv': [f'{it},{word}' for it in names],
+        'domainstatuses.csv': [f'{it},ok' for it in names], 'gone.csv': gone
+    }
+    files = {name: ''.join(f'{it}\n' for it in its).encode() for name, its in rows.items()}
+    return {**header, 'contents': contents, 'deletes': deletes}, files
 
 
 def made(stage, name, given, *words):
@@ -83,23 +93,31 @@ def check_store(stage, model, store='a.db'):
 def exported(stage, store):
     """The cells of all objects, in the order of kinds."""
     for kind in KINDS:
-        yield from list(csv.reader(io.StringIO(run(stage, f'export --store {store} {kind}').decode(), newline=''), strict=True))[1:]
+        text = run(stage, f'export --store {store} {kind}').decode()
+        yield from list(csv.reader(io.StringIO(text, newline=''), strict=True))[1:]
 
 
 def cells_of(model):
-    for (kind, key), record in sorted(model.objects.items(), key=lambda it: (KINDS.index(it[0][0]), it[0][1])):
-        count = {}
+    objects = sorted(model.objects.items(), key=lambda it: (KINDS.index(it[0][0]), it[0][1]))
+    for (kind, key), record in objects:
+        count = collections.Counter()
         for at, (table, cells) in enumerate(read_record(record)):
-            count[table] = count.get(table, 0) + 1
+            count[table] += at > 0
             for field, text in cells:
                 yield [kind, key.decode(), table, f'{count[table] if at else 0}', field, text]
+
+
+def check_manifest(stage, listed):
+    """Compares the manifest of what is in the folder of bundles."""
+    words = ['manifest', *(f'bundles/{it}' for it in os.listdir(stage.at('bundles')))]
+    compare('manifest', manifest_of(listed).decode(), run(stage, ' '.join(words), 'pack').decode())
 
 
 # ---- the cases
 
 
 def test_bundles(stage):
-    """`pack series` writes the bundles of bare files in parts, and one deposit's manifest lists them."""
+    """`pack series` writes the bundles of bare files in parts, and a manifest lists them."""
     bundles = made_full(stage)
     os.mkdir(stage.at('bundles'))
     run(stage, 'series F1 bundles/F1', 'pack')
@@ -107,9 +125,9 @@ def test_bundles(stage):
     compare_all('names', [f'F1-{at:03}' for at in range(1, len(bundles) + 1)], names)
     for name, body in zip(names, bundles):
         compare(name, body.decode(), read(stage.at(f'bundles/{name}')).decode())
-    printed = run(stage, ' '.join(['manifest', *(f'bundles/{it}' for it in reversed(names))]), 'pack')
-    compare('manifest', manifest_of(bundles).decode(), printed.decode())
-    # A bundle is there already, as after a stop between two: none is written over, and none of this run is left.
+    check_manifest(stage, bundles)
+    # One is there already, as after a stop between two: none is written over, and none of this run
+    # is left.
     os.remove(stage.at('bundles/F1-001'))
     stage.check('series F1 bundles/F1', Wanted(3, '', 'E1 bundles/F1-002\n'), program='pack')
     compare_all('names', names[1:], sorted(os.listdir(stage.at('bundles'))))
@@ -121,7 +139,8 @@ def test_orders(stage):
     for seed in range(4):
         chance = random.Random(seed)
         with case(f'seed {seed}'):
-            take(stage, begin(stage, bundles, f'{seed}.db'), chance.sample(bundles * 2, len(bundles) * 2), f'{seed}.db')
+            model = begin(stage, bundles, f'{seed}.db')
+            take(stage, model, chance.sample(bundles * 2, len(bundles) * 2), f'{seed}.db')
 
 
 def test_runs(stage):
@@ -135,23 +154,27 @@ def test_runs(stage):
         take(stage, model, order, f'{name}.db')
 
 
-# What is told where the second bundle of four is missing: the chain ends before it, and all after it wait for it.
-GAPS = ('2024-03-02T23:59:59.999999997Z,FULL,0,chain,,', '2024-03-02T23:59:59.999999998Z,DIFF,,missing,,0',
-        '2024-03-02T23:59:59.999999999Z,DIFF,0,blocked,2024-03-02T23:59:59.999999998Z DIFF,',
-        '2024-03-03T00:00:00Z,DIFF,0,blocked,2024-03-02T23:59:59.999999998Z DIFF,')
+# What is told where the second bundle of four is missing: the chain ends before it, and all after
+# it wait for it.
+GAPS = (
+    '2024-03-02T23:59:59.999999997Z,FULL,0,chain,,',
+    '2024-03-02T23:59:59.999999998Z,DIFF,,missing,,0',
+    '2024-03-02T23:59:59.999999999Z,DIFF,0,blocked,2024-03-02T23:59:59.999999998Z DIFF,',
+    '2024-03-03T00:00:00Z,DIFF,0,blocked,2024-03-02T23:59:59.999999998Z DIFF,',
+)
 
 
 def test_missing(stage):
-    """A bundle of a series is missing: the report of gaps and `pack check` name it, and it comes later."""
+    """A bundle of a series is missing: `report gaps` and `pack check` name it. It comes later."""
     bundles = made_full(stage)
     for missing in range(len(bundles)):
-        store, rest = f'{missing}.db', [it for at, it in enumerate(bundles) if at != missing]
+        store, rest = f'{missing}.db', bundles[:missing] + bundles[missing + 1:]
         model = begin(stage, bundles, store)
         with case(f'bundle {missing + 1} of {len(bundles)}'):
             take(stage, model, rest, store)
-            got = stage.end(stage.begin(['check', '--manifest', 'manifest.csv', 'deposits'], 'pack'))
+            told = run(stage, 'check --manifest manifest.csv deposits', 'pack').decode()
             wanted = f'no file: {" ".join(row_of(bundles[missing]).split(",")[:3])} resend 0'
-            compare('the last line of pack check', wanted, got.out.decode().splitlines()[-1])
+            compare('the last line of pack check', wanted, told.splitlines()[-1])
             if missing == 1:
                 stage.check(f'report --store {store} gaps', Wanted(0, report('gaps', GAPS)))
             take(stage, model, [bundles[missing]], store)
@@ -160,7 +183,8 @@ def test_missing(stage):
 def test_mixed(stage):
     """A folder that has a part of another deposit: its bundle builds on one that is not listed."""
     bundles = made_full(stage)
-    others = made(stage, 'F2', described({**FULL, 'id': 'F2', 'watermark': '2024-03-10T00:00:00Z'}, DOMAINS, 'R2'), '--part-rows', '6')
+    header = {**FULL, 'id': 'F2', 'watermark': '2024-03-10T00:00:00Z'}
+    others = made(stage, 'F2', described(header, DOMAINS, 'R2'), '--part-rows', '6')
     last = f'part-{len(others):03}'
     shutil.rmtree(stage.at(f'F1/{last}'))
     shutil.copytree(stage.at(f'F2/{last}'), stage.at(f'F1/{last}'))
@@ -168,36 +192,42 @@ def test_mixed(stage):
     run(stage, 'series F1 bundles/F1', 'pack')
     listed = [*bundles[:-1], others[-1]]
     model = begin(stage, listed)
-    compare('manifest', manifest_of(listed).decode(), run(stage, ' '.join(['manifest', *(
-        f'bundles/{it}' for it in os.listdir(stage.at('bundles')))]), 'pack').decode())
+    check_manifest(stage, listed)
     take(stage, model, listed)
     if not run(stage, 'report --store a.db gaps').endswith(b',blocked,unlisted F2.3of4,\n'):
         raise Failed('the last place is not blocked by the part that is not listed')
 
 
+def check_sent_again(stage, first, second):
+    before = made_full(stage, first)
+    given = described({**FULL, 'resend': 1}, DOMAINS[2:], 'R2')
+    after = made(stage, 'again', given, '--part-rows', f'{second}', '--known', stage.at('F1'))
+    model = begin(stage, before)
+    take(stage, model, before)
+    stage.write('more.csv', manifest_of(after))
+    added = f'added {model.amend(manifest_of(after))}\n'
+    stage.check('amend --store a.db --manifest more.csv', Wanted(0, added))
+    model.settle()
+    check_store(stage, model)
+    for it in after:
+        take(stage, model, [it])
+    steps = [model.listed[it][4] for it in model.steps]
+    compare_all('chain', (hashlib.sha256(it).hexdigest() for it in after), steps)
+    places = run(stage, 'report --store a.db gaps').decode().splitlines()
+    stand = sum(',standing,' in it for it in places)
+    compare('former places that stand', f'{len(before) - 1}', f'{stand}')
+
+
 def test_sent_again(stage):
-    """A deposit that is sent again as fewer bundles, or more: none of the former ones stays in the chain."""
+    """A deposit is sent again as fewer bundles, or more: no former one stays in the chain."""
     for first, second in ((6, 12), (12, 4)):
         with case(f'{first} rows, then {second}'):
-            before = made_full(stage, first)
-            after = made(stage, 'again', described({**FULL, 'resend': 1}, DOMAINS[2:], 'R2'), '--part-rows', f'{second}', '--known', stage.at('F1'))
-            model = begin(stage, before)
-            take(stage, model, before)
-            stage.write('more.csv', manifest_of(after))
-            stage.check('amend --store a.db --manifest more.csv', Wanted(0, f'added {model.amend(manifest_of(after))}\n'))
-            model.settle()
-            check_store(stage, model)
-            for it in after:
-                take(stage, model, [it])
-            if [model.listed[it][4] for it in model.steps] != [hashlib.sha256(it).hexdigest() for it in after]:
-                raise Failed('the chain has other bundles than those sent again')
-            places = run(stage, 'report --store a.db gaps').decode().splitlines()
-            compare('former places that stand', f'{len(before) - 1}', f'{sum(",standing," in it for it in places)}')
+            check_sent_again(stage, first, second)
         clear(stage)
 
 
 def test_incremental(stage):
-    """An Incremental on a Full that is a series builds on the whole of it, as one bundle and as a series."""
+    """An Incremental on a Full that is a series builds on the whole of it."""
     full = made_full(stage)
     for name, words in (('one', ()), ('series', ('--part-rows', '6'))):
         given = described(INCR, DOMAINS[4:] + ['new.example'], 'R2', DOMAINS[:2])
