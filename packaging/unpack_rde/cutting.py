@@ -43,6 +43,8 @@ class Cutting:
             self.share()
             for table in self.portions.tables:
                 self.distribute(table)
+            for it in self.before:
+                os.rmdir(it.folder)
         finally:
             self.store.execute('DROP TABLE size')
 

@@ -156,6 +156,9 @@ class DescribedFiles(Case):
         most = chance.randint(max(sizes.values(), default=1), 40)
         found = self.taken(files.description, files.files, rows_at_most(most))
         parts = found.bundles()
+        if len(parts) > 1:
+            names = [f'part-{at:03}' for at in range(1, len(parts) + 1)]
+            self.assertEqual(sorted(os.listdir(found.out)), names)
         first = [] if files is base else [before]
         self.assertEqual(
             desk([*first, *parts]).objects, desk([*first, found.given()]).objects)
