@@ -58,24 +58,31 @@ class Described(Unpacking):
 
     def rows(self, source: Source) -> Iterator[tuple[str, list[str]]]:
         """The rows of a table, each with its key."""
-        at = source.fields.index(source.table.key)
         for name in source.files:
-            path = self.files.path(self.path, name)
-            rows = self.files.rows_of_file(path, {}, ',', len(source.fields))
-            if source.has_heading:
-                self.check_heading(path, source, next(rows, None))
-            for _, number, row in rows:
-                self.place = path, number
-                if row[0].startswith(MARK):
-                    raise self.refused('a row begins with a byte order mark: take it out')
-                self.check_key(source.table, row[at])
-                for field, value in zip(source.fields, row):
-                    self.tell_control(source.table, field, value)
-                self.progress.tell()
-                yield row[at], row
+            yield from self.rows_of_file(source, self.files.path(self.path, name))
+
+    def rows_of_file(self, source: Source, path: str) -> Iterator[tuple[str, list[str]]]:
+        at = source.fields.index(source.table.key)
+        rows = self.files.rows_of_file(path, {}, ',', len(source.fields))
+        if source.has_heading:
+            self.check_heading(path, source, next(rows, None))
+        for _, number, row in rows:
+            self.place = path, number
+            self.check_row(source, row)
+            self.check_key(source.table, row[at])
+            self.progress.tell()
+            yield row[at], row
+
+    def check_row(self, source: Source, row: list[str]) -> None:
+        """Refuses a row that a reader would take for another one, if it came first."""
+        if row[0].startswith(MARK):
+            raise self.refused('a row begins with a byte order mark: take it out')
+        for field, value in zip(source.fields, row):
+            self.tell_control(source.table, field, value)
 
     def check_heading(self, path: str, source: Source,
                       first: tuple[str, int, list[str]] | None) -> None:
+        """Refuses a file that does not begin with the names of its fields."""
         if first is None or not source.is_heading(first[2]):
             raise Refusal(path, f'it does not begin with the fields of {source.table.name}: '
                           f'{",".join(source.fields)}')
