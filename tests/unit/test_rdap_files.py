@@ -287,6 +287,11 @@ class Answers(Case):
                 self.assertEqual(answers.get(name), wanted)
         self.assertEqual(sorted(answers), sorted(ANSWERS))
 
+    def test_names_of_a_zone_are_compared_in_small_letters(self):
+        zone = ZONE.replace('signed.example. 3600 IN DS', 'Signed.EXAMPLE. 3600 IN DS')
+        zone = zone.replace('example. 3600 IN SOA', 'Example. 3600 IN SOA', 1)
+        self.assertEqual(self.made(zone=zone).answers()['domain/signed.example'], SIGNED)
+
     def test_no_text_of_a_contact_is_in_a_file(self):
         texts = ('C1-EX', 'mail.example', 'Jan', 'Delft', 'client-7', 'client-8', 'court', '555',
                  'desk@', 'Springfield', 'reserved')
@@ -389,6 +394,12 @@ class Odd(Case):
                     self.assertEqual(sorted(os.listdir(found.folder)),
                                      ['answers', 'tables', 'zone'])
 
+    def test_a_name_has_at_most_255_bytes(self):
+        for size, names in ((255, 4), (256, 3)):
+            found = self.made(with_cells('domain', {'name': 'a' * size}, at=2))
+            self.assertEqual(len(os.listdir(f'{found.out}/domain')), names - 1)
+            self.assertEqual(found.lines, [f'invalid: name of domain {"a" * size}'] * (size > 255))
+
     def test_a_registrar_of_an_odd_id_has_no_file_and_its_domains_have_it(self):
         objects = with_cells('domain', {'clID': '../R'}, with_cells('registrar', {'id': '../R'},
                                                                     at=1), at=1)
@@ -425,8 +436,11 @@ class Odd(Case):
                          (0, ['orphan: rows of domainStatuses of no domain 1']))
 
     def test_a_labels_that_have_no_one_u_label_stay_alone(self):
-        # A sign that stands for others, ASCII alone, a mark at the front, signs that no text has.
-        for label in ('xn--a-ecp', 'xn--abc-', 'xn--a-0bb', 'xn--\u007f', 'xn--99999999', 'xn--'):
+        # A sign that stands for others, ASCII alone, a mark at the front, signs that no text has; a
+        # capital, a sign in two pieces, and more bytes than a name of a file has.
+        texts = ('bÜcher', 'bu\u0308cher', '漢' * 86)
+        for label in ('xn--a-ecp', 'xn--abc-', 'xn--a-0bb', 'xn--\u007f', 'xn--99999999', 'xn--',
+                      *(f'xn--{it.encode("punycode").decode()}' for it in texts)):
             with self.subTest(label):
                 found = self.made(with_cells('domain', {'name': f'{label}.example', 'uName': 'ü'},
                                              at=2))

@@ -138,8 +138,8 @@ def main(given: list[str] | None = None) -> int:
     words, report = words_of(given), Report()
     folder = Folder(words.out)
     try:
-        folder.begin()
         try:
+            folder.begin()
             counts = write_answers(words, folder, report)
             folder.finish()
         except BaseException:
