@@ -18,11 +18,11 @@ from hypothesis import HealthCheck
 from hypothesis import given
 from hypothesis import note
 from hypothesis import settings
-from hypothesis.strategies import booleans
 from hypothesis.strategies import builds
 from hypothesis.strategies import integers
 from hypothesis.strategies import lists
 from hypothesis.strategies import sampled_from
+from hypothesis.strategies import tuples
 from support import arguments_of
 from support.bundles import HEADING
 from support.formats import Refused
@@ -35,12 +35,12 @@ from support.unpacking import row_of
 
 DAY = 1_709_424_000_000_000_000
 # Moments of some days, and on one of them nanoseconds apart, where the parts of a resend may be.
-DAYS = tuple(DAY + at * 86_400_000_000_000 for at in range(-2, 3))
+DAYS = tuple(DAY + at * 86_400_000_000_000 for at in range(-1, 4))
 MOMENTS = (*DAYS, *DAYS, *(DAY + at for at in (1, 2, 4_096, 4_097)))
 KEYS = ('a', 'b', 'c', 'd', 'e')
 # Why a deposit may be refused, beside those that it is refused for whole.
 REFUSALS = ('there is no room for', 'one deposit has one place',
-            'has its watermark, type and resend', 'would be based on its first bundle alone')
+            'has its watermark, type and resend', 'has to be based on this Full')
 
 
 class Drawn(NamedTuple):
@@ -81,10 +81,17 @@ class Drawn(NamedTuple):
 
 
 SOME_KEYS = lists(sampled_from(KEYS), unique=True)
-DEPOSITS = lists(
-    builds(Drawn, sampled_from(MOMENTS), sampled_from(TYPES), sampled_from((0, 0, 1, 2)),
-           integers(0, 3), sampled_from((None, 1, 2)), SOME_KEYS, SOME_KEYS,
-           booleans() | booleans().map(lambda _: True)), max_size=7)
+
+
+def some(moments, types, resends):
+    arrives = sampled_from((True, True, True, False))
+    return builds(Drawn, sampled_from(moments), sampled_from(types), sampled_from(resends),
+                  integers(0, 3), sampled_from((None, 1, 2)), SOME_KEYS, SOME_KEYS, arrives)
+
+
+# A Full, and what comes after it.
+DEPOSITS = tuples(some(DAYS[:1], ['FULL'], [0]),
+                  lists(some(MOMENTS, TYPES, (0, 0, 1, 2)), max_size=6))
 
 
 def listed(bundles):
@@ -158,7 +165,8 @@ def main():
         counts['lists'] += 1
         with tempfile.TemporaryDirectory(prefix='case-') as folder:
             desks = Desks(folder, counts)
-            for number, it in enumerate(sorted(deposits, key=in_order)):
+            first, others = deposits
+            for number, it in enumerate([first, *sorted(others, key=in_order)]):
                 desks.unpack(it, number)
             desks.check()
 

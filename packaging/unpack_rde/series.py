@@ -21,6 +21,8 @@ SECOND = 1_000_000_000
 # A store lists no more rows; the places of one revision are below this many nanoseconds.
 MOST_PARTS = 4_096
 MOST_ID = 64
+# The member of a header by which an Incremental is known that is given as a Differential.
+INCREMENTAL = 'incremental'
 Header = dict[str, object]
 
 
@@ -49,6 +51,8 @@ class Known(NamedTuple):
     type: str
     moment: int
     resend: int
+    prev: str | None
+    is_incremental: bool
     folder: str
     folders: list[str]
     places: list[Place]
@@ -80,9 +84,10 @@ def known_of(folder: str, folders: list[str], headers: list[Header]) -> Known:
     """The deposit in these folders, by their headers."""
     if folders != [folder]:
         check_parts(folder, headers)
-    last = headers[-1]
-    return Known(last['id'], headers[0]['type'], nanoseconds(last['watermark']),
-                 last.get('resend') or 0, folder, folders,
+    first, last = headers[0], headers[-1]
+    return Known(last['id'], first['type'], nanoseconds(last['watermark']),
+                 last.get('resend') or 0, first.get('prevId'),
+                 first['type'] == 'INCR' or INCREMENTAL in first, folder, folders,
                  [Place(nanoseconds(it['watermark']), it['type']) for it in headers])
 
 
@@ -172,34 +177,36 @@ class Series:
         """Refuses a deposit whose bundles can't be listed beside those that are known."""
         if of > MOST_PARTS:
             raise self.refused(f'it needs {of} bundles, and a store lists at most {MOST_PARTS}')
-        first, last = self.place(1, of), self.place(of, of)
+        own = [self.place(1, of), self.place(of, of)]
         what, revisions = 'it' if of == 1 else f'its series of {of}', self.revisions()
         for known in self.known:
             if known in revisions:
-                self.check_revision(known, last, of)
+                self.check_revision(known, own[-1], of)
                 continue
-            taken = next((it for it in known.places
-                          if first.moment <= it.moment < last.moment or it == last), None)
-            begin, end = known.places[0], known.places[-1]
-            if begin.moment <= last.moment < end.moment or is_within(first, known.places):
-                taken = end
+            taken = taken_of(known.places, own)
             if taken is not None:
                 raise self.refused(
                     f'there is no room for {what}: {known.id} in {known.folder} has the place '
                     f'{watermark_text(taken.moment)} {taken.type}')
-            if of > 1 and self.is_base_of(known, first):
+            if self.is_base_of(known, of):
                 raise self.refused(
-                    f'the Incremental {known.id} in {known.folder} would be based on its first '
-                    f'bundle alone: unpack this without it, and then {known.id} again with --known')
+                    f'the Incremental {known.id} in {known.folder} has to be based on this Full: '
+                    f'unpack this without it, and then {known.id} again with --known of this')
 
-    def is_base_of(self, known: Known, first: Place) -> bool:
-        """Whether this is the last Full before a known Incremental, which was not given as a
-        Differential on it."""
-        moment = known.places[0].moment
-        between = (it for it in self.known if it.type == 'FULL' and it not in self.revisions()
-                   and first.moment < it.places[0].moment < moment)
-        return (first.type, known.type) == (
-            'FULL', 'INCR') and first.moment < moment and next(between, None) is None
+    def is_base_of(self, known: Known, of: int) -> bool:
+        """Whether this is the last Full before a known Incremental, which is based on another: by
+        its type on the first bundle alone; if it was given as a Differential, on the Full that was
+        the last one then."""
+        if self.header['type'] != 'FULL' or not known.is_incremental or known.moment <= self.moment:
+            return False
+        fulls = {
+            it.id: it.moment
+            for it in self.known
+            if it.type == 'FULL' and it.moment < known.moment
+        }
+        if max(fulls.values(), default=0) > self.moment:
+            return False
+        return of > 1 if known.type == 'INCR' else fulls.get(known.prev, self.moment) < self.moment
 
     def check_revision(self, known: Known, last: Place, of: int) -> None:
         if known.places[-1] != last:
@@ -210,6 +217,18 @@ class Series:
                 'store')
         if known.resend == self.resend and known.id != self.id:
             raise self.refused(f'{known.id} in {known.folder} has its watermark, type and resend')
+
+
+def taken_of(places: list[Place], own: list[Place]) -> Place | None:
+    """The place of a known deposit's bundles that leaves no room for others, of which these are the
+    first place and the last one."""
+    (first, last), begin, end = own, places[0], places[-1]
+    if begin.moment <= last.moment < end.moment or is_within(first, places):
+        return end
+    if is_within(begin, own):
+        return begin
+    return next((it for it in places if first.moment <= it.moment < last.moment or it == last),
+                None)
 
 
 def is_within(place: Place, full: list[Place]) -> bool:

@@ -14,6 +14,7 @@ from folder import Part
 from keys import Keys
 from names import Table
 from progress import Progress
+from series import INCREMENTAL
 from series import Header
 from series import Known
 from series import Series
@@ -149,5 +150,5 @@ class Unpacking:
         if not full.is_series:
             return series
         self.notes.add('given', f'as a Differential on {full.id}, since this Full is a series')
-        self.envelope = {**self.envelope, 'type': 'DIFF', 'prevId': full.id}
+        self.envelope = {**self.envelope, 'type': 'DIFF', 'prevId': full.id, INCREMENTAL: True}
         return Series(self.path, self.envelope, self.known)

@@ -383,17 +383,32 @@ class Series(Case):
         self.assertRegex(
             found.lines[-1],
             'there is no room for it: F1 in .* has the place 2024-03-03T00:00:00Z DIFF$')
-        for header in (at_once, INCR):
+        for header, wanted in ((at_once, 'has the place 2024-03-03T00:00:00Z INCR'),
+                               (INCR, 'has to be based on this Full: unpack this without it')):
             on = self.made(header, [])
             self.made(FULL, objects, ['--known', on.out])
             found = self.made(FULL, objects, ['--known', on.out, *rows_at_most(15)], status=1)
-            self.assertIn(f'the Incremental I4 in {on.out} would be based on its first bundle alone',
+            self.assertRegex(found.lines[-1], f'I4 in {on.out} {wanted}')
+        # One that builds on a later Full has nothing to do with it.
+        later = {**FULL, 'id': 'F3', 'watermark': '2024-03-04T00:00:00Z'}
+        between = self.made(later, [])
+        self.made(FULL, objects, ['--known', on.out, '--known', between.out, *rows_at_most(15)])
+
+    def test_a_full_that_comes_after_its_incremental_is_refused_until_that_is_given_on_it(self):
+        full = self.made(FULL, self.full('based', 8), rows_at_most(15))
+        later = {**FULL, 'id': 'F3', 'watermark': '2024-03-04T00:00:00Z'}
+        for words in ([], ['--series']):
+            on = self.made(INCR, [], ['--known', full.out, *words])
+            known = ['--known', full.out, '--known', on.out]
+            found = self.made(later, [], known, status=1)
+            self.assertIn(f'the Incremental I4 in {on.out} has to be based on this Full',
                           found.lines[-1])
-            # One that builds on a later Full has nothing to do with it.
-            if header is INCR:
-                between = self.made({**FULL, 'id': 'F3', 'watermark': '2024-03-04T00:00:00Z'}, [])
-                self.made(FULL, objects,
-                          ['--known', on.out, '--known', between.out, *rows_at_most(15)])
+            late = self.made(later, [], known[:2])
+            again = self.made(INCR, [], [*known[:2], '--known', late.out, *words])
+            self.assertEqual(self.headers(again)[0][1], 'INCR')
+            # A revision of the Full that it is given on, and a Full after it.
+            self.made({**FULL, 'resend': '1'}, [], known)
+            self.made({**later, 'watermark': '2024-03-06T00:00:00Z'}, [], known)
 
     def test_a_resend_may_have_another_id(self):
         one, other = self.full('one', 8), self.full('other', 8)
@@ -416,9 +431,9 @@ class Series(Case):
         os.rename(f'{one}/{names[1]}', f'{one}/was')
         shutil.copytree(f'{other}/{names[1]}', f'{one}/{names[1]}')
         shutil.rmtree(f'{other}/{names[0]}')
-        for folder, wanted in ((one, f'in the place of part 2 of {of} of F1 it has F2.2of{of}'),
-                               (other, f'in the place of part 1 of {of - 1} of F2 it has F2.2of{of}')):
+        for folder, place in ((one, f'part 2 of {of} of F1'), (other, f'part 1 of {of - 1} of F2')):
             found = self.made(DIFF, [], ['--known', folder], status=1)
+            wanted = f'in the place of {place} it has F2.2of{of}'
             self.assertEqual(found.lines[-1], f'unpack_rde: {folder}: {wanted}')
         shutil.rmtree(f'{one}/{names[1]}')
         os.rename(f'{one}/was', f'{one}/{names[1]}')
