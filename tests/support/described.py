@@ -3,7 +3,9 @@ takes."""
 from support.formats import KINDS
 
 # What cells are made of: what means something in CSV, and letters of several alphabets.
-CELLS = ('', 'a', 'R1', 'é漢\U0001f600', ' x ', 'a,b', 'q"q', '"', 'two\nlines', 'cr\rlf\r\n', ';', '\t')
+CELLS = (
+    '', 'a', 'R1', 'é漢\U0001f600', ' x ', 'a,b', 'q"q', '"', 'two\nlines', 'cr\rlf\r\n', ';', '\t'
+)
 KEYS = ('k1', 'k2', 'K2', 'é1', 'k,3', 'k"4', 'k 5', 'nobody')
 # What the names of child tables end with: letters of either case are told apart.
 NAMES = ('t', 'T', 'more_1', 'domainNs', 'z' * 64)
@@ -51,8 +53,8 @@ class Files:
         pick = self.chance.choice
         end, are_quoted = pick(('\n', '\r\n', '\r')), pick((True, False))
         lines = [
-            ','.join(cell_text(it, are_quoted or len(row) == 1) for it in row) + end * pick((1, 1, 1, 3))
-            for row in rows
+            ','.join(cell_text(it, are_quoted or len(row) == 1) for it in row)
+            + end * pick((1, 1, 1, 3)) for row in rows
         ]
         text = pick(('', '', '\ufeff')) + ''.join(lines)
         return (text if pick((True, False)) else text.removesuffix(end)).encode()
