@@ -22,7 +22,7 @@ SOA = 'example. 3600 IN SOA a.nic.example. hostmaster.nic.example. SERIAL 1800 9
 NS = f'example. 3600 IN NS {OUT1}.\n'
 HEADER = Header('F1', 'FULL', '2024-03-03T00:00:00Z')
 CHILD_KINDS = {'domainNs': 'domain', 'domainHostAttr': 'domain', 'domainStatuses': 'domain',
-               'secDNS': 'domain', 'hostAddresses': 'host'}
+               'secDNS': 'domain', 'dnssec': 'domain', 'hostAddresses': 'host'}
 # RFC 4034 5.4 has a key and its DS with SHA-1, RFC 4509 2.3 its DS with SHA-256.
 RFC_KEY = {'flags': '256', 'protocol': '3', 'keyAlg': '5', 'pubKey':
            'AQOeiiR0GOMYkDshWoSKz9XzfwJr1AYtsmx3TGkJaNXVbfi/2pHm822aJ5iI9BMzNXxeYCmZDRD99WYwYqUSdj'

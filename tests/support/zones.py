@@ -638,3 +638,10 @@ def check_settings(origin: str, serial: int) -> None:
         raise Refused(f'Z1 {origin}: {fault}')
     if not 0 < serial < 1 << 32:
         raise Refused('Z2 the serial is not from 1 to 4294967295')
+
+
+def unsigned_line(origin: str) -> str:
+    """What is told last of each zone, which has no signatures (RFC 4035 4.3)."""
+    return (f'unsigned {origin}: while the root has its old DS, validating resolvers take no zone '
+            'that is not signed by that key: have the DS replaced or removed, and wait its TTL, '
+            'before the NS change')
