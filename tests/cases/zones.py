@@ -117,8 +117,9 @@ def test_serials(stage: Stage) -> None:
     for text in ('-1', 'x', '1.5', '+1', ''):
         stage.check(f'a serial {text!r}', Wanted(2, '', None),
                     [text if it == f'{SERIAL}' else it for it in LINE.split()], 'handover')
-    zero = [SOA.replace('SERIAL', '4294967295').strip(), NS.strip(), f'0.example. 3600 IN NS {OUT1}.']
-    check_made(stage, zero, [], line=LINE.replace(f'{SERIAL}', '4294967295'))
+    most = '4294967295'
+    zone = [SOA.replace('SERIAL', most).strip(), NS.strip(), f'0.example. 3600 IN NS {OUT1}.']
+    check_made(stage, zone, [], line=LINE.replace(f'{SERIAL}', most))
 
 
 def test_where_no_zone_is_written(stage: Stage) -> None:
@@ -128,7 +129,7 @@ def test_where_no_zone_is_written(stage: Stage) -> None:
                  Text('beside.part', 'text')):
         made.do(stage)
     kept = ('a.db', 'apex', 'file', 'beside.part')
-    for target in ('folder', 'file', 'link', 'beside', 'a.db', 'apex', 'absent/out', 'file/out', ''):
+    for target in ('folder', 'file', 'link', 'beside', 'a.db', 'absent/out', 'file/out', ''):
         with case(f'at {target!r}'):
             check_refused(stage, f'E1 {target or "(an empty path)"}', LINE, 3, kept,
                           words=[*LINE.split()[:-1], target])

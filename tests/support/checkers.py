@@ -5,7 +5,8 @@ from typing import NamedTuple
 
 # Of each the Debian package, and its words: of BIND those by which `named` itself would refuse.
 CHECKERS = {
-    'named-checkzone': ('bind9-utils', '-i local -k fail -m fail -M fail -n fail -r fail ORIGIN FILE'),
+    'named-checkzone': ('bind9-utils',
+                        '-i local -k fail -m fail -M fail -n fail -r fail ORIGIN FILE'),
     'nsd-checkzone': ('nsd', 'ORIGIN FILE'),
     'kzonecheck': ('knot-dnssecutils', '-o ORIGIN FILE'),
     'ldns-read-zone': ('ldnsutils', '-c FILE'),

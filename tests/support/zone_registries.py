@@ -1,5 +1,5 @@
-"""Registries of the TLD `example` at random, for zones: most domains are ordinary, and a part of them
-has what a zone leaves out, tells or has to take from elsewhere."""
+"""Registries of the TLD `example` at random, for zones: most domains are ordinary, and a part has
+what a zone leaves out, tells or takes from elsewhere."""
 import random
 from collections.abc import Sequence
 
@@ -18,10 +18,12 @@ from support.zone_rows import mirrored
 OUTSIDE = (OUT1, OUT2, 'NS3.Provider.NET', 'dns.other.org.', 'a.b.c.test')
 ODD_LABELS = ('_srv{}', '*', '-a{}', 'a{}-', 'a..b{}', '$ttl{}', '@', 'a;b{}', 'bücher{}', 'A{}')
 ODD_SERVERS = ('ns_1.b.net', '192.0.2.1', 'bücher.net', '*.b.net', 'a..net')
-ODD_ADDRESSES = ('192.000.002.001', '127.0.0.1', 'fe80::1%eth0', '::ffff:192.0.2.1', 'none', 'ff02::1')
+ODD_ADDRESSES = ('192.000.002.001', '127.0.0.1', 'fe80::1%eth0', '::ffff:192.0.2.1', 'none',
+                 'ff02::1')
 STATES = (('clientHold', ''), ('serverHold clientTransferProhibited', ''), ('pendingCreate', ''),
-          ('pendingDelete', 'redemptionPeriod'), ('pendingDelete', 'pendingDelete'), ('inactive', ''),
-          ('pendingDelete', ''), ('ok', 'redemptionPeriod'), ('clienthold', ''), ('strange', ''))
+          ('pendingDelete', 'redemptionPeriod'), ('pendingDelete', 'pendingDelete'),
+          ('inactive', ''), ('pendingDelete', ''), ('ok', 'redemptionPeriod'), ('clienthold', ''),
+          ('strange', ''))
 ORDINARY = (('ok', ''), ('clientTransferProhibited serverUpdateProhibited', ''), ('', ''),
             ('ok', 'addPeriod'), ('pendingTransfer', ''))
 
