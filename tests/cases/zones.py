@@ -110,13 +110,10 @@ def test_programs_of_others(stage: Stage) -> None:
 def test_serials(stage: Stage) -> None:
     """Serials, and what is none."""
     store_of(stage, [ZERO])
-    for text in ('0', '4294967296', '99999999999999999999'):
-        with case(text):
-            check_refused(stage, 'Z2 the serial is not from 1 to 4294967295',
-                          LINE.replace(f'{SERIAL}', text), kept=('a.db', 'apex'))
-    for text in ('-1', 'x', '1.5', '+1', ''):
-        stage.check(f'a serial {text!r}', Wanted(2, '', None),
-                    [text if it == f'{SERIAL}' else it for it in LINE.split()], 'handover')
+    for text in ('0', '4294967296', '99999999999999999999', 'x', '1.5', '+1', ''):
+        with case(f'{text!r}'):
+            check_refused(stage, 'Z2 the serial is not from 1 to 4294967295', kept=('a.db', 'apex'),
+                          words=[text if it == f'{SERIAL}' else it for it in LINE.split()])
     most = '4294967295'
     zone = [SOA.replace('SERIAL', most).strip(), NS.strip(), f'0.example. 3600 IN NS {OUT1}.']
     check_made(stage, zone, [], line=LINE.replace(f'{SERIAL}', most))

@@ -244,6 +244,12 @@ def check_fields(tables: dict[str, Table]) -> None:
             raise Refused('Z4 secDNS has neither all fields of DS nor all of keys')
 
 
+def check_once(kind: str, name: str, rows: list[dict[str, str]]) -> None:
+    """Z5: two objects have one name. (Of hosts those are tested that are servers.)"""
+    if len(rows) > 1:
+        raise Refused(f'Z5 {kind} {name}: two objects have this name')
+
+
 class Registry:
     """The objects of a registry by their names."""
 
@@ -251,7 +257,8 @@ class Registry:
         check_names(tables)
         check_fields(tables)
         self.tables = tables
-        self.domains, self.hosts, self.nndns = map(self.objects, ('domain', 'host', 'nndn'))
+        self.domains, self.nndns = self.objects('domain'), self.objects('nndn')
+        self.hosts = self.rows_by_name('host')
         self.children = {it: self.rows_by_name(it) for it in CHILDREN}
 
     def rows_by_name(self, table: str) -> dict[str, list[dict[str, str]]]:
@@ -264,8 +271,7 @@ class Registry:
         """The parent row of each object. Z5: two objects have one name."""
         found = self.rows_by_name(kind)
         for name, rows in found.items():
-            if len(rows) > 1:
-                raise Refused(f'Z5 {kind} {name}: two objects have this name')
+            check_once(kind, name, rows)
         return {name: row for name, (row,) in found.items()}
 
     def rows(self, table: str, name: str) -> list[dict[str, str]]:
@@ -291,8 +297,7 @@ class Operator:
                 except ValueError as error:
                     raise Refused(f'Z3 line {at}: {error}') from None
         top = self.types.get(origin, Counter())
-        is_first = bool(self.records) and self.records[0].split()[3] == 'SOA'
-        if not is_first or top['SOA'] != 1 or not top['NS'] or top['CNAME'] + top['DNAME']:
+        if not top['SOA'] or not top['NS'] or top['CNAME'] + top['DNAME']:
             raise Refused('Z3 no zone begins so: one SOA, first; NS; no CNAME or DNAME at '
                           f'{origin}')
 
@@ -325,7 +330,8 @@ class Operator:
             raise ValueError(f'{kind}: it is for the signer')
         if kind in ('NS', 'CNAME', 'DNAME', 'MX') and not data[-1].endswith('.'):
             raise ValueError('a name without a dot at its end')
-        is_soa = name == self.origin and len(data) == 7 and data[2] == 'SERIAL'
+        is_first = name == self.origin and not self.records
+        is_soa = is_first and len(data) == 7 and data[2] == 'SERIAL'
         if kind == 'SOA' and not (is_soa and data[0].endswith('.') and data[1].endswith('.')):
             raise ValueError('no SOA with SERIAL in the place of its serial')
         if kind in ('A', 'AAAA') and not is_address(data, 4 if kind == 'A' else 6):
@@ -354,7 +360,8 @@ def is_address(words: list[str], version: int) -> bool:
 
 def is_mirrored(row: dict[str, str]) -> bool:
     """Whether a name that is no domain has the servers of another one (RFC 9022 5.6.1.1)."""
-    return row.get('nameState') == 'mirrored' and row.get('mirroringNS', '1') in ('true', '1')
+    by_servers = row.get('mirroringNS', '').strip()
+    return row.get('nameState') == 'mirrored' and by_servers in ('', 'true', '1')
 
 
 class Zone:
@@ -370,7 +377,8 @@ class Zone:
         self.delegations: dict[str, list[str]] = {}
         self.secured: dict[str, list[Ds]] = {}
         # The hosts in the zone that a name would have as servers, and the first such name.
-        self.used: dict[str, str] = {}
+        self.used = {it: origin for it in self.operator.servers
+                     if is_below(it, origin) and it not in self.operator.addresses}
 
     # ---- what the registry says of a domain
 
@@ -411,6 +419,7 @@ class Zone:
         """The rows that say a host's addresses: its own, or where it is no object those of the
         domain that it is in. Any other domain could lead it elsewhere (RFC 5732 3.2.1)."""
         if host in self.registry.hosts:
+            check_once('host', host, self.registry.hosts[host])
             return self.registry.rows('hostAddresses', host)
         rows = self.registry.rows('domainHostAttr', self.domain_of(host) or '')
         return [it for it in rows if name_of(it.get('hostName', '')) == host and it.get('addr')]
@@ -608,10 +617,9 @@ class Zone:
         for name in sorted(registry.nndns, key=str.encode):
             if registry.nndns[name].get('nameState') == 'mirrored':
                 self.mirror(name)
-        for host in filter(lambda it: is_below(it, self.origin), self.operator.servers):
-            if not self.has_address(host):
+        for host, user in self.used.items():
+            if user == self.origin and not self.has_address(host):
                 raise Refused(f"Z3 the zone's own server {host} has no address")
-            self.used.setdefault(host, self.origin)
         if not self.delegations:
             raise Refused('Z7 no domain is delegated')
         return {host: self.glue_of(host) for host in sorted(self.used)}
