@@ -59,7 +59,9 @@ def check_made(stage: Stage, records: list[str], told: list[str], origin: str = 
     out = line.split()[-1]
     names, before = {*names_in(stage.room.name), 'a.db-wal', out}, read(stage.at('a.db'))
     got = stage.end(stage.begin(line.replace('example', origin).split(), 'handover'))
-    compare_all('standard error', [*told, unsigned_line(origin)], got.err.decode().splitlines())
+    *lines, last = got.err.decode().splitlines() or ['']
+    compare_all('standard error', sorted(told), sorted(lines))
+    compare('the last line of it', unsigned_line(origin), last)
     compare('status', '0', f'{got.status}')
     compare_all('the zone', records, read(stage.at(out)).decode().split('\n')[:-1])
     compare_all('files', sorted(names), names_in(stage.room.name))

@@ -212,8 +212,8 @@ WORKED = (
            status c.example status pendingdelete: taken for pendingDelete
            status c.example rgpStatus RedemptionPeriod: taken for redemptionPeriod"""),
     worked('a variant without servers', domain('a', OUT1),
-           domain('b', originalName='A.example', status='inactive'),
-           domain('c', OUT1, originalName='A.example'),
+           domain('b', originalName='a.example', status='inactive'),
+           domain('c', OUT1, originalName='a.example'),
            zone=f'a NS {OUT1}\nc NS {OUT1}',
            told='left out b.example: a variant of a.example without servers of its own'),
     # ---- servers in the zone, and glue
@@ -416,6 +416,7 @@ a.nic.example. 3600 IN A 192.0.2.53
     worked("a record of the operator's below a delegation", domain('a', OUT1),
            apex=f'{SOA}{NS}www.a.example. 60 IN CNAME x.\n',
            refusal="Z6 a.example: the operator's file has CNAME at www.a.example"),
+    alone('no domain at all', host('ns1.a', '192.0.2.1')),
     alone('nothing is delegated', HELD, domain('a', status='ok'),
           refusal='Z7 no domain is delegated'),
 )

@@ -376,7 +376,7 @@ class Zone:
         self.counts = Counter({it: 0 for it in COUNTED})
         self.delegations: dict[str, list[str]] = {}
         self.secured: dict[str, list[Ds]] = {}
-        # The hosts in the zone that a name would have as servers, and the first such name.
+        # The servers in the zone that are written, and the first name that has each.
         self.used = {it: origin for it in self.operator.servers
                      if is_below(it, origin) and it not in self.operator.addresses}
 
@@ -411,8 +411,18 @@ class Zone:
     # ---- hosts
 
     def domain_of(self, host: str) -> str | None:
-        """The nearest domain at or above a host."""
-        return next((it for it in (host, *parents_of(host)) if it in self.registry.domains), None)
+        """The nearest domain at or above a host in the zone."""
+        names = [it for it in (host, *parents_of(host)) if it.endswith(f'.{self.origin}')]
+        return next((it for it in names if it in self.registry.domains), None)
+
+    @cached_property
+    def noted(self) -> set[str]:
+        """The servers in the zone of domains that their statuses and their names let in."""
+        domains = [it for it in self.registry.domains if it.endswith(f'.{self.origin}')
+                   and fault_of(it) is None and self.kept_out(it) is None]
+        hosts = {host for it in domains for host in self.servers(it)}
+        return {*self.used, *(it for it in hosts if is_below(it, self.origin)
+                              and fault_of_server(it) is None)}
 
     @cache
     def address_rows(self, host: str) -> list[dict[str, str]]:
@@ -489,17 +499,17 @@ class Zone:
     def is_usable(self, name: str, host: str) -> bool:
         """Whether a domain's server is written (RFC 8499 7). One without an address is, where
         another domain's servers are asked for it."""
-        fault = fault_of_server(host)
-        if fault is None and is_below(host, self.origin):
-            self.used.setdefault(host, name)
+        fault, is_inside = fault_of_server(host), is_below(host, self.origin)
+        if fault is None and is_inside and not self.has_address(host):
             cut = self.cut(host)
-            if not self.has_address(host):
-                if cut is not None and not is_below(cut, name):
-                    self.tell(f'server {name} {host}: has no address here, and is left to {cut}')
-                else:
-                    fault = 'in the zone, and has no address'
+            if cut is not None and not is_below(cut, name):
+                self.tell(f'server {name} {host}: has no address here, and is left to {cut}')
+            else:
+                fault = 'in the zone, and has no address'
         if fault:
             self.tell(f'server {name} {host}: left out: {fault}')
+        elif is_inside:
+            self.used.setdefault(host, name)
         return fault is None
 
     def secure(self, name: str) -> list[Ds]:
@@ -592,8 +602,10 @@ class Zone:
                       'in')
 
     def glue_of(self, host: str) -> list[Address]:
-        """Takes a server in the zone that is in use: the addresses that are written."""
+        """Takes a server in the zone: the addresses that are written, if it is in use."""
         self.tell_addresses(host)
+        if host not in self.used:
+            return []
         addresses, own = self.addresses(host), self.operator.addresses.get(host)
         if own is not None:
             if host in self.registry.hosts and set(addresses) != own:
@@ -620,9 +632,9 @@ class Zone:
         for host, user in self.used.items():
             if user == self.origin and not self.has_address(host):
                 raise Refused(f"Z3 the zone's own server {host} has no address")
-        if not self.delegations:
+        if registry.domains and not self.counts['delegated']:
             raise Refused('Z7 no domain is delegated')
-        return {host: self.glue_of(host) for host in sorted(self.used)}
+        return {host: self.glue_of(host) for host in sorted(self.noted)}
 
     @cached_property
     def records(self) -> list[str]:
