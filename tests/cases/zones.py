@@ -73,7 +73,8 @@ def check_made(stage: Stage, records: list[str], told: list[str], origin: str = 
 def check_worked(stage: Stage, row: Worked) -> None:
     store_of(stage, row.objects, row.apex)
     if not row.refusal:
-        check_made(stage, row.records(), row.lines(), row.origin)
+        line = LINE.replace('zone', f'zone {row.flags}')
+        check_made(stage, row.records(), row.lines(), row.origin, line)
         return
     names = sorted({*names_in(stage.room.name), 'a.db-wal'})
     got = stage.end(stage.begin(LINE.replace('example', row.origin).split(), 'handover'))
@@ -151,7 +152,8 @@ def test_words(stage: Stage) -> None:
     """Words that are no command."""
     store_of(stage, [ZERO])
     names = names_in(stage.room.name)
-    for wrong in ('zone', LINE.removesuffix(' out'), f'{LINE} more', f'{LINE} --store a.db',
+    for wrong in ('zone', LINE.removesuffix(' out'), f'{LINE} --ttl 60', f'{LINE} more',
+                  f'{LINE} --store a.db', f'{LINE} --day --day', f'{LINE} --day=yes',
                   *(LINE.replace(it, '') for it in ('--store a.db', '--origin example',
                                                     '--apex apex', f'--serial {SERIAL}')),
                   LINE.replace('zone', 'Zone'), LINE.replace(' out', ' --id G1 out')):

@@ -14,6 +14,7 @@ from support.documents import csv_text
 from support.tables import Row
 from support.zones import DS_FIELDS
 from support.zones import KEY_FIELDS
+from support.zones import Settings
 from support.zones import tables_of
 
 SERIAL = 2024030401
@@ -100,6 +101,11 @@ class Worked(NamedTuple):
     refusal: str = ''
     apex: str = SOA + NS
     origin: str = 'example'
+    flags: str = ''
+
+    def settings(self) -> Settings:
+        return Settings(86400 if '--day' in self.flags else 3600, '--underscores' in self.flags,
+                        '--no-orphan-glue' not in self.flags)
 
     def records(self) -> list[str]:
         """The lines of the zone."""
@@ -110,7 +116,8 @@ class Worked(NamedTuple):
         for line in filter(None, [zero, *self.zone.splitlines()]):
             name, kind, data = line.strip().split(' ', 2)
             dot = '.' if kind == 'NS' else ''
-            found.append(f'{below(name, self.origin)}. 3600 IN {kind} {data}{dot}')
+            ttl = self.settings().ttl
+            found.append(f'{below(name, self.origin)}. {ttl} IN {kind} {data}{dot}')
         return own + found
 
     def lines(self) -> list[str]:
@@ -361,6 +368,18 @@ WORKED = (
 example. 3600 IN NS b.nic.example.
 a.nic.example. 3600 IN A 192.0.2.53
 """),
+    # ---- flags
+    worked('a TTL of a day', domain('a', 'ns1.a.example'), host('ns1.a', '192.0.2.1'),
+           zone='a NS ns1.a.example\nns1.a A 192.0.2.1', flags='--day'),
+    worked('servers with underscores', domain('a', 'ns_1.b.net', '_a.b-_.net', '-a.net'),
+           domain('_b', OUT1), zone='a NS _a.b-_.net\na NS ns_1.b.net', flags='--underscores',
+           told="""left out _b.example: no label of letters, digits and hyphens: _b
+           server a.example -a.net: left out: no label of letters, digits and hyphens: -a"""),
+    worked('no addresses below no delegation', HELD, HELD_HOST,
+           domain('a', 'ns1.held.example', OUT1), domain('b', 'ns1.held.example'), zone=f'a NS {OUT1}', flags='--no-orphan-glue',
+           told="""server a.example ns1.held.example: left out: in the zone, and has no address
+           server b.example ns1.held.example: left out: in the zone, and has no address
+           left out b.example: no server is left"""),
     # ---- refusals
     worked('an origin that is none', origin='e_x',
            refusal='Z1 e_x: no label of letters, digits and hyphens: e_x'),

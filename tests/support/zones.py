@@ -49,7 +49,6 @@ OTHER_NAMES = {'domainNameServers': 'domainNs', 'domainNameServersAddresses': 'd
 DIGEST_BYTES = {1: 20, 2: 32, 4: 48}
 # The greatest numbers of the first three fields of a DS, and of a key.
 MOST = (0xffff, 0xff, 0xff)
-TTL = 3600
 # What is counted, in the order in which it is printed.
 COUNTED = ('domains', 'delegated', 'held', *KEPT_OUT, 'without servers', 'no name of the zone',
            'no server left', 'DS', 'DS made of keys', 'mirrored', 'mirrored and delegated',
@@ -98,28 +97,25 @@ def parents_of(name: str) -> list[str]:
     return ['.'.join(labels[at:]) for at in range(1, len(labels))]
 
 
-def fault_of_label(label: str) -> str | None:
+def fault_of_label(label: str, underscores: bool) -> str | None:
     if not label:
         return 'an empty label'
     if len(label) > 63:
         return 'a label over 63 bytes'
     if label == '*':
         return 'a wildcard'
-    return None if LABEL.fullmatch(label) else f'no label of letters, digits and hyphens: {label}'
+    is_label = LABEL.fullmatch(label.replace('_', 'x') if underscores else label)
+    return None if is_label else f'no label of letters, digits and hyphens: {label}'
 
 
-def fault_of(name: str) -> str | None:
+def fault_of(name: str, underscores: bool = False) -> str | None:
     """Why this is no host name (RFC 5731 2.1, RFC 1035 2.3.4)."""
     if not name.isascii():
         return 'not ASCII: a U-label?'
     if len(name) > 253:
         return 'over 255 bytes on the wire'
-    return next(filter(None, map(fault_of_label, name.split('.'))), None)
-
-
-def fault_of_server(host: str) -> str | None:
-    """The same of a server, whose name must not look like an address."""
-    return 'it is an address' if re.fullmatch('[0-9]+', host.split('.')[-1]) else fault_of(host)
+    faults = (fault_of_label(it, underscores) for it in name.split('.'))
+    return next(filter(None, faults), None)
 
 
 # ---- texts of a row
@@ -320,7 +316,7 @@ class Operator:
         if not re.fullmatch('[0-9]{1,10}', ttl) or int(ttl) >= 1 << 31:
             raise ValueError('no TTL')
         # (The operator's own names may have labels such as `_dmarc`.)
-        if fault := fault_of(name.replace('_', 'x')):
+        if fault := fault_of(name, underscores=True):
             raise ValueError(fault)
         if not is_below(name, self.origin):
             raise ValueError(f'not in {self.origin}')
@@ -364,12 +360,21 @@ def is_mirrored(row: dict[str, str]) -> bool:
     return row.get('nameState') == 'mirrored' and by_servers in ('', 'true', '1')
 
 
+class Settings(NamedTuple):
+    """The TTL of delegations, whether names of servers may have `_`, and whether addresses that are
+    below no delegation are written."""
+    ttl: int = 3600
+    has_underscores: bool = False
+    has_orphan_glue: bool = True
+
+
 class Zone:
     """What is delegated to which servers, and what is told."""
 
-    def __init__(self, tables: dict[str, Table], text: str, origin: str, serial: int) -> None:
-        check_settings(origin, serial)
-        self.origin = origin
+    def __init__(self, tables: dict[str, Table], text: str, origin: str, serial: int,
+                 settings: Settings = Settings()) -> None:
+        check_origin(origin, serial)
+        self.origin, self.settings = origin, settings
         self.operator = Operator(text, origin, serial)
         self.registry = Registry(tables)
         self.told: list[str] = []
@@ -410,6 +415,12 @@ class Zone:
 
     # ---- hosts
 
+    def fault_of_server(self, host: str) -> str | None:
+        """Why this is no name of a server, which must not look like an address."""
+        if re.fullmatch('[0-9]+', host.split('.')[-1]):
+            return 'it is an address'
+        return fault_of(host, self.settings.has_underscores)
+
     def domain_of(self, host: str) -> str | None:
         """The nearest domain at or above a host in the zone."""
         names = [it for it in (host, *parents_of(host)) if it.endswith(f'.{self.origin}')]
@@ -422,7 +433,7 @@ class Zone:
                    and fault_of(it) is None and self.kept_out(it) is None]
         hosts = {host for it in domains for host in self.servers(it)}
         return {*self.used, *(it for it in hosts if is_below(it, self.origin)
-                              and fault_of_server(it) is None)}
+                              and self.fault_of_server(it) is None)}
 
     @cache
     def address_rows(self, host: str) -> list[dict[str, str]]:
@@ -457,7 +468,9 @@ class Zone:
         return sorted(found, key=lambda it: (it.version, int(it)))
 
     def has_address(self, host: str) -> bool:
-        return host in self.operator.addresses or bool(self.addresses(host))
+        """Whether the zone has an address of a host."""
+        is_written = self.settings.has_orphan_glue or self.cut(host) is not None
+        return host in self.operator.addresses or bool(self.addresses(host)) and is_written
 
     # ---- cuts
 
@@ -471,8 +484,9 @@ class Zone:
             return is_mirrored(row) and is_there and self.is_strong(original)
         if fault_of(name) or self.kept_out(name):
             return False
-        return any(not is_below(it, self.origin) or self.has_address(it)
-                   for it in self.servers(name) if fault_of_server(it) is None)
+        return any(not is_below(it, self.origin) or it in self.operator.addresses
+                   or bool(self.addresses(it))
+                   for it in self.servers(name) if self.fault_of_server(it) is None)
 
     @cache
     def cut(self, name: str) -> str | None:
@@ -499,7 +513,7 @@ class Zone:
     def is_usable(self, name: str, host: str) -> bool:
         """Whether a domain's server is written (RFC 8499 7). One without an address is, where
         another domain's servers are asked for it."""
-        fault, is_inside = fault_of_server(host), is_below(host, self.origin)
+        fault, is_inside = self.fault_of_server(host), is_below(host, self.origin)
         if fault is None and is_inside and not self.has_address(host):
             cut = self.cut(host)
             if cut is not None and not is_below(cut, name):
@@ -630,7 +644,7 @@ class Zone:
             if registry.nndns[name].get('nameState') == 'mirrored':
                 self.mirror(name)
         for host, user in self.used.items():
-            if user == self.origin and not self.has_address(host):
+            if user == self.origin and not self.addresses(host):
                 raise Refused(f"Z3 the zone's own server {host} has no address")
         if registry.domains and not self.counts['delegated']:
             raise Refused('Z7 no domain is delegated')
@@ -639,19 +653,19 @@ class Zone:
     @cached_property
     def records(self) -> list[str]:
         """The lines of the zone."""
-        lines, glue = list(self.operator.records), self.glue
+        lines, glue, ttl = list(self.operator.records), self.glue, self.settings.ttl
         for name, servers in self.delegations.items():
-            lines += [f'{name}. {TTL} IN NS {it}.' for it in servers]
-            lines += [f'{name}. {TTL} IN DS {it}' for it in self.secured.get(name, ())]
+            lines += [f'{name}. {ttl} IN NS {it}.' for it in servers]
+            lines += [f'{name}. {ttl} IN DS {it}' for it in self.secured.get(name, ())]
         for host, addresses in glue.items():
-            lines += [f'{host}. {TTL} IN {"A" if it.version == 4 else "AAAA"} {it}'
+            lines += [f'{host}. {ttl} IN {"A" if it.version == 4 else "AAAA"} {it}'
                       for it in addresses]
         self.counts['DS'] = sum(map(len, self.secured.values()))
         self.counts['records'] = len(lines)
         return lines
 
 
-def check_settings(origin: str, serial: int) -> None:
+def check_origin(origin: str, serial: int) -> None:
     if origin != name_of(origin):
         raise Refused(f'Z1 {origin}: not in small letters, or with a dot at its end')
     if fault := fault_of(origin):

@@ -22,7 +22,7 @@ from support.zones import tables_of
 def made(row: Worked) -> tuple[list[str], list[str], str]:
     """The lines of the zone and what is told, or the refusal."""
     try:
-        zone = Zone(tables_of(row.objects), row.apex, row.origin, SERIAL)
+        zone = Zone(tables_of(row.objects), row.apex, row.origin, SERIAL, row.settings())
         return zone.records, zone.told, ''
     except Refused as refused:
         return [], [], f'{refused}'
