@@ -115,7 +115,8 @@ def test_serials(stage: Stage) -> None:
     store_of(stage, [ZERO])
     for text in ('0', '4294967296', '99999999999999999999', 'x', '1.5', '+1', ''):
         with case(f'{text!r}'):
-            check_refused(stage, 'Z2 the serial is not from 1 to 4294967295', kept=('a.db', 'apex'),
+            check_refused(stage, 'Z2 the serial is not from 1 to 4294967295', LINE,
+                          kept=('a.db', 'apex'),
                           words=[text if it == f'{SERIAL}' else it for it in LINE.split()])
     most = '4294967295'
     zone = [SOA.replace('SERIAL', most).strip(), NS.strip(), f'0.example. 3600 IN NS {OUT1}.']

@@ -376,7 +376,8 @@ a.nic.example. 3600 IN A 192.0.2.53
            told="""left out _b.example: no label of letters, digits and hyphens: _b
            server a.example -a.net: left out: no label of letters, digits and hyphens: -a"""),
     worked('no addresses below no delegation', HELD, HELD_HOST,
-           domain('a', 'ns1.held.example', OUT1), domain('b', 'ns1.held.example'), zone=f'a NS {OUT1}', flags='--no-orphan-glue',
+           domain('a', 'ns1.held.example', OUT1), domain('b', 'ns1.held.example'),
+           zone=f'a NS {OUT1}', flags='--no-orphan-glue',
            told="""server a.example ns1.held.example: left out: in the zone, and has no address
            server b.example ns1.held.example: left out: in the zone, and has no address
            left out b.example: no server is left"""),
