@@ -1,6 +1,7 @@
 """Tests of the plain model of a zone (tests/support/zones.py): texts that stand in RFCs, the worked
 registries, and what holds of each zone whatever its registry is."""
 import unittest
+from collections.abc import Iterator
 from typing import NamedTuple
 
 from support.zone_registries import draw_registry
@@ -79,7 +80,7 @@ class Drawn(unittest.TestCase):
         self.registries = [draw_registry(seed, 40, 0.2) for seed in range(20)]
         self.zones = [Zone(tables_of(it), SOA + NS, 'example', SERIAL) for it in self.registries]
 
-    def each(self):
+    def each(self) -> Iterator[tuple[Zone, list[Record]]]:
         for seed, zone in enumerate(self.zones):
             with self.subTest(seed=seed):
                 yield zone, records_of(zone)
