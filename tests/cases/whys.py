@@ -223,6 +223,6 @@ def test_full(stage: Stage) -> None:
             check(stage, Refusal(line, 'S1', 'small/a.db', cause))
         else:
             print('whys: no small disk can be mounted, so a full one is not tested')
-    limits = prepared([(resource.RLIMIT_FSIZE, 60_000)], [signal.SIGXFSZ])
+    limits = prepared([(resource.RLIMIT_FSIZE, 8_192)], [signal.SIGXFSZ])
     line = f'init --store b.db --manifest {MANIFEST}'
     check(stage, Refusal(line, 'S1', 'b.db', FAILED), prepare=limits)

@@ -24,9 +24,10 @@
 //!     Ok(matches) => matches,
 //!     Err(error) => return print_error(rt, &error, out, err),   // help, or what is wrong: the status
 //! };
+//! let asked = Asked::of(&matches);
 //! match invocation_of(rt, &matches) {
 //!     Ok(Some(Invocation { store, command: Command::AsOf { moment } })) => ..
-//!     Err(stop) => print_stop(rt, err, &stop),                  // E3 MOMENT, if it is no watermark: 1
+//!     Err(stop) => print_stop(rt, err, asked, &stop),           // E3 MOMENT, if it is no watermark: 1
 //!     ..
 //! }
 //! ```
@@ -34,8 +35,9 @@
 //! # What the contracts mean
 //!
 //! By proof no call is unsafe, and each ends, whatever the words and files are.
-//! `specs/Refusals.antt` says what two of them return: `moment_named` the moment that a word names
-//! and `manifest_in` the manifest that a text is read as, or the stop with the word or the refusal.
+//! `specs/Refusals.antt` says what some of them return: `moment_named` the moment that a word names
+//! and `manifest_in` the manifest that a text is read as, or the stop with the word or the refusal;
+//! [`or_stop`] the stop with the path and the system's error, which `--verbose` tells.
 //! No contract can say what a file holds or what is printed, so the texts, the statuses and the
 //! order of refusals are tested on the built program, by the cases of `tests/`.
 #![tactic(auto)]

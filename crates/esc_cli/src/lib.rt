@@ -1,4 +1,5 @@
-//! What a program with commands shares with another: words, files, and names on one line.
+//! What a program with commands shares with another: words, files, names on one line, and why a
+//! command is refused.
 //!
 //! `restore`, `handover` and `pack` each have a table of commands, read files and folders, and print
 //! refusals. What is the same in all is here, and needs no store. What they make of it, as the
@@ -17,6 +18,8 @@
 //! | `answers` | prints what `clap` answers in place of a command: help, or what is wrong |
 //! | `files` | reads plain files up to a length, and lists the plain files of a folder |
 //! | `one_line` | a name or a path as a refusal prints it |
+//! | `why` | prints a refusal, and with `--verbose`, which every command has, why it is one |
+//! | `system` | what the system says of a file, in words |
 //!
 //! # Example
 //!
@@ -41,7 +44,12 @@
 //! match read_whole(rt, path, Links::Followed, 16_777_216) {
 //!     Ok(Some(bytes)) => ..                    // at most so many
 //!     Ok(None) => ..                           // there are more
-//!     Err(error) => .. OneLine(path) ..        // a pipe, nothing at all, or out of memory
+//!     Err(error) => {                          // a pipe, nothing at all, or out of memory
+//!         let asked = Asked::of(&matches);
+//!         let why = Why { command: asked.command, path, cause: SystemCause(error) };
+//!         // E1 PATH, and with --verbose `why: manifest PATH: there is no such file or folder`
+//!         print_refusal(alloc, err, line, asked.is_verbose, &why)
+//!     }
 //! }
 //! ```
 //!
@@ -50,9 +58,11 @@
 //! By proof: that no call is unsafe and that each ends, whatever the words and files are; that
 //! [`read_whole`] gives no more bytes than it is asked for at most (`bound`); that the names that
 //! [`plain_files`] gives are in byte order (`rising`); and that [`print_answer`] gives status 0 for
-//! help and for a version (`asked`), and 2 for a mistake (`mistaken`). No contract can say what a
-//! file holds, which names a folder has, or what is printed, so these are tested on the built
-//! programs, by the cases of `tests/`.
+//! help and for a version (`asked`), and 2 for a mistake (`mistaken`). [`print_refusal`] prints the
+//! refusal alone (`short`), and with `--verbose` one line more, after it (`told`); [`print_why`]
+//! that line or nothing (`line`, `silent`). No contract can say what a file holds, which names a
+//! folder has, or what the texts of help and causes are, so these are tested on the built programs,
+//! by the cases of `tests/`.
 #![tactic(auto)]
 
 mod answers;

@@ -60,19 +60,19 @@ impl<C: Display> Display for Why<'_, C> {
     }
 }
 
-/// Prints why something was refused, as a line that begins with `why: `; nothing if it isn't
-/// `asked` for. Fails if the line can't be written.
+/// Prints why something was refused, as a line that begins with `why: `; nothing if that isn't
+/// asked for. Fails if the line can't be written.
 pub fn print_why<E: Write, C: Display>(
     alloc: Global,
     err: &mut E,
-    asked: bool,
+    is_verbose: bool,
     why: &C,
 ) -> Result<(), Error>
-    ensures silent { asked ≡ false → err.new ≡ err.old }
-    ensures line { asked ≡ true → OnOk result
+    ensures silent { is_verbose ≡ false → err.new ≡ err.old }
+    ensures line { is_verbose ≡ true → OnOk result
         ((line : List ℕ) × IsLine line × Appends (E.contents err.old) (E.contents err.new) line) }
 {
-    if !asked {
+    if !is_verbose {
         return Ok(());
     }
     match line_of(alloc, why) {
@@ -81,22 +81,22 @@ pub fn print_why<E: Write, C: Display>(
     }
 }
 
-/// Prints a refusal, which is a line, and after it why that is, if it is `asked` for. Fails if they
+/// Prints a refusal, which is a line, and after it why that is, if it is asked for. Fails if they
 /// can't be written.
 pub fn print_refusal<E: Write, C: Display>(
     alloc: Global,
     err: &mut E,
     refusal: &str,
-    asked: bool,
+    is_verbose: bool,
     why: &C,
 ) -> Result<(), Error>
-    ensures short { asked ≡ false → OnOk result
+    ensures short { is_verbose ≡ false → OnOk result
         (Appends (E.contents err.old) (E.contents err.new) refusal.now) }
-    ensures told { asked ≡ true → OnOk result ((line : List ℕ) × IsLine line
+    ensures told { is_verbose ≡ true → OnOk result ((line : List ℕ) × IsLine line
         × Appends (E.contents err.old) (E.contents err.new) (refusal.now ++ line)) }
 {
     err.write_all(refusal.as_bytes())?;
-    print_why(alloc, err, asked, why)
+    print_why(alloc, err, is_verbose, why)
 }
 
 fn line_of<C: Display>(alloc: Global, why: &C) -> Result<Vec<u8>, AllocError>

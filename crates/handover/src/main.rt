@@ -24,7 +24,7 @@
 //! objects, `H9 TABLE` for two tables with the same name but for case, and `H10 TABLE` for a table
 //! that SQLite can't have. The status is 0 where all went well; 1 for U and H, and where a test of
 //! `check` is wrong; 2 for invalid usage; 3 for S and E1. With `--progress` standard error says how
-//! far the work is.
+//! far the work is, with `--verbose` why it is S or E1.
 //!
 //! | Module | Does |
 //! |---|---|

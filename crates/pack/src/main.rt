@@ -20,8 +20,9 @@
 //! file whose name `restore take` refuses, `H1 PATH` for a file that doesn't begin with its
 //! heading, `H2 PATH` for rows that begin with a byte order mark, `H3 DIR` for a folder whose
 //! description doesn't read back, `S2` when out of memory. A control character in a path is
-//! escaped. The status is 0 where all went well; 1 for E2, N1, U, M and H, and where `check` found
-//! a file that is not `A1`; 2 for invalid usage; 3 for E1 and S2.
+//! escaped. With `--verbose` a second line says why it is E1, E2, N1 or S2. The status is 0 where
+//! all went well; 1 for E2, N1, U, M and H, and where `check` found a file that is not `A1`; 2 for
+//! invalid usage; 3 for E1 and S2.
 //!
 //! | Module | Does |
 //! |---|---|

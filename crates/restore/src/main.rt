@@ -26,11 +26,11 @@
 //! listed or written, `E2 NAME` for a file over 16,777,216 bytes, `E3 MOMENT` for a word that is no
 //! moment, `N1 NAME` for a name that is no number, `M12 row 2` for a manifest's fault, and `S1` to
 //! `S5` of the store. `S3` also says that there is no store FILE, or, to every command but
-//! `migrate`, that it is of version 1. A control character in a path or a name is escaped. Faults
-//! are found in this order: the words, the moment, the manifest, the store, the folder, then file
-//! by file. The status is 0 where all went well; 1 for a manifest's fault or E3, or where `take`
-//! met N1, E2 or a verdict other than A1, and went on; 2 for invalid usage; 3 for S1 to S5 and E1,
-//! where it stops.
+//! `migrate`, that it is of version 1. A control character in a path or a name is escaped. With
+//! `--verbose` a second line says why it is E1, E2, N1 or S. Faults are found in this order: the
+//! words, the moment, the manifest, the store, the folder, then file by file. The status is 0 where
+//! all went well; 1 for a manifest's fault or E3, or where `take` met N1, E2 or a verdict other
+//! than A1, and went on; 2 for invalid usage; 3 for S1 to S5 and E1, where it stops.
 #![tactic(auto)]
 
 use esc_arguments::{NO_MEMORY, print_stop};
