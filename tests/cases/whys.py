@@ -175,7 +175,7 @@ def test_silence(stage: Stage) -> None:
             raise Failed(f'{line}: another text with --verbose')
     stage.write('bad.csv', b'no heading\n')
     got = stage.end(stage.begin('init --store b.db --manifest bad.csv -v'.split()))
-    compare('a bad manifest', 'M3 row 0\n', got.err.decode())
+    compare('a bad manifest', 'M2 row 0\n', got.err.decode())
 
 
 def test_rights(stage: Stage) -> None:
