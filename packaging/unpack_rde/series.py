@@ -61,6 +61,11 @@ class Known(NamedTuple):
     def is_series(self) -> bool:
         return len(self.folders) > 1
 
+    @property
+    def own_type(self) -> str:
+        """Its type before it was given as another."""
+        return 'INCR' if self.is_incremental else self.type
+
 
 def is_folder(path: str) -> bool:
     return os.path.exists(os.path.join(path, DESCRIPTION))
@@ -129,9 +134,8 @@ class Series:
 
     def revisions(self) -> list[Known]:
         """The known revisions of the deposit itself, which may have other ids."""
-        return [
-            it for it in self.known if (it.moment, it.type) == (self.moment, self.header['type'])
-        ]
+        own_type = 'INCR' if INCREMENTAL in self.header else self.header['type']
+        return [it for it in self.known if (it.moment, it.own_type) == (self.moment, own_type)]
 
     def part_id(self, part: int, of: int) -> str:
         if part == of:
@@ -211,6 +215,8 @@ class Series:
     def check_revision(self, known: Known, last: Place, of: int) -> None:
         if known.places[-1] != last:
             before, now = ('a series' if it else 'one bundle' for it in (known.is_series, of > 1))
+            if before == now:
+                before, now = known.type, self.header['type']
             raise self.refused(
                 f'{known.id} in {known.folder} is {before}, and this is {now}: one deposit has one '
                 'place. Unpack both with --series, or list the latest revision alone in a new '

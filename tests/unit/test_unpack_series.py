@@ -363,7 +363,7 @@ class Series(Case):
         full = self.made(FULL, self.full('based', 8), rows_at_most(15))
         on = self.made({**DIFF, 'watermark': INCR['watermark']}, [])
         found = self.made(INCR, [], ['--known', full.out, '--known', on.out], status=1)
-        self.assertIn('has its watermark, type and resend', found.lines[-1])
+        self.assertIn('has the place 2024-03-05T00:00:00Z DIFF', found.lines[-1])
         # A Full that is a series ends with a Differential: one of the same watermark has its place.
         same = self.made({**DIFF, 'watermark': FULL['watermark'], 'prevId': 'F0'}, [])
         found = self.made(FULL, self.full('based', 8), ['--known', same.out, *rows_at_most(15)],
@@ -409,6 +409,22 @@ class Series(Case):
             # A revision of the Full that it is given on, and a Full after it.
             self.made({**FULL, 'resend': '1'}, [], known)
             self.made({**later, 'watermark': '2024-03-06T00:00:00Z'}, [], known)
+
+    def test_an_incremental_that_is_given_as_a_differential_is_no_revision_of_one(self):
+        full = self.made(FULL, self.full('based', 8), rows_at_most(15))
+        known = ['--known', full.out]
+        on = self.made(INCR, [], known)
+        for resend in ('0', '1'):
+            header = {**DIFF, 'watermark': INCR['watermark'], 'resend': resend}
+            found = self.made(header, [], [*known, '--known', on.out], status=1)
+            self.assertRegex(
+                found.lines[-1],
+                'there is no room for it: I4 in .* has the place 2024-03-05T00:00:00Z DIFF$')
+        # Its own revisions are such, and have its form.
+        self.made({**INCR, 'resend': '1'}, [], [*known, '--known', on.out])
+        alone = self.made(INCR, [])
+        found = self.made({**INCR, 'resend': '1'}, [], [*known, '--known', alone.out], status=1)
+        self.assertIn('is INCR, and this is DIFF: one deposit has one place', found.lines[-1])
 
     def test_a_resend_may_have_another_id(self):
         one, other = self.full('one', 8), self.full('other', 8)
