@@ -1,0 +1,134 @@
+//! The zone of a top-level domain, made of the tables of its registry.
+//!
+//! # In and out
+//!
+//! In come the objects of a registry, one at a time, and the operator's own records: a file with
+//! the SOA and the name servers of the zone's apex. Out come the lines of a zone (RFC 1035, section
+//! 5) that has delegations alone, and a line for each thing that is left out of it though the
+//! registry would have it there. Names are bytes of keys and fields with ASCII letters lowered, and
+//! without one dot at their end.
+//!
+//! ```text
+//! let mut draft = Draft::new(alloc, settings, apex);
+//! draft.note_domains(&mut walk(Kind::Domain))?;      // servers in the zone, names above others
+//! draft.note_mirrors(&mut walk(Kind::Nndn))?;
+//! draft.take_hosts(&mut walk(Kind::Host))?;          // the addresses of these servers
+//! draft.take_domains(&mut walk(Kind::Domain))?;      // which of these names are delegated
+//! draft.take_mirrors(&mut walk(Kind::Nndn))?;
+//! draft.settle()?;
+//! draft.write_domains(&mut walk(Kind::Domain), &mut zone, &mut told)?;    // NS, DS
+//! draft.write_mirrors(&mut walk(Kind::Nndn), &mut zone, &mut told)?;      // NS
+//! draft.write_glue(&mut zone, &mut told)?;                                // A, AAAA
+//! ```
+//!
+//! In memory are, beside one object, the servers in the zone that are in use, and the names at or
+//! above them, above other domains, and of which a mirrored name has the servers.
+//!
+//! # The zone
+//!
+//! A line for each record, each with its full name, its TTL and `IN`, and one space between words:
+//!
+//! 1. the operator's records, in their order, with the serial in the place of `SERIAL`; empty lines
+//!    and those that begin with `;` are left out;
+//! 2. of each domain, by the bytes of its key: its NS by the bytes of the server's name, and its DS
+//!    by tag, algorithm, type and digest, each once;
+//! 3. of each mirrored name, by the bytes of its key: the NS that its original has;
+//! 4. of each server in the zone, by the bytes of its name: A and then AAAA, by number, each once.
+//!
+//! ```text
+//! a.example. 3600 IN NS ns1.a.example.
+//! a.example. 3600 IN DS 12345 13 2 0011..EEFF
+//! ns1.a.example. 3600 IN A 192.0.2.1
+//! ns1.a.example. 3600 IN AAAA 2001:db8::1
+//! ```
+//!
+//! # What is told
+//!
+//! On standard error, a line each, as it is found. A text of the tables is printed as it is; if it
+//! has control characters, these and its backslashes are escaped as Rust writes them. `NAME`,
+//! `ABOVE`, `ORIGINAL`, `CUT` are names of domains and mirrored names, `HOST` is that of a server.
+//!
+//! ```text
+//! status NAME FIELD VALUE: taken for STATUS       FIELD is status or rgpStatus; in other letters
+//! status NAME FIELD VALUE: is not known
+//! status NAME RGP without pendingDelete           RGP: of pendingDelete, pendingRestore and
+//!                                                 redemptionPeriod those that there are, so ordered
+//! left out NAME: inactive, and has servers
+//! left out NAME: a variant of ORIGINAL without servers of its own
+//! left out NAME: it is the zone itself
+//! left out NAME: not below ORIGIN
+//! left out NAME: FAULT                            of the name, below
+//! left out NAME: below ABOVE, which is delegated
+//! server NAME HOST: left out: FAULT
+//! server NAME HOST: left out: it is an address
+//! server NAME HOST: left out: in the zone, and has no address
+//! server NAME HOST: has no address here, and is left to CUT
+//! left out NAME: no server is left
+//! DS NAME: left out: WHY                          below
+//! left out NAME: it is a domain too               this and the next three: a mirrored name
+//! left out NAME: mirrored in another way than by name servers: mirroringNS is VALUE
+//! left out NAME: mirrored without originalName
+//! left out NAME: its original ORIGINAL is no domain
+//! address HOST TEXT: no address
+//! address HOST TEXT: an address of no server
+//! address HOST TEXT: is v6, declared v4           is v4, declared OTHER; is v6, declared v4 (none)
+//! address HOST TEXT: NAME says it, which is not the domain that it is in
+//! address HOST: the operator's file has others, which are taken
+//! glue HOST: below no delegation; NAME uses it    or: .., and is left out; NAME uses it
+//! ```
+//!
+//! `FAULT` is the first of these: `not ASCII: a U-label?`, `over 255 bytes on the wire`; of the
+//! first label that has one: `an empty label`, `a label over 63 bytes`, `a wildcard`, `no label of
+//! letters, digits and hyphens: LABEL`. `WHY` of a DS is `no number up to MOST: FIELD VALUE`,
+//! `algorithm N, digest type N`, `no digest of N bytes: VALUE`, `no key of DNSSEC: protocol N,
+//! algorithm N`, `no zone key, or a revoked one: flags N`, or `a public key that is no base64`.
+//!
+//! Lines of a domain stand in this order: its statuses by row, the odd RGP statuses, then what it
+//! is left out for; else its servers by name, and its DS by row. All `address` and `glue` lines come
+//! last, by host: faults of its addresses by row, those that another domain says, the operator's,
+//! then `glue`. Only servers that a delegated name would use have such lines.
+//!
+//! At the end come these counts on standard output, each as `WORD N`, also where it is 0:
+//!
+//! ```text
+//! domains, delegated, held, pendingCreate, redemptionPeriod, pendingRestore, pendingDelete,
+//! inactive, without servers, no name of the zone, no server left, DS, DS made of keys, mirrored,
+//! mirrored and delegated, orphan glue hosts, addresses, records
+//! ```
+//!
+//! and on standard error, last of all, since the zone has no signatures (RFC 4035, section 4.3):
+//!
+//! ```text
+//! unsigned ORIGIN: while the root has its old DS, validating resolvers take no zone that is not
+//! signed by that key (one line): have the DS replaced or removed, and wait its TTL, before the NS
+//! change
+//! ```
+//!
+//! # Refusals
+//!
+//! The zone as a whole is refused where it would be doubtful. Nothing is written then, and standard
+//! error ends with one of these:
+//!
+//! ```text
+//! Z1 ORIGIN: FAULT                                or: not in small letters, or with a dot at its end
+//! Z2 the serial is not from 1 to 4294967295
+//! Z3 line N: WHY                                  of the operator's file
+//! Z3 no zone begins so: one SOA, first; NS; no CNAME or DNAME at ORIGIN
+//! Z3 the zone's own server HOST has no address
+//! Z4 TABLE looks like WANTED
+//! Z4 TABLE FIELD looks like WANTED
+//! Z4 TABLE lacks FIELD
+//! Z5 KIND NAME: two objects have this name
+//! Z6 NAME: CUT is delegated by the operator's file
+//! Z6 NAME: the operator's file has TYPE at OTHER
+//! Z7 no domain is delegated
+//! ```
+//!
+//! `WHY` of Z3 is one of `not NAME. TTL IN TYPE DATA on one line`, `no TTL`, FAULT, `not in ORIGIN`,
+//! `a type in small letters, parentheses, quotes or a backslash`, `TYPE: it is for the signer`, `a name without
+//! a dot at its end`, `no SOA with SERIAL in the place of its serial`, `no address`.
+//!
+//! # What the contracts mean
+//!
+//! To be written with the crate.
+#![tactic(auto)]
