@@ -49,44 +49,45 @@
 //! `ABOVE`, `ORIGINAL`, `CUT` are names of domains and mirrored names, `HOST` is that of a server.
 //!
 //! ```text
-//! status NAME FIELD VALUE: taken for STATUS       FIELD is status or rgpStatus; in other letters
-//! status NAME FIELD VALUE: is not known
+//! status NAME FIELD VALUE taken for STATUS        FIELD is status or rgpStatus; in other letters
+//! status NAME FIELD VALUE is not known
 //! status NAME RGP without pendingDelete           RGP: of pendingDelete, pendingRestore and
 //!                                                 redemptionPeriod those that there are, so ordered
-//! left out NAME: inactive, and has servers
-//! left out NAME: a variant of ORIGINAL without servers of its own
-//! left out NAME: it is the zone itself
-//! left out NAME: not below ORIGIN
-//! left out NAME: FAULT                            of the name, below
-//! left out NAME: below ABOVE, which is delegated
+//! left out NAME inactive, and has servers
+//! left out NAME a variant of ORIGINAL without servers of its own
+//! left out NAME it is the zone itself
+//! left out NAME not below ORIGIN
+//! left out NAME FAULT                             of the name, below
+//! left out NAME below ABOVE, which is delegated
 //! server NAME HOST: left out: FAULT
 //! server NAME HOST: left out: it is an address
 //! server NAME HOST: left out: in the zone, and has no address
 //! server NAME HOST: has no address here, and is left to CUT
-//! left out NAME: no server is left
-//! DS NAME: left out: WHY                          below
-//! left out NAME: it is a domain too               this and the next three: a mirrored name
-//! left out NAME: mirrored in another way than by name servers: mirroringNS is VALUE
-//! left out NAME: mirrored without originalName
-//! left out NAME: its original ORIGINAL is no domain
+//! left out NAME no server is left
+//! DS NAME left out: WHY                           below
+//! address HOST TEXT: NAME says it, which is not the domain that it is in
+//! left out NAME it is a domain too                this and the next three: a mirrored name
+//! left out NAME mirrored in another way than by name servers: mirroringNS is VALUE
+//! left out NAME mirrored without originalName
+//! left out NAME its original ORIGINAL is no domain
 //! address HOST TEXT: no address
 //! address HOST TEXT: an address of no server
 //! address HOST TEXT: is v6, declared v4           is v4, declared OTHER; is v6, declared v4 (none)
-//! address HOST TEXT: NAME says it, which is not the domain that it is in
-//! address HOST: the operator's file has others, which are taken
-//! glue HOST: below no delegation; NAME uses it    or: .., and is left out; NAME uses it
+//! address HOST the operator's file has others, which are taken
+//! glue HOST below no delegation; NAME uses it
 //! ```
 //!
 //! `FAULT` is the first of these: `not ASCII: a U-label?`, `over 255 bytes on the wire`; of the
 //! first label that has one: `an empty label`, `a label over 63 bytes`, `a wildcard`, `no label of
-//! letters, digits and hyphens: LABEL`. `WHY` of a DS is `no number up to MOST: FIELD VALUE`,
-//! `algorithm N, digest type N`, `no digest of N bytes: VALUE`, `no key of DNSSEC: protocol N,
-//! algorithm N`, `no zone key, or a revoked one: flags N`, or `a public key that is no base64`.
+//! letters, digits and hyphens: LABEL`. `WHY` of a DS is `no number up to MOST: VALUE`, `algorithm
+//! N, digest type N`, `no digest of N bytes: VALUE`, `no key of DNSSEC: protocol N, algorithm N`,
+//! `no zone key, or a revoked one: flags N`, or `a public key that is no base64`.
 //!
 //! Lines of a domain stand in this order: its statuses by row, the odd RGP statuses, then what it
-//! is left out for; else its servers by name, and its DS by row. All `address` and `glue` lines come
-//! last, by host: faults of its addresses by row, those that another domain says, the operator's,
-//! then `glue`. Only servers that a delegated name would use have such lines.
+//! is left out for; or its servers by name, its DS by row, and the addresses that it says of other
+//! domains' servers, by row. The other `address` lines and those of `glue` come last, by host:
+//! faults of its addresses by row, the operator's, then `glue`. Only servers in the zone that a
+//! domain would have, which its statuses let in, have `address` lines.
 //!
 //! At the end come these counts on standard output, each as `WORD N`, also where it is 0:
 //!
@@ -96,24 +97,24 @@
 //! mirrored and delegated, orphan glue hosts, addresses, records
 //! ```
 //!
-//! and on standard error, last of all, since the zone has no signatures (RFC 4035, section 4.3):
+//! and on standard error, last of all, since the zone has no signatures (RFC 4035, section 4.3),
+//! one line:
 //!
 //! ```text
-//! unsigned ORIGIN: while the root has its old DS, validating resolvers take no zone that is not
-//! signed by that key (one line): have the DS replaced or removed, and wait its TTL, before the NS
-//! change
+//! unsigned ORIGIN while the root has its old DS, validating resolvers refuse this zone, also newly
+//! signed: have the DS replaced or removed, and wait its TTL, before the NS change
 //! ```
 //!
 //! # Refusals
 //!
-//! The zone as a whole is refused where it would be doubtful. Nothing is written then, and standard
-//! error ends with one of these:
+//! The zone as a whole is refused where it would be doubtful. No file is written then, and standard
+//! error ends with one of these. `PATH` is the operator's file.
 //!
 //! ```text
 //! Z1 ORIGIN: FAULT                                or: not in small letters, or with a dot at its end
 //! Z2 the serial is not from 1 to 4294967295
-//! Z3 line N: WHY                                  of the operator's file
-//! Z3 no zone begins so: one SOA, first; NS; no CNAME or DNAME at ORIGIN
+//! Z3 PATH line N: WHY
+//! Z3 PATH: no zone begins so: one SOA, first; NS; no CNAME or DNAME at ORIGIN
 //! Z3 the zone's own server HOST has no address
 //! Z4 TABLE looks like WANTED
 //! Z4 TABLE FIELD looks like WANTED
@@ -124,11 +125,19 @@
 //! Z7 no domain is delegated
 //! ```
 //!
-//! `WHY` of Z3 is one of `not NAME. TTL IN TYPE DATA on one line`, `no TTL`, FAULT, `not in ORIGIN`,
-//! `a type in small letters, parentheses, quotes or a backslash`, `TYPE: it is for the signer`, `a name without
-//! a dot at its end`, `no SOA with SERIAL in the place of its serial`, `no address`.
+//! `WHY` of Z3 is one of `not NAME. TTL IN TYPE DATA on one line`, `no TTL: TEXT`, FAULT, `not in
+//! ORIGIN`, `a type in small letters, parentheses or a backslash`, `TYPE: it is for the signer`, `a
+//! name without a dot at its end`, `no SOA with SERIAL in the place of its serial`, `no address:
+//! TEXT`.
 //!
 //! # What the contracts mean
 //!
 //! To be written with the crate.
 #![tactic(auto)]
+
+mod field;
+mod name;
+mod status;
+
+pub use name::{LONGEST_LABEL, LONGEST_NAME, Name};
+pub use status::{Hold, hold_of};
