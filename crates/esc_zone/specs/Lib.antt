@@ -1,3 +1,5 @@
 pub mod Fields
 pub mod Names
+pub mod Records
+pub mod Signers
 pub mod Statuses

@@ -137,7 +137,11 @@
 
 mod field;
 mod name;
+mod records;
+mod signer;
 mod status;
 
 pub use name::{LONGEST_LABEL, LONGEST_NAME, Name};
+pub use records::Records;
+pub use signer::{Ds, DsFault};
 pub use status::{Hold, hold_of};

@@ -92,7 +92,8 @@ impl Name {
 
     /// Its bytes.
     pub fn as_bytes(&self) -> &[u8]
-        ensures { result.now ≡ self.now }
+        ensures value { result.now ≡ self.now }
+        ensures name { is_name self.now ≡ true }
     {
         &self.bytes
     }

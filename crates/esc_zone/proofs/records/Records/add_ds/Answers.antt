@@ -1,0 +1,6 @@
+use Rattle.std.proofs.Common.{rules}
+use Rattle.esc_zone.specs.Records.Data.{signer}
+use Rattle.esc_zone.proofs.records.Records.add_ds.Goals as goal
+
+pub add-requires : goal.add-requires
+add-requires c = (signer c.args.ds.now, (tt, search rules))

@@ -1,0 +1,68 @@
+-- The records of the zone, and their lines (RFC 1035, section 5.1).
+use Rattle.std.specs.Prelude.{◌≡◌, ⊤, true, ℕ, List, [], ◌∷◌, ◌++◌, All, codes}
+use Rattle.std.specs.List.{flat_map}
+use Rattle.std.specs.Fmt.{decimal}
+use Rattle.std.specs.Net.Addr.{ipv4_octets, ipv6_segments}
+use Rattle.std.specs.Net.Text.{ipv4_text, ipv6_text}
+use Rattle.std.specs.declared.net.ip_addr.IpAddr.{IpAddr}
+use Rattle.std.specs.declared.net.ip_addr.IpAddr.TheVariants.{V4, V6}
+use Rattle.hex.specs.Hex.{encode_upper}
+use Rattle.esc_zone.specs.declared.signer.Ds.{Ds}
+use Rattle.esc_zone.specs.Names.{is_name}
+
+-- what a record says of its name: a name server, a key's digest, an address
+pub data Data : Type 0 where
+  server : List ℕ → Data
+  signer : Ds → Data
+  address : IpAddr → Data
+
+-- a name, and what is said of it
+pub record RecordValue : Type 0 where
+  pub owner : List ℕ
+  pub said : Data
+
+-- a DS as it is written
+abbrev pub ds_text : Ds → List ℕ
+ds_text ds = decimal ds.tag ++ codes " " ++ decimal ds.algorithm ++ codes " " ++ decimal ds.kind
+    ++ codes " " ++ encode_upper ds.digest.items
+
+-- the type and the data of a record
+abbrev pub data_text : Data → List ℕ
+data_text (server name) = codes "NS " ++ name ++ codes "."
+data_text (signer ds) = codes "DS " ++ ds_text ds
+data_text (address (V4 a)) = codes "A " ++ ipv4_text (ipv4_octets a)
+data_text (address (V6 a)) = codes "AAAA " ++ ipv6_text (ipv6_segments a)
+
+-- a line: a name, this TTL, the class, and what is said of the name
+abbrev pub line_text : ℕ → List ℕ → List ℕ → List ℕ
+line_text ttl owner said = owner ++ codes ". " ++ decimal ttl ++ codes " IN " ++ said ++ codes "\n"
+
+-- the line of a record with this TTL
+abbrev pub record_text : ℕ → RecordValue → List ℕ
+record_text ttl r = line_text ttl r.owner (data_text r.said)
+
+-- the names of a record are names
+abbrev pub HasNames : Data → Type 0
+HasNames (server name) = is_name name ≡ true
+HasNames (signer ds) = ⊤
+HasNames (address a) = ⊤
+
+-- a text is what a record says of its name
+abbrev pub IsSaid : List ℕ → Type 0
+IsSaid text = (d : Data) × (HasNames d × (data_text d ≡ text))
+
+-- its names have only labels of letters, digits, hyphens and underscores
+pub record IsRecord (r : RecordValue) : Type 0 where
+  pub owner : is_name r.owner ≡ true
+  pub names : HasNames r.said
+
+-- the text is the lines of records with this TTL
+pub record AreLines (ttl : ℕ) (text : List ℕ) : Type 0 where
+  pub records : List RecordValue
+  pub each : All IsRecord records
+  pub lines : flat_map (record_text ttl) records ≡ text
+
+-- the TTL of records, and their lines
+pub record RecordsValue : Type 0 where
+  pub ttl : ℕ
+  pub text : List ℕ

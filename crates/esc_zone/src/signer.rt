@@ -1,0 +1,250 @@
+//! DS records: those that a row has, and those that are made of its key.
+
+ghost use Rattle.std.specs.Prelude.{◌≡◌, ◌≢◌, ◌≤◌, ◌<◌, ◌+◌, ◌++◌, ◌^◌, IfOk, IfSome, OnOk, length, true};
+ghost use Rattle.std.specs.List.{list_all};
+ghost use Rattle.std.specs.Char.{is_ascii_digit};
+ghost use Rattle.sha2.specs.Sha256.{sha256};
+ghost use Rattle.esc_zone.specs.Signers.{IsNumber, IsGivenDs, IsKeyDs, digest_length, wire_name};
+ghost use Rattle.esc_zone.specs.Signers.{key_data, key_tag, tag_sum};
+
+use crate::field::cell;
+use crate::name::Name;
+use base64::DecodeAllocError;
+use base64::engine::general_purpose::STANDARD;
+use esc_bundle::NoMemory;
+use esc_cli::OneLine;
+use esc_tables::Row;
+use sha2::{Digest, Sha256};
+use std::alloc::{AllocError, AllocFailed, Global};
+use std::fmt;
+
+/// A DS (RFC 4034, section 5.1).
+#[derive(Debug, PartialEq, Eq, PartialOrd, Ord, Drop)]
+pub struct Ds {
+    /// The tag of the key.
+    pub tag: u16,
+    /// The algorithm of the key.
+    pub algorithm: u8,
+    /// The type of the digest.
+    pub kind: u8,
+    pub digest: Vec<u8>,
+}
+
+/// Why a row gives no DS.
+#[derive(Clone, Copy, Debug)]
+pub enum DsFault<'a> {
+    /// A text is no number up to this one.
+    Number { most: u32, text: &'a str },
+    /// The algorithm is 0, or validators ignore the type of the digest (RFC 8624, section 3.3).
+    Unused { algorithm: u8, kind: u8 },
+    /// A digest is not so many bytes in hexadecimal digits.
+    Broken { bytes: usize, text: &'a str },
+    /// A key is none of DNSSEC (RFC 4034, section 2.1.2).
+    Foreign { protocol: u8, algorithm: u8 },
+    /// A key is no zone's, or a revoked one (RFC 4034, section 2.1.1; RFC 5011, section 7).
+    Flags(u16),
+    /// A key is no base64, or too long for a record.
+    Key,
+    /// Out of memory.
+    NoMemory,
+}
+
+impl fmt::Display for DsFault<'_> {
+    fn fmt<W: fmt::Write>(&self, f: &mut fmt::Formatter<W>) -> fmt::Result {
+        match self {
+            DsFault::Number { most, text } => {
+                write!(f, "no number up to {most}: {}", OneLine(text))
+            }
+            DsFault::Unused { algorithm, kind } => {
+                write!(f, "algorithm {algorithm}, digest type {kind}")
+            }
+            DsFault::Broken { bytes, text } => {
+                write!(f, "no digest of {bytes} bytes: {}", OneLine(text))
+            }
+            DsFault::Foreign {
+                protocol,
+                algorithm,
+            } => write!(
+                f,
+                "no key of DNSSEC: protocol {protocol}, algorithm {algorithm}"
+            ),
+            DsFault::Flags(flags) => {
+                write!(f, "no zone key, or a revoked one: flags {flags}")
+            }
+            DsFault::Key => f.write_str("a public key that is no base64"),
+            DsFault::NoMemory => f.write_str("out of memory"),
+        }
+    }
+}
+
+impl From<NoMemory> for DsFault<'_> {
+    fn from(_refused: NoMemory) -> Self {
+        DsFault::NoMemory
+    }
+}
+
+impl From<AllocError> for DsFault<'_> {
+    fn from(_refused: AllocError) -> Self {
+        DsFault::NoMemory
+    }
+}
+
+impl<T: Drop> From<AllocFailed<T>> for DsFault<'_> {
+    fn from(_refused: AllocFailed<T>) -> Self {
+        DsFault::NoMemory
+    }
+}
+
+fn are_digits(text: &[u8]) -> bool
+    ensures { result ≡ list_all is_ascii_digit text.now }
+{
+    text.iter().all(|byte| byte.is_ascii_digit())
+}
+
+// The number that a text is, up to this one.
+fn number(text: &str, most: u32) -> Option<u32>
+    ensures { IfSome result (λ n. IsNumber most text.now n) }
+{
+    if text.len() > 10 || !are_digits(text.as_bytes()) {
+        return None;
+    }
+    match text.parse::<u32>() {
+        Ok(value) if value <= most => Some(value),
+        _ => None,
+    }
+}
+
+// A number of two bytes.
+fn short(text: &str) -> Result<u16, DsFault<'_>>
+    ensures { IfOk result (λ n. IsNumber 0xffff text.now n) }
+{
+    match number(text, 0xffff) {
+        Some(value) => Ok(value as u16),
+        None => Err(DsFault::Number { most: 0xffff, text }),
+    }
+}
+
+// A number of one byte.
+fn byte(text: &str) -> Result<u8, DsFault<'_>>
+    ensures { IfOk result (λ n. IsNumber 0xff text.now n) }
+{
+    match number(text, 0xff) {
+        Some(value) => Ok(value as u8),
+        None => Err(DsFault::Number { most: 0xff, text }),
+    }
+}
+
+fn digest_length(kind: u8) -> Option<usize>
+    ensures { result ≡ digest_length kind }
+{
+    match kind {
+        1 => Some(20),
+        2 => Some(32),
+        4 => Some(48),
+        _ => None,
+    }
+}
+
+// The digest of so many bytes that a text has.
+fn digest_in(alloc: Global, text: &str, bytes: usize) -> Result<Vec<u8>, DsFault<'_>> {
+    match hex::decode(alloc, text.as_bytes()) {
+        Ok(digest) if digest.len() == bytes => Ok(digest),
+        Err(hex::FromHexError::OutOfMemory) => Err(DsFault::NoMemory),
+        _ => Err(DsFault::Broken { bytes, text }),
+    }
+}
+
+/// The DS of these texts.
+pub(crate) fn given_ds<'a>(
+    alloc: Global,
+    tag: &'a str,
+    algorithm: &'a str,
+    kind: &'a str,
+    digest: &'a str,
+) -> Result<Ds, DsFault<'a>>
+    ensures { IfOk result (λ ds. IsGivenDs tag.now algorithm.now kind.now digest.now ds) }
+{
+    let tag = short(tag)?;
+    let algorithm = byte(algorithm)?;
+    let kind = byte(kind)?;
+    match digest_length(kind) {
+        Some(bytes) if algorithm != 0 => Ok(Ds {
+            tag,
+            algorithm,
+            kind,
+            digest: digest_in(alloc, digest, bytes)?,
+        }),
+        _ => Err(DsFault::Unused { algorithm, kind }),
+    }
+}
+
+// A name on the wire (RFC 1035, section 3.1).
+fn wire_name(alloc: Global, name: &Name) -> Result<Vec<u8>, NoMemory>
+    ensures { IfOk result (λ wire. wire.items ≡ wire_name name.now) }
+{
+    let mut wire = Vec::new(alloc);
+    for label in name.as_bytes().split(|byte| *byte == b'.') {
+        wire.push(label.len() as u8)?;
+        wire.extend_from_slice(label)?;
+    }
+    wire.push(0)?;
+    Ok(wire)
+}
+
+// The data of a key's record.
+fn key_data(alloc: Global, flags: u16, algorithm: u8, key: &[u8]) -> Result<Vec<u8>, NoMemory>
+    ensures { IfOk result (λ bytes. bytes.items ≡ key_data flags algorithm key.now) }
+{
+    let front = [(flags / 256) as u8, (flags % 256) as u8, 3, algorithm];
+    let mut bytes = Vec::from_slice(alloc, &front)?;
+    bytes.extend_from_slice(key)?;
+    Ok(bytes)
+}
+
+/// The most bytes of a key's data: those of a record.
+const MOST_DATA: usize = 65_535;
+
+// The tag of a key's data (RFC 4034, appendix B).
+fn key_tag(bytes: &[u8]) -> u16
+    requires { length bytes.now ≤ 65535 }
+    ensures { result ≡ key_tag bytes.now }
+{
+    let total = tag_sum(bytes);
+    ((total + total / 65_536) % 65_536) as u16
+}
+
+fn tag_sum(bytes: &[u8]) -> u64
+    requires { length bytes.now ≤ 65535 }
+    ensures sum { result ≡ tag_sum 0 bytes.now }
+    ensures small { result < 2 ^ 40 }
+{
+    let mut total = 0;
+    for at in 0..bytes.len() {
+        let byte = u64::from(bytes[at]);
+        total += if at % 2 == 0 { 256 * byte } else { byte };
+    }
+    total
+}
+
+// The DS of a name's key.
+fn ds_of_key(
+    alloc: Global,
+    name: &Name,
+    flags: u16,
+    algorithm: u8,
+    key: &[u8],
+) -> Result<Ds, NoMemory>
+    requires { length key.now + 4 ≤ 65535 }
+    ensures { IfOk result (λ ds. IsKeyDs name.now flags algorithm key.now ds) }
+{
+    let data = key_data(alloc, flags, algorithm, key)?;
+    let mut hasher = Sha256::new();
+    hasher.update(wire_name(alloc, name)?.as_slice());
+    hasher.update(data.as_slice());
+    Ok(Ds {
+        tag: key_tag(&data),
+        algorithm,
+        kind: 2,
+        digest: Vec::from_slice(alloc, &hasher.finalize())?,
+    })
+}
