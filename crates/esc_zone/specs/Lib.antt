@@ -3,3 +3,4 @@ pub mod Names
 pub mod Records
 pub mod Signers
 pub mod Statuses
+pub mod Usages

@@ -22,11 +22,11 @@ digest_length kind = if kind == 1 then Some 20
 
 -- the DS that a row gives by these texts
 pub record IsGivenDs (tag algorithm kind digest : List ℕ) (ds : Ds) : Type 0 where
-  pub tag : IsNumber 0xffff tag ds.tag
-  pub algorithm : IsNumber 0xff algorithm ds.algorithm
+  pub of_tag : IsNumber 0xffff tag ds.tag
+  pub of_algorithm : IsNumber 0xff algorithm ds.algorithm
   pub used : ds.algorithm ≢ 0
-  pub kind : IsNumber 0xff kind ds.kind
-  pub digest : decode_of digest ≡ Ok ds.digest.items
+  pub of_kind : IsNumber 0xff kind ds.kind
+  pub of_digest : decode_of digest ≡ Ok ds.digest.items
   pub whole : digest_length ds.kind ≡ Some (length ds.digest.items)
 
 -- a label on the wire: its length and its bytes
@@ -52,7 +52,7 @@ key_tag bytes = (tag_sum 0 bytes + tag_sum 0 bytes / 65536) % 65536
 
 -- the DS of a name's key, by SHA-256
 pub record IsKeyDs (name : List ℕ) (flags algorithm : ℕ) (key : List ℕ) (ds : Ds) : Type 0 where
-  pub tag : ds.tag ≡ key_tag (key_data flags algorithm key)
-  pub algorithm : ds.algorithm ≡ algorithm
-  pub kind : ds.kind ≡ 2
-  pub digest : ds.digest.items ≡ sha256 (wire_name name ++ key_data flags algorithm key)
+  pub of_tag : ds.tag ≡ key_tag (key_data flags algorithm key)
+  pub of_algorithm : ds.algorithm ≡ algorithm
+  pub of_kind : ds.kind ≡ 2
+  pub of_digest : ds.digest.items ≡ sha256 (wire_name name ++ key_data flags algorithm key)

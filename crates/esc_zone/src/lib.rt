@@ -135,13 +135,31 @@
 //! To be written with the crate.
 #![tactic(auto)]
 
+mod address;
+mod apex;
+mod counts;
+mod draft;
+mod fault;
 mod field;
 mod name;
+mod notes;
+mod passes;
+mod publishing;
+mod reading;
 mod records;
+mod sheet;
 mod signer;
 mod status;
+mod usage;
+mod words;
 
+pub use apex::{Apex, read_apex};
+pub use counts::Counts;
+pub use draft::{Draft, Settings};
+pub use fault::{Halt, Refusal, Rule, ZoneFault};
 pub use name::{LONGEST_LABEL, LONGEST_NAME, Name};
+pub use reading::{NameFault, read_origin, read_serial};
 pub use records::Records;
 pub use signer::{Ds, DsFault};
 pub use status::{Hold, hold_of};
+pub use usage::{Usage, usage_of};

@@ -1,11 +1,12 @@
 //! DS records: those that a row has, and those that are made of its key.
 
 ghost use Rattle.std.specs.Prelude.{◌≡◌, ◌≢◌, ◌≤◌, ◌<◌, ◌+◌, ◌++◌, ◌^◌, IfOk, IfSome, OnOk, length, true};
-ghost use Rattle.std.specs.List.{list_all};
+ghost use Rattle.std.specs.List.{list_all, position};
 ghost use Rattle.std.specs.Char.{is_ascii_digit};
 ghost use Rattle.sha2.specs.Sha256.{sha256};
 ghost use Rattle.esc_zone.specs.Signers.{IsNumber, IsGivenDs, IsKeyDs, digest_length, wire_name};
-ghost use Rattle.esc_zone.specs.Signers.{key_data, key_tag, tag_sum};
+ghost use Rattle.esc_zone.specs.Signers.{key_data, key_tag, tag_sum, wire_label};
+ghost use Rattle.esc_zone.specs.Names.{is_dot};
 
 use crate::field::cell;
 use crate::name::Name;
@@ -183,12 +184,30 @@ fn wire_name(alloc: Global, name: &Name) -> Result<Vec<u8>, NoMemory>
     ensures { IfOk result (λ wire. wire.items ≡ wire_name name.now) }
 {
     let mut wire = Vec::new(alloc);
-    for label in name.as_bytes().split(|byte| *byte == b'.') {
-        wire.push(label.len() as u8)?;
-        wire.extend_from_slice(label)?;
+    let mut rest = name.as_bytes();
+    while let Some(at) = dot_in(rest) {
+        push_label(&mut wire, &rest[..at])?;
+        rest = &rest[at + 1..];
     }
+    push_label(&mut wire, rest)?;
     wire.push(0)?;
     Ok(wire)
+}
+
+fn dot_in(bytes: &[u8]) -> Option<usize>
+    ensures { result ≡ position is_dot bytes.now }
+{
+    bytes.iter().position(|byte| *byte == b'.')
+}
+
+// Adds a label of 255 bytes at most: its length and its bytes.
+fn push_label(wire: &mut Vec<u8>, label: &[u8]) -> Result<(), NoMemory>
+    ensures { OnOk result (length label.now < 256
+        → wire.new.items ≡ wire.old.items ++ wire_label label.now) }
+{
+    wire.push(u8::try_from(label.len()).unwrap_or(0))?;
+    wire.extend_from_slice(label)?;
+    Ok(())
 }
 
 // The data of a key's record.
@@ -247,4 +266,83 @@ fn ds_of_key(
         kind: 2,
         digest: Vec::from_slice(alloc, &hasher.finalize())?,
     })
+}
+
+/// A DS that a row gives, and whether it is made of its key.
+#[derive(Drop)]
+pub(crate) struct Given {
+    pub(crate) ds: Ds,
+    pub(crate) is_of_key: bool,
+}
+
+// Whether a row has a text in one of these fields.
+fn has_text(row: &Row, fields: &[&str]) -> bool {
+    fields.iter().any(|field| !cell(row, field).is_empty())
+}
+
+/// The DS of a name that a row of `secDNS` gives, if it gives one.
+pub(crate) fn ds_of_row<'a>(
+    alloc: Global,
+    name: &Name,
+    row: &'a Row,
+) -> Result<Option<Given>, DsFault<'a>> {
+    if has_text(row, &["keyTag", "dsAlg", "digestType", "digest"]) {
+        let ds = given_ds(
+            alloc,
+            cell(row, "keyTag"),
+            cell(row, "dsAlg"),
+            cell(row, "digestType"),
+            cell(row, "digest"),
+        )?;
+        let is_of_key = false;
+        return Ok(Some(Given { ds, is_of_key }));
+    }
+    if has_text(row, &["flags", "protocol", "keyAlg", "pubKey"]) {
+        let ds = ds_of_key_row(alloc, name, row)?;
+        let is_of_key = true;
+        return Ok(Some(Given { ds, is_of_key }));
+    }
+    Ok(None)
+}
+
+/// The flag of a zone's key (RFC 4034, section 2.1.1).
+const ZONE_KEY: u16 = 0x0100;
+
+/// The flag of a revoked key (RFC 5011, section 7).
+const REVOKED: u16 = 0x0080;
+
+// The DS of the key that a row has.
+fn ds_of_key_row<'a>(alloc: Global, name: &Name, row: &'a Row) -> Result<Ds, DsFault<'a>> {
+    let flags = short(cell(row, "flags"))?;
+    let protocol = byte(cell(row, "protocol"))?;
+    let algorithm = byte(cell(row, "keyAlg"))?;
+    if protocol != 3 || algorithm == 0 {
+        return Err(DsFault::Foreign {
+            protocol,
+            algorithm,
+        });
+    }
+    if flags & ZONE_KEY == 0 || flags & REVOKED != 0 {
+        return Err(DsFault::Flags(flags));
+    }
+    let key = key_in(alloc, cell(row, "pubKey"))?;
+    if key.is_empty() || key.len() > MOST_DATA - 4 {
+        return Err(DsFault::Key);
+    }
+    Ok(ds_of_key(alloc, name, flags, algorithm, &key)?)
+}
+
+// The bytes of a text in base64, in which white space says nothing (RFC 4034, section 2.2).
+fn key_in<'a>(alloc: Global, text: &'a str) -> Result<Vec<u8>, DsFault<'a>> {
+    let mut signs = Vec::new(alloc);
+    for sign in text.bytes() {
+        if !matches!(sign, b' ' | b'\t' | b'\r' | b'\n') {
+            signs.push(sign)?;
+        }
+    }
+    match STANDARD.decode(alloc, signs.as_slice()) {
+        Ok(key) => Ok(key),
+        Err(DecodeAllocError::OutOfMemory) => Err(DsFault::NoMemory),
+        Err(_) => Err(DsFault::Key),
+    }
 }

@@ -33,17 +33,25 @@ pub(crate) fn has_rgp(rows: &[Row], word: &str) -> bool
     has_child_word(rows, "domainStatuses", "rgpStatus", word)
 }
 
-fn is_held(rows: &[Row]) -> bool
+/// Whether a domain with these child rows is held.
+pub(crate) fn is_held(rows: &[Row]) -> bool
     ensures { result ≡ (has_status (codes "clientHold") rows.now || has_status (codes "serverHold") rows.now) }
 {
     has_status(rows, "clientHold") || has_status(rows, "serverHold")
 }
 
-/// Whether a domain with these child rows is about to be deleted, by either status.
-pub(crate) fn is_pending_delete(rows: &[Row]) -> bool
+/// Whether a domain with these child rows has `pendingDelete` as a status of EPP.
+pub(crate) fn is_pending_delete_of_epp(rows: &[Row]) -> bool
+    ensures { result ≡ has_status (codes "pendingDelete") rows.now }
+{
+    has_status(rows, "pendingDelete")
+}
+
+// Whether a domain with these child rows is about to be deleted, by either status.
+fn is_pending_delete(rows: &[Row]) -> bool
     ensures { result ≡ (has_rgp (codes "pendingDelete") rows.now || has_status (codes "pendingDelete") rows.now) }
 {
-    has_rgp(rows, "pendingDelete") || has_status(rows, "pendingDelete")
+    has_rgp(rows, "pendingDelete") || is_pending_delete_of_epp(rows)
 }
 
 /// What keeps a domain with these child rows out of the zone, if anything does.

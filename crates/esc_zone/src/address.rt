@@ -1,0 +1,72 @@
+//! Addresses of servers.
+
+use esc_bundle::NoMemory;
+use std::alloc::Global;
+use std::net::{IpAddr, Ipv4Addr, Ipv6Addr};
+
+/// An address as a row has it: its text, and the version that the row says.
+#[derive(Debug, Drop)]
+pub(crate) struct Said {
+    pub(crate) text: String,
+    pub(crate) version: String,
+}
+
+impl Said {
+    pub(crate) fn copy(&self, alloc: Global) -> Result<Said, NoMemory> {
+        Ok(Said {
+            text: String::from_str(alloc, self.text.as_str())?,
+            version: String::from_str(alloc, self.version.as_str())?,
+        })
+    }
+
+    /// The address of a server that the text is, or why it is none.
+    pub(crate) fn address(&self) -> Result<IpAddr, &'static str> {
+        match IpAddr::parse_ascii(self.text.as_bytes()) {
+            Ok(address) if is_servers(&address) => Ok(address),
+            Ok(_) => Err("an address of no server"),
+            Err(_) => Err("no address"),
+        }
+    }
+}
+
+fn is_servers_v4(address: &Ipv4Addr) -> bool {
+    !(address.is_loopback()
+        || address.is_unspecified()
+        || address.is_multicast()
+        || address.is_link_local())
+}
+
+fn is_servers_v6(address: &Ipv6Addr) -> bool {
+    !(address.is_loopback()
+        || address.is_unspecified()
+        || address.is_multicast()
+        || address.is_unicast_link_local()
+        || address.to_ipv4_mapped().is_some())
+}
+
+/// Whether an address may be one of a server: it is no loopback, unspecified, multicast, link-local
+/// or mapped address (RFC 6890).
+pub(crate) fn is_servers(address: &IpAddr) -> bool {
+    match address {
+        IpAddr::V4(v4) => is_servers_v4(v4),
+        IpAddr::V6(v6) => is_servers_v6(v6),
+    }
+}
+
+/// Whether one of these rows has an address of a server.
+pub(crate) fn has_address(rows: &[Said]) -> bool {
+    rows.iter().any(|row| row.address().is_ok())
+}
+
+/// The addresses of these rows: IPv4 first, by number, each once.
+pub(crate) fn addresses_of(alloc: Global, rows: &[Said]) -> Result<Vec<IpAddr>, NoMemory> {
+    let mut addresses = Vec::new(alloc);
+    for row in rows {
+        if let Ok(address) = row.address() {
+            addresses.push(address)?;
+        }
+    }
+    addresses.sort_unstable();
+    addresses.dedup();
+    Ok(addresses)
+}

@@ -1,0 +1,286 @@
+//! What is kept of a registry while its zone is made.
+
+use crate::address::{Said, has_address};
+use crate::apex::Apex;
+use crate::counts::Counts;
+use crate::fault::{Halt, Rule, refused};
+use crate::field::cell;
+use crate::name::Name;
+use crate::reading::{normal, server_in};
+use esc_bundle::NoMemory;
+use esc_envelope::Kind;
+use esc_tables::{Key, Row};
+use std::alloc::Global;
+use std::collections::{BTreeMap, BTreeSet};
+
+/// What the zone is to be.
+#[derive(Drop)]
+pub struct Settings {
+    pub origin: Name,
+    /// The TTL of the records of delegations.
+    pub ttl: u32,
+    /// Servers' names may have underscores.
+    pub has_underscores: bool,
+    /// Addresses of servers that are below no delegation are written.
+    pub has_orphan_glue: bool,
+}
+
+/// A server in the zone that a domain has, which its statuses let in.
+#[derive(Drop)]
+pub(crate) struct Server {
+    /// It is an object.
+    pub(crate) is_object: bool,
+    /// Its addresses: of the object, or of the domain that it is in.
+    pub(crate) rows: Vec<Said>,
+    /// The first name that has it in the zone.
+    pub(crate) user: Option<Name>,
+}
+
+/// An address that a domain's row says of a server.
+#[derive(Drop)]
+pub(crate) struct Attribute {
+    pub(crate) host: Name,
+    pub(crate) said: Said,
+}
+
+/// A name that matters to others: above a server or a domain, or the original of a mirrored name.
+#[derive(Drop)]
+pub(crate) struct Place {
+    pub(crate) is_domain: bool,
+    /// Nothing keeps the domain out by its statuses.
+    pub(crate) is_let_in: bool,
+    /// The domain has a server that is outside of the zone.
+    pub(crate) has_outside: bool,
+    /// The servers of the domain that are in the zone.
+    pub(crate) inside: Vec<Name>,
+    /// The addresses that it says of servers that it is at or above.
+    pub(crate) attributes: Vec<Attribute>,
+    /// No domain, but a name that has the servers of this original.
+    pub(crate) mirrors: Option<Name>,
+    /// It is the original of a mirrored name.
+    pub(crate) is_original: bool,
+    /// The servers that it has in the zone, if it is an original.
+    pub(crate) servers: Vec<Name>,
+    /// It is delegated.
+    pub(crate) is_cut: bool,
+}
+
+/// A zone while it is made.
+#[derive(Drop)]
+pub struct Draft {
+    pub(crate) alloc: Global,
+    pub(crate) settings: Settings,
+    pub(crate) apex: Apex,
+    pub(crate) servers: BTreeMap<Name, Server>,
+    pub(crate) places: BTreeMap<Name, Place>,
+    // Names of domains, and of those that are none, whose key is another text.
+    pub(crate) odd: BTreeSet<Name>,
+    pub(crate) odd_mirrors: BTreeSet<Name>,
+    pub(crate) counts: Counts,
+}
+
+pub(crate) fn empty_place(alloc: Global) -> Place {
+    Place {
+        is_domain: false,
+        is_let_in: false,
+        has_outside: false,
+        inside: Vec::new(alloc),
+        attributes: Vec::new(alloc),
+        mirrors: None,
+        is_original: false,
+        servers: Vec::new(alloc),
+        is_cut: false,
+    }
+}
+
+impl Draft {
+    /// A zone with the operator's records alone, so far.
+    pub fn new(alloc: Global, settings: Settings, apex: Apex) -> Result<Draft, Halt> {
+        let mut draft = Draft {
+            alloc,
+            settings,
+            apex,
+            servers: BTreeMap::new(alloc),
+            places: BTreeMap::new(alloc),
+            odd: BTreeSet::new(alloc),
+            odd_mirrors: BTreeSet::new(alloc),
+            counts: Counts::default(),
+        };
+        draft.counts.records = draft.apex.records();
+        draft.note_own_servers()?;
+        Ok(draft)
+    }
+
+    // Notes the zone's own servers that are in it and have no address in the operator's file.
+    fn note_own_servers(&mut self) -> Result<(), Halt> {
+        let mut wanted = Vec::new(self.alloc);
+        for name in self.apex.servers() {
+            if name.is_below(&self.settings.origin) && self.apex.addresses(name).is_none() {
+                wanted.push(name.copy(self.alloc)?)?;
+            }
+        }
+        for name in &wanted {
+            self.note_server(name)?;
+            let user = self.settings.origin.copy(self.alloc)?;
+            if let Some(server) = self.servers.get_mut(name) {
+                server.user = Some(user);
+            }
+        }
+        Ok(())
+    }
+
+    /// The counts so far.
+    pub fn counts(&self) -> &Counts {
+        &self.counts
+    }
+
+    /// The operator's lines.
+    pub fn apex_text(&self) -> &[u8] {
+        self.apex.text()
+    }
+
+    /// Whether a name is below the zone's.
+    pub(crate) fn is_inside(&self, name: &Name) -> bool {
+        name.is_below(&self.settings.origin) && *name != self.settings.origin
+    }
+
+    /// Notes a server in the zone, and the names at and above it.
+    pub(crate) fn note_server(&mut self, host: &Name) -> Result<(), NoMemory> {
+        if !self.servers.contains_key(host) {
+            let server = Server {
+                is_object: false,
+                rows: Vec::new(self.alloc),
+                user: None,
+            };
+            self.servers.insert(host.copy(self.alloc)?, server)?;
+        }
+        if self.is_inside(host) {
+            self.note_place(host.copy(self.alloc)?)?;
+        }
+        self.note_above(host)
+    }
+
+    /// Notes a name.
+    pub(crate) fn note_place(&mut self, name: Name) -> Result<(), NoMemory> {
+        if !self.places.contains_key(&name) {
+            self.places.insert(name, empty_place(self.alloc))?;
+        }
+        Ok(())
+    }
+
+    /// Notes the names above one, as far as they are in the zone.
+    pub(crate) fn note_above(&mut self, name: &Name) -> Result<(), NoMemory> {
+        let mut next = name.above(self.alloc)?;
+        while let Some(above) = next {
+            if !self.is_inside(&above) {
+                break;
+            }
+            next = above.above(self.alloc)?;
+            self.note_place(above)?;
+        }
+        Ok(())
+    }
+
+    /// The uppermost name at or above this one that is delegated, if there is one.
+    pub(crate) fn cut_of(&self, name: &Name) -> Result<Option<Name>, NoMemory> {
+        let mut found = None;
+        let mut next = Some(name.copy(self.alloc)?);
+        while let Some(above) = next {
+            if !self.is_inside(&above) {
+                break;
+            }
+            next = above.above(self.alloc)?;
+            if self.is_cut(&above) {
+                found = Some(above);
+            }
+        }
+        Ok(found)
+    }
+
+    fn is_cut(&self, name: &Name) -> bool {
+        self.places.get(name).is_some_and(|place| place.is_cut)
+    }
+
+    /// Whether the zone has an address of a server in it.
+    pub(crate) fn has_address(&self, host: &Name) -> Result<bool, NoMemory> {
+        if self.apex.addresses(host).is_some() {
+            return Ok(true);
+        }
+        if !self.has_own_address(host) {
+            return Ok(false);
+        }
+        Ok(self.settings.has_orphan_glue || self.cut_of(host)?.is_some())
+    }
+
+    // Whether a server in the zone has an address in the tables.
+    fn has_own_address(&self, host: &Name) -> bool {
+        self.servers
+            .get(host)
+            .is_some_and(|server| has_address(&server.rows))
+    }
+
+    /// Whether a server is outside of the zone, or has an address: so its domain is delegated.
+    pub(crate) fn is_reachable(&self, host: &Name) -> bool {
+        self.apex.addresses(host).is_some() || self.has_own_address(host)
+    }
+
+    /// Notes a name whose key is another text. Refused by `Z5` where it is noted already.
+    pub(crate) fn note_odd(&mut self, key: &Key, name: &Name) -> Result<(), Halt> {
+        if key.text.as_bytes() == name.as_bytes() {
+            return Ok(());
+        }
+        let copy = name.copy(self.alloc)?;
+        let odd = match key.kind {
+            Kind::Domain => &mut self.odd,
+            _ => &mut self.odd_mirrors,
+        };
+        if odd.contains(name) {
+            return Err(twice(self.alloc, key.kind, name));
+        }
+        odd.insert(copy)?;
+        Ok(())
+    }
+
+    /// Refused by `Z5` where a name that is its key is that of another key, too.
+    pub(crate) fn check_odd(&self, key: &Key, name: &Name) -> Result<(), Halt> {
+        let odd = match key.kind {
+            Kind::Domain => &self.odd,
+            _ => &self.odd_mirrors,
+        };
+        if key.text.as_bytes() == name.as_bytes() && odd.contains(name) {
+            return Err(twice(self.alloc, key.kind, name));
+        }
+        Ok(())
+    }
+
+    /// The name of a server with this normal text, if it is one.
+    pub(crate) fn server_named(&self, text: &str) -> Result<Option<Name>, NoMemory> {
+        server_in(self.alloc, text, self.settings.has_underscores)
+    }
+}
+
+/// The refusal of two objects with one name.
+pub(crate) fn twice(alloc: Global, kind: Kind, name: &Name) -> Halt {
+    let (kind, name) = (kind.name(), name.text());
+    refused(
+        Rule::Twice,
+        format!(in alloc; "{kind} {name}: two objects have this name"),
+    )
+}
+
+/// The servers that these child rows of a domain have: normal texts, in order, each once.
+pub(crate) fn servers_of(alloc: Global, rows: &[Row]) -> Result<Vec<String>, NoMemory> {
+    let mut servers = Vec::new(alloc);
+    for row in rows {
+        if row.table() != "domainNs" && row.table() != "domainHostAttr" {
+            continue;
+        }
+        let text = cell(row, "hostName");
+        if !text.is_empty() {
+            servers.push(normal(alloc, text)?)?;
+        }
+    }
+    servers.sort_unstable();
+    servers.dedup();
+    Ok(servers)
+}
