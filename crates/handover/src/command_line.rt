@@ -2,6 +2,7 @@
 
 use crate::store_file::{Task, use_store};
 use crate::tables::Tabling;
+use crate::zone::Zoning;
 use clap::builder::ValueParser;
 use clap::{ArgMatches, Error};
 use esc_cli::{Argument, ArgumentForm, Asked, Program, Subcommand, USAGE, print_answer};
@@ -25,9 +26,9 @@ H4 TABLE (rows of this table have different fields), H5 TABLE (no field has the 
 this table), H6 TABLE (its rows begin with a byte order mark), H7 (there is no chain yet), H8 OUT
 (the bundle reads as other objects), H9 TABLE (another table has the same name but for case), H10
 TABLE (SQLite can't have this table: two of its columns have the same name but for case, it has over
-2,000 of them, or its name begins with sqlite_). With -v a second line says why it is E or S: why:
-check desk.db: locked by another process.
-Status: 0 done; 1 refused by U or H, or by a test of check; 2 invalid usage; 3 stopped by S or E1.
+2,000 of them, or its name begins with sqlite_); Z1 to Z7 (`handover zone --help`). With -v a second
+line says why it is E or S: why: check desk.db: locked by another process.
+Status: 0 done; 1 refused by U, H or Z, or by a test of check; 2 invalid usage; 3 stopped by S or E1.
 ";
 
 const BUNDLE: &str = "\
@@ -81,6 +82,32 @@ line for each file that is written. Example:
 
     handover tables --store desk.db --sqlite registry
     sqlite3 registry/registry.sqlite 'SELECT hostName, count(*) FROM domainNs GROUP BY hostName'
+";
+
+const ZONE: &str = "\
+The zone of the registry's top-level domain is written, without signatures: the operator's records,
+and what the tables delegate. N is the serial of its SOA, above the last that was published. The
+operator's file has a record a line, NAME. TTL IN TYPE DATA, and no escapes: the SOA first, with the
+word SERIAL in the place of its serial, then the NS of the zone, and what else it has of its own.
+
+A domain is left out by clientHold, serverHold, pendingCreate, redemptionPeriod, pendingRestore,
+pendingDelete or inactive, and without a server. Servers in the zone have their addresses beside
+them, of host objects, or of the domain that they are in. DS are those of secDNS; where it has keys
+alone they are made, by SHA-256. Mirrored names have the servers of their originals.
+
+Standard output has counts. Standard error has a line for each thing that is left out though the
+registry would have it, or that is odd: left out, server, address, DS, glue, status; and what the
+old DS in the root asks for before the zone is published. Refused, with nothing written:
+
+Z1  TLD is no name, or has capital letters       Z5  two objects have one name
+Z2  N is no serial                               Z6  the operator's file has what a domain is
+Z3  the operator's file begins no zone           Z7  no domain is delegated
+Z4  a table or field that is wanted has another name
+
+OUT.part is written, which becomes OUT when it is whole. Example:
+
+    handover zone --store desk.db --origin example --apex apex.txt --serial 2024030401 example.zone
+    named-checkzone -k fail example example.zone
 ";
 
 const PAGE: &str = "\
@@ -156,6 +183,62 @@ static PROGRAM: Program = Program {
             ],
         },
         Subcommand {
+            name: "zone",
+            about: "Writes the zone of the registry's top-level domain, without signatures",
+            details: Some(ZONE),
+            arguments: &[
+                Argument {
+                    id: "origin",
+                    form: ArgumentForm::Option,
+                    value_name: "TLD",
+                    values: ValueParser::String,
+                    help: "The name of the zone, in small letters, without a dot at its end",
+                },
+                Argument {
+                    id: "apex",
+                    form: ArgumentForm::Option,
+                    value_name: "FILE",
+                    values: ValueParser::String,
+                    help: "The operator's own records: SOA, NS and others",
+                },
+                Argument {
+                    id: "serial",
+                    form: ArgumentForm::Option,
+                    value_name: "N",
+                    values: ValueParser::String,
+                    help: "The serial of the SOA, 1 to 4294967295",
+                },
+                Argument {
+                    id: "day",
+                    form: ArgumentForm::Flag,
+                    value_name: "",
+                    values: ValueParser::Bool,
+                    help: "The TTL of delegations is a day (86400), not an hour (3600)",
+                },
+                Argument {
+                    id: "underscores",
+                    form: ArgumentForm::Flag,
+                    value_name: "",
+                    values: ValueParser::Bool,
+                    help: "Servers' names may have underscores",
+                },
+                Argument {
+                    id: "no-orphan-glue",
+                    form: ArgumentForm::Flag,
+                    value_name: "",
+                    values: ValueParser::Bool,
+                    help: "Leaves out servers in the zone that are below no delegation",
+                },
+                Argument {
+                    id: "target",
+                    form: ArgumentForm::Word,
+                    value_name: "OUT",
+                    values: ValueParser::String,
+                    help: "Where the zone is written; nothing may be there",
+                },
+            ],
+        },
+        Subcommand {
             name: "tables",
             about: "Writes the tables as CSV files, and as an SQLite database if asked for",
             details: Some(TABLES),
@@ -216,7 +299,7 @@ fn perform<O: Write>(rt: &HostRuntime, command: Command<'_>, out: &mut O) -> Res
     }
     let made = use_store(rt, store, is_watched, task)?;
     match task {
-        Task::Check => or_stop(rt, "-", out.write_all(&made.text))?,
+        Task::Check | Task::Zone(_) => or_stop(rt, "-", out.write_all(&made.text))?,
         Task::Page { path } | Task::Bundle { path, .. } => place_file(rt, path, &made.text)?,
         Task::Tables(_) => {}
     }
@@ -251,6 +334,7 @@ fn task_of<'a>(rt: &'a HostRuntime, name: &str, given: &ArgMatches<'a>) -> Optio
             id: given.get_str("id")?,
             path: given.get_str("target")?,
         }),
+        "zone" => Some(Task::Zone(zoning_of(rt, given)?)),
         "tables" => Some(Task::Tables(Tabling {
             rt,
             folder: given.get_str("folder")?,
@@ -258,6 +342,19 @@ fn task_of<'a>(rt: &'a HostRuntime, name: &str, given: &ArgMatches<'a>) -> Optio
         })),
         _ => None,
     }
+}
+
+fn zoning_of<'a>(rt: &'a HostRuntime, given: &ArgMatches<'a>) -> Option<Zoning<'a>> {
+    Some(Zoning {
+        rt,
+        origin: given.get_str("origin")?,
+        apex: given.get_str("apex")?,
+        serial: given.get_str("serial")?,
+        path: given.get_str("target")?,
+        has_day: given.get_flag("day"),
+        has_underscores: given.get_flag("underscores"),
+        has_orphan_glue: !given.get_flag("no-orphan-glue"),
+    })
 }
 
 // Prints the help or the version that was asked for, or what is wrong with the words. Returns the

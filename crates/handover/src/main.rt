@@ -9,6 +9,8 @@
 //! - `handover tables --store FILE DIR` writes the tables as CSV files
 //!   ([`esc_handover::write_table`], whose contract states the whole text), and with `--sqlite` as
 //!   a database.
+//! - `handover zone --store FILE --origin TLD --apex FILE --serial N OUT` writes the zone of the
+//!   registry's top-level domain ([`esc_zone`], whose page has the forms of lines and refusals).
 //! - `handover page --store FILE OUT` writes a page of HTML that shows the release and the registry
 //!   ([`esc_handover::page_of`], whose contract says that it loads and runs nothing, and that each
 //!   text is escaped).
@@ -22,9 +24,9 @@
 //! for one whose key is in no field, `H6 TABLE` for one whose rows begin with a byte order mark,
 //! `H7` for a store without a chain, `H8 OUT` where the bundle that was made reads as other
 //! objects, `H9 TABLE` for two tables with the same name but for case, and `H10 TABLE` for a table
-//! that SQLite can't have. The status is 0 where all went well; 1 for U and H, and where a test of
-//! `check` is wrong; 2 for invalid usage; 3 for S and E1. With `--progress` standard error says how
-//! far the work is, with `--verbose` why it is S or E1.
+//! that SQLite can't have. `Z1` to `Z7` are those of `zone`. The status is 0 where all went well; 1
+//! for U, H and Z, and where a test of `check` is wrong; 2 for invalid usage; 3 for S and E1. With
+//! `--progress` standard error says how far the work is, with `--verbose` why it is S or E1.
 //!
 //! | Module | Does |
 //! |---|---|
@@ -33,6 +35,7 @@
 //! | `bundle` | `bundle`: the tables as one deposit |
 //! | `check` | `check` and `page`: what is seen of a store |
 //! | `tables` | `tables`: the tables as files |
+//! | `zone` | `zone`: the zone as a file |
 //!
 //! What needs no desk is in [`esc_handover`]: what the bodies of a store say, texts and pages, how
 //! files, folders and a database are written, how it is told how far the work is, and what the
@@ -48,6 +51,7 @@ mod command_line;
 mod store_file;
 mod tables;
 mod walking;
+mod zone;
 
 use command_line::run_words;
 use esc_cli::{Asked, given_words, print_invalid_utf8};

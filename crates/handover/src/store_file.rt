@@ -3,6 +3,7 @@
 use crate::bundle::tables_bundle;
 use crate::check::acceptance;
 use crate::tables::{Tabling, write_tables};
+use crate::zone::{Zoning, write_zone};
 use esc_desk::Reads;
 use esc_handover::{Answer, Form, Progress, Stop, unopened_stop};
 use esc_recovery::{PathFault, reader_at};
@@ -18,6 +19,8 @@ pub enum Task<'a> {
     Check,
     /// Nothing: its tables are written as files.
     Tables(Tabling<'a>),
+    /// The counts of its zone, which is written to a file.
+    Zone(Zoning<'a>),
     /// A page that shows it, which is to be at this path.
     Page { path: &'a str },
 }
@@ -51,6 +54,7 @@ fn perform<R: Reads>(
         Task::Check => acceptance(alloc, reader, Form::Lines, progress),
         Task::Page { .. } => acceptance(alloc, reader, Form::Page, progress),
         Task::Tables(words) => write_tables(reader, words, progress),
+        Task::Zone(words) => write_zone(reader, words, progress),
     }
 }
 
