@@ -1,2 +1,3 @@
 mod Cells
 mod Lines
+mod Wire

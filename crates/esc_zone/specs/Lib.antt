@@ -1,3 +1,4 @@
+pub mod Delegations
 pub mod Fields
 pub mod Names
 pub mod Records

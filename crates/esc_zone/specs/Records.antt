@@ -1,5 +1,6 @@
 -- The records of the zone, and their lines (RFC 1035, section 5.1).
-use Rattle.std.specs.Prelude.{◌≡◌, ⊤, true, ℕ, List, [], ◌∷◌, ◌++◌, All, codes}
+use Rattle.std.specs.Prelude.{◌≡◌, ⊤, true, ℕ, List, ◌++◌, All, Option, codes}
+use Rattle.std.specs.Io.KnownBytes.{Appends}
 use Rattle.std.specs.List.{flat_map}
 use Rattle.std.specs.Fmt.{decimal}
 use Rattle.std.specs.Net.Addr.{ipv4_octets, ipv6_segments}
@@ -16,9 +17,10 @@ pub data Data : Type 0 where
   signer : Ds → Data
   address : IpAddr → Data
 
--- a name, and what is said of it
+-- a name, a TTL, and what is said of the name
 pub record RecordValue : Type 0 where
   pub owner : List ℕ
+  pub ttl : ℕ
   pub said : Data
 
 -- a DS as it is written
@@ -37,9 +39,9 @@ data_text (address (V6 a)) = codes "AAAA " ++ ipv6_text (ipv6_segments a)
 abbrev pub line_text : ℕ → List ℕ → List ℕ → List ℕ
 line_text ttl owner said = owner ++ codes ". " ++ decimal ttl ++ codes " IN " ++ said ++ codes "\n"
 
--- the line of a record with this TTL
-abbrev pub record_text : ℕ → RecordValue → List ℕ
-record_text ttl r = line_text ttl r.owner (data_text r.said)
+-- the line of a record
+abbrev pub record_text : RecordValue → List ℕ
+record_text r = line_text r.ttl r.owner (data_text r.said)
 
 -- the names of a record are names
 abbrev pub HasNames : Data → Type 0
@@ -56,11 +58,17 @@ pub record IsRecord (r : RecordValue) : Type 0 where
   pub owner : is_name r.owner ≡ true
   pub names : HasNames r.said
 
--- the text is the lines of records with this TTL
-pub record AreLines (ttl : ℕ) (text : List ℕ) : Type 0 where
+-- the text is the lines of records
+pub record AreLines (text : List ℕ) : Type 0 where
   pub records : List RecordValue
   pub each : All IsRecord records
-  pub lines : flat_map (record_text ttl) records ≡ text
+  pub lines : flat_map record_text records ≡ text
+
+-- what is known of a writer's bytes grew by lines of records
+pub record AppendsLines (before after : Option (List ℕ)) : Type 0 where
+  pub text : List ℕ
+  pub grown : Appends before after text
+  pub lines : AreLines text
 
 -- the TTL of records, and their lines
 pub record RecordsValue : Type 0 where

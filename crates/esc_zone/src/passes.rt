@@ -1,5 +1,8 @@
 //! The passes over the objects of a registry.
 
+ghost use Rattle.std.specs.Prelude.{OnOk};
+ghost use Rattle.esc_zone.specs.Records.{AppendsLines};
+
 use crate::draft::Draft;
 use crate::fault::{Halt, ZoneFault};
 use crate::sheet::Sheet;
@@ -53,7 +56,9 @@ impl Draft {
         objects: &mut O,
         zone: &mut Z,
         told: &mut T,
-    ) -> Result<(), ZoneFault<O::Error>> {
+    ) -> Result<(), ZoneFault<O::Error>>
+        ensures { OnOk result (AppendsLines (Z.contents zone.old) (Z.contents zone.new)) }
+    {
         let mut sheet = Sheet::new(self.alloc, self.settings.ttl);
         while let Some((key, object)) = objects.next().map_err(ZoneFault::Source)? {
             self.write_domain(&key, &object, &mut sheet)?;
@@ -68,7 +73,9 @@ impl Draft {
         objects: &mut O,
         zone: &mut Z,
         told: &mut T,
-    ) -> Result<(), ZoneFault<O::Error>> {
+    ) -> Result<(), ZoneFault<O::Error>>
+        ensures { OnOk result (AppendsLines (Z.contents zone.old) (Z.contents zone.new)) }
+    {
         let mut sheet = Sheet::new(self.alloc, self.settings.ttl);
         while let Some((key, object)) = objects.next().map_err(ZoneFault::Source)? {
             self.write_mirror(&key, &object, &mut sheet)?;
@@ -82,7 +89,9 @@ impl Draft {
         &mut self,
         zone: &mut Z,
         told: &mut T,
-    ) -> Result<(), ZoneFault<E>> {
+    ) -> Result<(), ZoneFault<E>>
+        ensures { OnOk result (AppendsLines (Z.contents zone.old) (Z.contents zone.new)) }
+    {
         let mut sheet = Sheet::new(self.alloc, self.settings.ttl);
         let servers = self.take_servers();
         for (host, server) in &servers {

@@ -1,5 +1,10 @@
 //! What is written: domains, mirrored names, and glue.
 
+ghost use Rattle.std.specs.Prelude.{◌≡◌, ◌++◌, ◌==◌, List, length, OnOk, IfOk, IsSome, IfSome};
+ghost use Rattle.esc_zone.specs.declared.signer.Ds.{Ds};
+ghost use Rattle.esc_zone.specs.Statuses.{hold_of};
+ghost use Rattle.esc_zone.specs.Delegations.{server_lines, signer_lines, Delegates, kept_out};
+
 use crate::address::{Said, addresses_of};
 use crate::counts::{Outcome, add};
 use crate::draft::{Draft, Server, servers_of};
@@ -28,7 +33,10 @@ impl Draft {
         key: &Key,
         object: &Object,
         sheet: &mut Sheet,
-    ) -> Result<(), Halt> {
+    ) -> Result<(), Halt>
+        ensures kept_out { OnOk result (IsSome (hold_of object.now.children)
+            → sheet.new.records ≡ sheet.old.records) }
+    {
         let text = normal(self.alloc, key.text.as_str())?;
         tell_statuses(self.alloc, sheet, text.as_str(), &object.children)?;
         let servers = servers_of(self.alloc, &object.children)?;
@@ -51,7 +59,12 @@ impl Draft {
         servers: &[String],
         rows: &[Row],
         sheet: &mut Sheet,
-    ) -> Result<Outcome, Halt> {
+    ) -> Result<Outcome, Halt>
+        ensures delegated { IfOk result (λ it. it ≡ Outcome.Delegated
+            → Delegates text.now sheet.old.records sheet.new.records) }
+        ensures other { IfOk result (λ it. (it ≡ Outcome.Delegated → ⊥)
+            → sheet.new.records ≡ sheet.old.records) }
+    {
         let Some(name) = self.name_for(text, sheet)? else {
             return Ok(Outcome::NoName);
         };
@@ -67,7 +80,10 @@ impl Draft {
     }
 
     // The name that a text is, if it has its place in the zone; else it is told why not.
-    fn name_for(&self, text: &str, sheet: &mut Sheet) -> Result<Option<Name>, NoMemory> {
+    fn name_for(&self, text: &str, sheet: &mut Sheet) -> Result<Option<Name>, NoMemory>
+        ensures same { sheet.new.records ≡ sheet.old.records }
+        ensures name { IfOk result (λ n. IfSome n (λ it. it ≡ text.now)) }
+    {
         let Some(name) = name_in(self.alloc, text, false)? else {
             self.leave_out_text(text, sheet)?;
             return Ok(None);
@@ -89,7 +105,9 @@ impl Draft {
     }
 
     // Tells why a text that is no name is left out: it may be outside of the zone, too.
-    fn leave_out_text(&self, text: &str, sheet: &mut Sheet) -> Result<(), NoMemory> {
+    fn leave_out_text(&self, text: &str, sheet: &mut Sheet) -> Result<(), NoMemory>
+        ensures { sheet.new.records ≡ sheet.old.records }
+    {
         let end = format!(in self.alloc; ".{}", self.settings.origin.text())?;
         if text.ends_with(end.as_str()) {
             return sheet.leave_out(text, fault_of(text, false));
@@ -97,7 +115,9 @@ impl Draft {
         self.leave_out_outside(text, sheet)
     }
 
-    fn leave_out_outside(&self, text: &str, sheet: &mut Sheet) -> Result<(), NoMemory> {
+    fn leave_out_outside(&self, text: &str, sheet: &mut Sheet) -> Result<(), NoMemory>
+        ensures { sheet.new.records ≡ sheet.old.records }
+    {
         let why = format!(in self.alloc; "not below {}", self.settings.origin.text())?;
         sheet.leave_out(text, why)
     }
@@ -116,7 +136,9 @@ impl Draft {
         name: &Name,
         servers: &[String],
         sheet: &mut Sheet,
-    ) -> Result<Vec<Name>, NoMemory> {
+    ) -> Result<Vec<Name>, NoMemory>
+        ensures { sheet.new.records ≡ sheet.old.records }
+    {
         let mut written = Vec::new(self.alloc);
         for text in servers {
             match self.server_named(text.as_str())? {
@@ -136,7 +158,9 @@ impl Draft {
     }
 
     // Whether a server of a domain is written; if not, or if it has no glue here, it is told why.
-    fn is_used(&self, name: &Name, host: &Name, sheet: &mut Sheet) -> Result<bool, NoMemory> {
+    fn is_used(&self, name: &Name, host: &Name, sheet: &mut Sheet) -> Result<bool, NoMemory>
+        ensures { sheet.new.records ≡ sheet.old.records }
+    {
         let is_inside = host.is_below(&self.settings.origin);
         let has_address = is_inside && self.has_address(host)?;
         let cut = if is_inside && !has_address {
@@ -167,7 +191,11 @@ impl Draft {
         name: &Name,
         servers: &[Name],
         sheet: &mut Sheet,
-    ) -> Result<(), Halt> {
+    ) -> Result<(), Halt>
+        ensures { OnOk result (sheet.new.records ≡ record sheet.old.records {
+            text = sheet.old.records.text
+            ++ server_lines sheet.old.records.ttl name.now servers.now }) }
+    {
         self.check_apex(name)?;
         for server in servers {
             sheet.records.add_server(name, server)?;
@@ -205,7 +233,11 @@ impl Draft {
     }
 
     // Writes the DS of a domain, in order, each once. Of rows that give none it is told why.
-    fn write_signers(&mut self, name: &Name, rows: &[Row], sheet: &mut Sheet) -> Result<(), Halt> {
+    fn write_signers(&mut self, name: &Name, rows: &[Row], sheet: &mut Sheet) -> Result<(), Halt>
+        ensures { OnOk result ((signers : List Ds) × (sheet.new.records ≡ record sheet.old.records {
+            text = sheet.old.records.text
+            ++ signer_lines sheet.old.records.ttl name.now signers })) }
+    {
         let mut signers: Vec<Ds> = Vec::new(self.alloc);
         for row in rows {
             if row.table() == "secDNS" {
@@ -244,7 +276,9 @@ impl Draft {
     }
 
     // Tells of the addresses that a domain says of servers that are in another domain.
-    fn tell_foreign(&self, text: &str, rows: &[Row], sheet: &mut Sheet) -> Result<(), Halt> {
+    fn tell_foreign(&self, text: &str, rows: &[Row], sheet: &mut Sheet) -> Result<(), Halt>
+        ensures { sheet.new.records ≡ sheet.old.records }
+    {
         for row in rows {
             if let Some(attribute) = self.attribute_in(row)? {
                 let host = &attribute.host;
@@ -288,7 +322,9 @@ impl Draft {
     }
 
     // Tells that a name is mirrored in another way.
-    fn leave_out_other(&self, text: &str, value: &str, sheet: &mut Sheet) -> Result<(), Halt> {
+    fn leave_out_other(&self, text: &str, value: &str, sheet: &mut Sheet) -> Result<(), Halt>
+        ensures { sheet.new.records ≡ sheet.old.records }
+    {
         if self.is_domain_text(text)? {
             return Ok(sheet.leave_out(text, "it is a domain too")?);
         }
@@ -417,7 +453,9 @@ impl Draft {
 }
 
 // What keeps a domain with these child rows and servers out, before its name is looked at.
-fn kept_out(rows: &[Row], servers: &[String]) -> Option<Outcome> {
+fn kept_out(rows: &[Row], servers: &[String]) -> Option<Outcome>
+    ensures { result ≡ kept_out (hold_of rows.now) (length servers.now == 0) }
+{
     match hold_of(rows) {
         Some(hold) => Some(Outcome::Kept(hold)),
         None if servers.is_empty() => Some(Outcome::WithoutServers),
@@ -432,7 +470,9 @@ fn tell_kept(
     text: &str,
     outcome: Outcome,
     given: (&Row, &[String]),
-) -> Result<(), NoMemory> {
+) -> Result<(), NoMemory>
+    ensures { sheet.new.records ≡ sheet.old.records }
+{
     let (parent, servers) = given;
     let is_inactive = outcome == Outcome::Kept(Hold::Inactive);
     if is_inactive && !servers.is_empty() {
@@ -461,7 +501,9 @@ fn tell_faults(
     sheet: &mut Sheet,
     host: &Name,
     rows: &[Said],
-) -> Result<(), NoMemory> {
+) -> Result<(), NoMemory>
+    ensures { sheet.new.records ≡ sheet.old.records }
+{
     for row in rows {
         match row.address() {
             Ok(address) => tell_version(alloc, sheet, host, row, &address)?,
@@ -478,7 +520,9 @@ fn tell_version(
     host: &Name,
     row: &Said,
     address: &IpAddr,
-) -> Result<(), NoMemory> {
+) -> Result<(), NoMemory>
+    ensures { sheet.new.records ≡ sheet.old.records }
+{
     let is = if address.is_ipv4() { "v4" } else { "v6" };
     let declared = row.version.as_str();
     if declared == is || declared.is_empty() && address.is_ipv4() {

@@ -1,5 +1,7 @@
 //! Names as the tables have them.
 
+ghost use Rattle.std.specs.Prelude.{◌≡◌, IfOk, IfSome};
+
 use crate::fault::{Halt, Rule, refused};
 use crate::name::{LONGEST_LABEL, LONGEST_NAME, Name, is_label};
 use esc_bundle::NoMemory;
@@ -54,7 +56,9 @@ pub(crate) fn name_in(
     alloc: Global,
     text: &str,
     has_underscores: bool,
-) -> Result<Option<Name>, NoMemory> {
+) -> Result<Option<Name>, NoMemory>
+    ensures { IfOk result (λ n. IfSome n (λ it. it ≡ text.now)) }
+{
     match Name::from_bytes(alloc, text.as_bytes())? {
         Some(name) if has_underscores || !name.has_underscore() => Ok(Some(name)),
         _ => Ok(None),

@@ -2,7 +2,7 @@
 
 ghost use Rattle.std.specs.Prelude.{◌≡◌, [], ◌++◌, OnOk, IfOk, string_bytes};
 ghost use Rattle.std.specs.Fmt.{decimal};
-ghost use Rattle.esc_zone.specs.Records.{record_text, data_text, line_text, IsSaid};
+ghost use Rattle.esc_zone.specs.Records.{record_text, data_text, line_text, IsSaid, AreLines};
 ghost use Rattle.esc_zone.specs.Records.Data.{server, signer, address};
 
 use crate::name::Name;
@@ -13,7 +13,7 @@ use std::marker::Model;
 use std::net::IpAddr;
 
 /// Lines of records with one TTL: name servers, DS and addresses. Contracts see the TTL and the
-/// text, which is the lines of records whose names are [`Name`]s, and nothing else.
+/// text, which is lines of records whose names are [`Name`]s, and nothing else.
 #[derive(Drop)]
 pub struct Records {
     alloc: Global,
@@ -28,7 +28,7 @@ impl Model for Records {
 
     ghost view = { λ r. record { ttl = r.ttl; text = r.bytes.items } };
 
-    ghost invariant = { λ r. AreLines r.ttl r.bytes.items };
+    ghost invariant = { λ r. AreLines r.bytes.items };
 }
 
 // Adds bytes as they are.
@@ -99,7 +99,8 @@ impl Records {
 
     /// The lines.
     pub fn as_bytes(&self) -> &[u8]
-        ensures { result.now ≡ self.now.text }
+        ensures value { result.now ≡ self.now.text }
+        ensures lines { AreLines self.now.text }
     {
         &self.bytes
     }
@@ -125,7 +126,7 @@ impl Records {
     /// Adds that a name has this name server.
     pub fn add_server(&mut self, owner: &Name, name: &Name) -> Result<(), NoMemory>
         ensures { OnOk result (self.new ≡ record self.old { text = self.old.text
-            ++ record_text self.old.ttl (record { owner = owner.now; said = server name.now }) }) }
+            ++ record_text (record { owner = owner.now; ttl = self.old.ttl; said = server name.now }) }) }
     {
         let said = server_text(self.alloc, name.as_bytes())?;
         self.add(owner, &said)
@@ -134,7 +135,7 @@ impl Records {
     /// Adds a DS of a name.
     pub fn add_ds(&mut self, owner: &Name, ds: &Ds) -> Result<(), NoMemory>
         ensures { OnOk result (self.new ≡ record self.old { text = self.old.text
-            ++ record_text self.old.ttl (record { owner = owner.now; said = signer ds.now }) }) }
+            ++ record_text (record { owner = owner.now; ttl = self.old.ttl; said = signer ds.now }) }) }
     {
         let said = ds_text(self.alloc, ds)?;
         self.add(owner, said.as_bytes())
@@ -143,7 +144,7 @@ impl Records {
     /// Adds an address of a server.
     pub fn add_address(&mut self, host: &Name, at: &IpAddr) -> Result<(), NoMemory>
         ensures { OnOk result (self.new ≡ record self.old { text = self.old.text
-            ++ record_text self.old.ttl (record { owner = host.now; said = address at.now }) }) }
+            ++ record_text (record { owner = host.now; ttl = self.old.ttl; said = address at.now }) }) }
     {
         let said = address_text(self.alloc, at)?;
         self.add(host, said.as_bytes())

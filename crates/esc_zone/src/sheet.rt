@@ -1,5 +1,8 @@
 //! What is written for one object: records, and lines of what is told.
 
+ghost use Rattle.std.specs.Prelude.{◌≡◌, OnOk};
+ghost use Rattle.esc_zone.specs.Records.{AppendsLines};
+
 use crate::name::Name;
 use crate::records::Records;
 use esc_bundle::NoMemory;
@@ -25,7 +28,9 @@ impl Sheet {
     }
 
     /// Tells that a name is left out, and why.
-    pub(crate) fn leave_out<D: Display + Drop>(&mut self, name: &str, why: D) -> Result<(), NoMemory> {
+    pub(crate) fn leave_out<D: Display + Drop>(&mut self, name: &str, why: D) -> Result<(), NoMemory>
+        ensures { self.new.records ≡ self.old.records }
+    {
         Ok(writeln!(self.told, "left out {} {why}", OneLine(name))?)
     }
 
@@ -35,7 +40,9 @@ impl Sheet {
         name: &Name,
         server: &str,
         what: D,
-    ) -> Result<(), NoMemory> {
+    ) -> Result<(), NoMemory>
+        ensures { self.new.records ≡ self.old.records }
+    {
         let (name, server) = (name.text(), OneLine(server));
         Ok(writeln!(self.told, "server {name} {server}: {what}")?)
     }
@@ -46,13 +53,17 @@ impl Sheet {
         name: &str,
         text: &str,
         what: D,
-    ) -> Result<(), NoMemory> {
+    ) -> Result<(), NoMemory>
+        ensures { self.new.records ≡ self.old.records }
+    {
         let (name, text) = (OneLine(name), OneLine(text));
         Ok(writeln!(self.told, "status {name} {text} {what}")?)
     }
 
     /// Tells that a DS is left out, and why.
-    pub(crate) fn leave_out_ds<D: Display + Drop>(&mut self, name: &Name, why: D) -> Result<(), NoMemory> {
+    pub(crate) fn leave_out_ds<D: Display + Drop>(&mut self, name: &Name, why: D) -> Result<(), NoMemory>
+        ensures { self.new.records ≡ self.old.records }
+    {
         let name = name.text();
         Ok(writeln!(self.told, "DS {name} left out: {why}")?)
     }
@@ -63,20 +74,26 @@ impl Sheet {
         host: &Name,
         text: &str,
         what: D,
-    ) -> Result<(), NoMemory> {
+    ) -> Result<(), NoMemory>
+        ensures { self.new.records ≡ self.old.records }
+    {
         let (host, text) = (host.text(), OneLine(text));
         Ok(writeln!(self.told, "address {host} {text}: {what}")?)
     }
 
     /// Tells that the operator's file has other addresses of a server.
-    pub(crate) fn tell_others(&mut self, host: &Name) -> Result<(), NoMemory> {
+    pub(crate) fn tell_others(&mut self, host: &Name) -> Result<(), NoMemory>
+        ensures { self.new.records ≡ self.old.records }
+    {
         let host = host.text();
         let what = "the operator's file has others, which are taken";
         Ok(writeln!(self.told, "address {host} {what}")?)
     }
 
     /// Tells of glue that is below no delegation.
-    pub(crate) fn tell_orphan(&mut self, host: &Name, user: &Name) -> Result<(), NoMemory> {
+    pub(crate) fn tell_orphan(&mut self, host: &Name, user: &Name) -> Result<(), NoMemory>
+        ensures { self.new.records ≡ self.old.records }
+    {
         let (host, user) = (host.text(), user.text());
         Ok(writeln!(
             self.told,
@@ -86,7 +103,9 @@ impl Sheet {
 
     /// Writes the records to the zone, and what is told as far as it can be written, and leaves
     /// nothing.
-    pub(crate) fn send<Z: Write, T: Write>(&mut self, zone: &mut Z, told: &mut T) -> io::Result<()> {
+    pub(crate) fn send<Z: Write, T: Write>(&mut self, zone: &mut Z, told: &mut T) -> io::Result<()>
+        ensures { OnOk result (AppendsLines (Z.contents zone.old) (Z.contents zone.new)) }
+    {
         zone.write_all(self.records.as_bytes())?;
         self.records.clear();
         let _ = told.write_all(self.told.as_bytes());

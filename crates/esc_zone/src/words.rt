@@ -1,5 +1,7 @@
 //! What is told of the words of statuses.
 
+ghost use Rattle.std.specs.Prelude.{◌≡◌};
+
 use crate::field::{cell, is_same_word};
 use crate::sheet::Sheet;
 use crate::status::{has_rgp, is_held, is_pending_delete_of_epp};
@@ -49,7 +51,9 @@ pub(crate) fn tell_statuses(
     sheet: &mut Sheet,
     name: &str,
     rows: &[Row],
-) -> Result<(), NoMemory> {
+) -> Result<(), NoMemory>
+    ensures { sheet.new.records ≡ sheet.old.records }
+{
     for row in rows {
         if row.table() == "domainStatuses" {
             tell_word(alloc, sheet, name, ("status", cell(row, "status")), &STATUSES)?;
@@ -68,7 +72,9 @@ fn tell_word(
     name: &str,
     given: (&str, &str),
     words: &[&str],
-) -> Result<(), NoMemory> {
+) -> Result<(), NoMemory>
+    ensures { sheet.new.records ≡ sheet.old.records }
+{
     let (field, text) = given;
     if text.is_empty() || words.iter().any(|word| *word == text) {
         return Ok(());
@@ -88,7 +94,9 @@ fn tell_recovery(
     sheet: &mut Sheet,
     name: &str,
     rows: &[Row],
-) -> Result<(), NoMemory> {
+) -> Result<(), NoMemory>
+    ensures { sheet.new.records ≡ sheet.old.records }
+{
     let mut told = String::new(alloc);
     for word in RECOVERY {
         if has_rgp(rows, word) {
