@@ -1,3 +1,2 @@
 mod Cells
 mod Lines
-mod Wire

@@ -2,13 +2,12 @@
 -- appendix B; RFC 5910, section 4).
 use Rattle.std.specs.Prelude.{◌≡◌, ◌≢◌, true, ℕ, ◌+◌, ◌*◌, ◌/◌, ◌%◌, List, [], ◌∷◌, ◌++◌, length, Bool, ◌==◌, ◌&&◌}
 use Rattle.std.specs.Prelude.{not, nat_le, if◌then◌else◌, Option, Some, None, Result, Ok}
-use Rattle.std.specs.List.{list_all, flat_map, slice_split}
+use Rattle.std.specs.List.{list_all}
 use Rattle.std.specs.Char.{is_ascii_digit}
 use Rattle.std.specs.Str.Parse.{digits_value}
 use Rattle.hex.specs.Hex.{decode_of}
 use Rattle.sha2.specs.Sha256.{sha256}
 use Rattle.esc_zone.specs.declared.signer.Ds.{Ds}
-use Rattle.esc_zone.specs.Names.{is_dot}
 
 -- a number of 1 to 10 digits, and no more than `most`
 abbrev pub IsNumber : ℕ → List ℕ → ℕ → Type 0
@@ -29,14 +28,6 @@ pub record IsGivenDs (tag algorithm kind digest : List ℕ) (ds : Ds) : Type 0 w
   pub of_digest : decode_of digest ≡ Ok ds.digest.items
   pub whole : digest_length ds.kind ≡ Some (length ds.digest.items)
 
--- a label on the wire: its length and its bytes
-abbrev pub wire_label : List ℕ → List ℕ
-wire_label label = length label ∷ label
-
--- a name on the wire (RFC 1035, section 3.1)
-abbrev pub wire_name : List ℕ → List ℕ
-wire_name name = flat_map wire_label (slice_split is_dot name) ++ 0 ∷ []
-
 -- the data of a key's record (RFC 4034, section 2.1)
 abbrev pub key_data : ℕ → ℕ → List ℕ → List ℕ
 key_data flags algorithm key = (flags / 256) ∷ (flags % 256) ∷ 3 ∷ algorithm ∷ key
@@ -50,9 +41,9 @@ tag_sum at (b ∷ rest) = (if at % 2 == 0 then 256 * b else b) + tag_sum (at + 1
 abbrev pub key_tag : List ℕ → ℕ
 key_tag bytes = (tag_sum 0 bytes + tag_sum 0 bytes / 65536) % 65536
 
--- the DS of a name's key, by SHA-256
-pub record IsKeyDs (name : List ℕ) (flags algorithm : ℕ) (key : List ℕ) (ds : Ds) : Type 0 where
+-- the DS of a key, by SHA-256, of the name that is these bytes on the wire
+pub record IsKeyDs (wire : List ℕ) (flags algorithm : ℕ) (key : List ℕ) (ds : Ds) : Type 0 where
   pub of_tag : ds.tag ≡ key_tag (key_data flags algorithm key)
   pub of_algorithm : ds.algorithm ≡ algorithm
   pub of_kind : ds.kind ≡ 2
-  pub of_digest : ds.digest.items ≡ sha256 (wire_name name ++ key_data flags algorithm key)
+  pub of_digest : ds.digest.items ≡ sha256 (wire ++ key_data flags algorithm key)

