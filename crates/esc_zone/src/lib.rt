@@ -132,7 +132,22 @@
 //!
 //! # What the contracts mean
 //!
-//! To be written with the crate.
+//! Safe, and it ends: every function, whatever the objects and the operator's file are. By
+//! contract, too:
+//!
+//! - [`hold_of`] says which statuses keep a domain out, letters of either case; and a domain that
+//!   they keep out adds no record (`Draft::write_domain`, `kept_out`).
+//! - [`Records`] are lines of records alone, whose names are [`Name`]s: labels of `a-z 0-9 - _`. A
+//!   record says a name server, a [`Ds`] or an IP address, so no other byte of a deposit is in the
+//!   zone. Each pass over objects adds such lines to it, and nothing else (`write_domains`,
+//!   `write_mirrors`, `write_glue`).
+//! - A [`Ds`] is that of its row's texts, with the bytes that its type has; or that of its row's
+//!   key: tag, and SHA-256 of the name on the wire with the key's data (RFC 4034, section 5.1.4).
+//! - [`usage_of`] says which servers are written: those outside of the zone, those with an address,
+//!   and those that another delegation has.
+//!
+//! Tested alone: which servers and addresses a name has, what is told, and the operator's file.
+//! `specs/` has the definitions, by name: `Names`, `Statuses`, `Records`, `Signers`, `Usages`.
 #![tactic(auto)]
 
 mod address;

@@ -1,8 +1,9 @@
 //! DS records: those that a row has, and those that are made of its key.
 
-ghost use Rattle.std.specs.Prelude.{◌≡◌, ◌≢◌, ◌≤◌, ◌<◌, ◌+◌, ◌++◌, ◌∷◌, ◌^◌, IfOk, IfSome, OnOk, length, true};
+ghost use Rattle.std.specs.Prelude.{◌≡◌, ◌≢◌, ◌≤◌, ◌<◌, ◌+◌, ◌++◌, ◌∷◌, ◌^◌, IfOk, IfSome, OnOk, Ok, length, true};
 ghost use Rattle.std.specs.List.{list_all, position};
 ghost use Rattle.std.specs.Char.{is_ascii_digit};
+ghost use Rattle.hex.specs.Hex.{decode_of};
 ghost use Rattle.sha2.specs.Sha256.{sha256};
 ghost use Rattle.esc_zone.specs.Signers.{IsNumber, IsGivenDs, IsKeyDs, digest_length};
 ghost use Rattle.esc_zone.specs.Signers.{key_data, key_tag, tag_sum};
@@ -147,7 +148,10 @@ fn digest_length(kind: u8) -> Option<usize>
 }
 
 // The digest of so many bytes that a text has.
-fn digest_in(alloc: Global, text: &str, bytes: usize) -> Result<Vec<u8>, DsFault<'_>> {
+fn digest_in(alloc: Global, text: &str, bytes: usize) -> Result<Vec<u8>, DsFault<'_>>
+    ensures text { IfOk result (λ digest. decode_of text.now ≡ Ok digest.items) }
+    ensures whole { IfOk result (λ digest. length digest.items ≡ bytes) }
+{
     match hex::decode(alloc, text.as_bytes()) {
         Ok(digest) if digest.len() == bytes => Ok(digest),
         Err(hex::FromHexError::OutOfMemory) => Err(DsFault::NoMemory),
