@@ -21,8 +21,8 @@
 //! draft.write_glue(&mut zone, &mut told)?;                                // A, AAAA
 //! ```
 //!
-//! In memory are, beside one object, the servers in the zone that are in use, and the names at or
-//! above them, above other domains, and of which a mirrored name has the servers.
+//! In memory are, beside one object, the servers in the zone that are in use, the names at or above
+//! them and above other domains, and mirrored names with their originals.
 //!
 //! # The zone
 //!

@@ -70,17 +70,19 @@ impl Draft {
         }
     }
 
-    /// Notes the original of a mirrored name, and the names above it.
+    /// Notes a mirrored name, its original, and the names above it.
     pub fn note_mirror(&mut self, key: &Key, object: &Object) -> Result<(), Halt> {
         let Some(name) = read_name(self.alloc, key.text.as_str())? else {
             return Ok(());
         };
         self.note_odd(key, &name)?;
-        if let Mirror::Servers(original) = mirror_of(&object.parent) {
-            self.note_original(original)?;
-            self.note_above(&name)?;
+        match mirror_of(&object.parent) {
+            Mirror::Nothing => return Ok(()),
+            Mirror::Servers(original) => self.note_original(original)?,
+            Mirror::Other(_) => {}
         }
-        Ok(())
+        self.note_above(&name)?;
+        Ok(self.note_place(name)?)
     }
 
     fn note_original(&mut self, text: &str) -> Result<(), NoMemory> {
