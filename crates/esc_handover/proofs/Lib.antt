@@ -1,11 +1,4 @@
 pub mod Applied
-pub mod Came
-pub mod Cells
-pub mod Gathered
-pub mod Names
 pub mod AxisOrder
 pub mod Places
-pub mod ReadBack
-pub mod Repeats
 pub mod Restoring
-pub mod Written

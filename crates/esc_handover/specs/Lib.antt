@@ -1,10 +1,6 @@
 pub mod Acceptance
-pub mod Apart
 pub mod FullBundle
-pub mod Gathering
 pub mod Guides
-pub mod Layouts
 pub mod Picture
 pub mod Rebuilt
 pub mod Restored
-pub mod WritingFaults

@@ -33,8 +33,8 @@ fn put_file(rt: &HostRuntime, beside: &str, path: &str, bytes: &[u8]) -> Result<
     placed
 }
 
-/// Writes a file that was made for it, and closes it.
-pub(crate) fn write_new(mut file: File, bytes: &[u8]) -> Result<(), Error> {
+// Writes a file that was made for it, and closes it.
+fn write_new(mut file: File, bytes: &[u8]) -> Result<(), Error> {
     file.write_all(bytes)?;
     file.sync_all()
 }

@@ -21,18 +21,12 @@
 //! bodies: the lines, the release as a picture and as a table, the objects beside the declared
 //! numbers, the findings.
 //!
-//! `table_names_from` says which tables a kind has, `layouts_from` which columns these have, and
-//! `write_table` writes one of them as CSV: each from objects that come one at a time, and so with
-//! little memory. `text_in` gives the text of a field in a row, and `repeated` finds names that are
-//! the same but for case. `digest_of` is the SHA-256 of what a reader gives.
-//!
 //! What `handover` does without its store is here, too. [`StoreFacts`] is what a store and its
 //! bodies say: `gaps_of`, `read_findings` and `are_made_by` find it, and `answer_of` makes the lines
-//! or the page of it. `bundle_or_stop` gives the bundle, and
-//! `place_file` writes a file in one step. `check_layouts` says whether tables can be files; then
-//! `write_table_file` and a [`Database`] write them to a [`NewFolder`], with their sums. A
-//! [`Progress`] tells on standard error how far that is, where it takes long. A [`Stop`] says what
-//! all of this stops for, in a line and a status.
+//! or the page of it. `bundle_or_stop` gives the bundle, and `place_file` writes a file in one step.
+//! A [`TableFolder`] is where the files of `esc_table_files` are written. A [`Progress`] tells on
+//! standard error how far that is, where it takes long. A [`Stop`] says what all of this stops for,
+//! in a line and a status.
 //!
 //! ```text
 //! let body = bundle_of(alloc, "F20", end.watermark, &tables)?;   // the next deposit
@@ -42,12 +36,6 @@
 //!     // wrong names: domain clID under another name, ..
 //! }
 //! let page = page_of(alloc, &seen, &receipts, &parked)?;         // HTML, for a browser
-//!
-//! let names = table_names_from(alloc, &mut walk(alloc, reader, None)?, Kind::Domain)?;
-//! for layout in &layouts_from(alloc, &mut walk(alloc, reader, None)?, names)? {
-//!     // domain with the columns name, clID; domainNs with domainName, hostName
-//!     write_table(alloc, &mut output, &mut walk(alloc, reader, None)?, layout)?;
-//! }
 //! ```
 //!
 //! # What the contracts mean
@@ -70,36 +58,24 @@
 //! (`moments_stand_in_order`), and that each place is in one group of marks or rows (`groups_of`).
 //! What else a page shows has no contract, and is tested.
 //!
-//! `specs/Layouts.antt` says which tables a kind has (`table_names`: a table of child rows for each
-//! name that they have), which columns (`columns_of`: each field that a row has, once, in the order
-//! in which they first come) and the text of each (`table_csv`). An absent field is an empty text,
-//! as one that is there and empty. `tables_are_read_back` is a law: the text reads as its heading
-//! and its rows.
-//!
 //! Of what touches files, a store or standard error it is proved that no call is unsafe and that
 //! each ends: no contract can say what a file holds or what is printed, so that is tested on the
-//! built program. So it is with `chain`, `database`, `detail`, `draft`, `files`, `folder`,
-//! `layout_check`, `progress`, `reading`, `registry_bundle`, `stop` and `table_file`, with
-//! `store_facts` but for `answer_of`, and with what is below `page` but for `axis`, `group` and
-//! `share`. `gaps_of` gives the lines of `esc_chain`.
+//! built program. So it is with `chain`, `detail`, `draft`, `files`, `progress`, `reading`,
+//! `registry_bundle`, `stop` and `table_folder`, with `store_facts` but for `answer_of`, and with
+//! what is below `page` but for `axis`, `group` and `share`. `gaps_of` gives the lines of
+//! `esc_chain`.
 #![tactic(auto)]
 
 mod acceptance;
-mod apart;
 mod bundle;
 mod chain;
-mod database;
 mod detail;
 mod draft;
 mod files;
-mod folder;
 mod gaps;
-mod gathering;
 mod guide;
 mod guides;
 mod laws;
-mod layout;
-mod layout_check;
 mod line;
 mod page;
 mod progress;
@@ -111,25 +87,16 @@ mod same;
 mod seen;
 mod stop;
 mod store_facts;
-mod sums;
-mod table_file;
-mod table_name;
-mod table_text;
+mod table_folder;
 mod test;
-mod writing_fault;
 
 pub use acceptance::{is_accepted, passes};
-pub use apart::repeated;
 pub use bundle::bundle_of;
 pub use chain::ChainFacts;
-pub use database::Database;
 pub use files::{place_file, unopened_stop};
-pub use folder::{NewFolder, check_place};
 pub use gaps::gaps_of;
 pub use guide::Guide;
-pub use laws::{full_bundle_restores_its_tables, moments_stand_in_order, tables_are_read_back};
-pub use layout::{Layout, layouts_from};
-pub use layout_check::check_layouts;
+pub use laws::{full_bundle_restores_its_tables, moments_stand_in_order};
 pub use line::{Line, lines_of};
 pub use page::page_of;
 pub use progress::Progress;
@@ -140,9 +107,5 @@ pub use registry_bundle::{bundle_or_stop, check_object_count};
 pub use seen::Seen;
 pub use stop::{REFUSED, Stop, or_stop, tell_stop};
 pub use store_facts::{Answer, Form, StoreFacts, answer_of, entries_of};
-pub use sums::digest_of;
-pub use table_file::write_table_file;
-pub use table_name::{TableName, table_names_from};
-pub use table_text::{text_in, write_table};
+pub use table_folder::{TableFolder, check_folder};
 pub use test::Test;
-pub use writing_fault::WritingFault;

@@ -1,13 +1,12 @@
 //! What is found in objects as they come, while it is told how many were read.
 
 use crate::chain::ChainFacts;
-use crate::layout::{Layout, layouts_from};
 use crate::progress::{Progress, Watched};
 use crate::rebuild::are_listed;
-use crate::table_name::{TableName, table_names_from};
 use esc_apply::Objects;
 use esc_check::{Finding, StreamFault, verify_from};
 use esc_envelope::Kind;
+use esc_table_files::{Layout, TableName, layouts_from, table_names_from};
 use std::alloc::Global;
 use std::collections::BTreeMap;
 

@@ -5,6 +5,7 @@ use esc_bundle::NoMemory;
 use esc_check::StreamFault;
 use esc_cli::{Asked, OneLine, SystemCause, Why, print_refusal};
 use esc_store::{Obstacle, Reason, StoreFault};
+use esc_table_files::LayoutFault;
 use std::alloc::{AllocError, AllocFailed, Global};
 use std::fmt;
 use std::io::{Error, ErrorKind, Write};
@@ -162,6 +163,16 @@ impl From<StreamFault<StoreFault>> for Stop {
         match fault {
             StreamFault::Source(fault) => Stop::Store(fault),
             StreamFault::NoMemory => Stop::NO_MEMORY,
+        }
+    }
+}
+
+impl From<LayoutFault> for Stop {
+    fn from(fault: LayoutFault) -> Stop {
+        match fault {
+            LayoutFault::Alike(table) => Stop::Alike(table),
+            LayoutFault::Undatabased(table) => Stop::Undatabased(table),
+            LayoutFault::NoMemory => Stop::NO_MEMORY,
         }
     }
 }

@@ -6,7 +6,7 @@ use crate::zone::Zoning;
 use clap::builder::ValueParser;
 use clap::{ArgMatches, Error};
 use esc_cli::{Argument, ArgumentForm, Asked, Program, Subcommand, USAGE, print_answer};
-use esc_handover::{Stop, check_place, or_stop, place_file, tell_stop};
+use esc_handover::{Stop, check_folder, or_stop, place_file, tell_stop};
 use std::io::Write;
 
 /// The version of the program, and that of the stores that it opens.
@@ -295,7 +295,7 @@ fn perform<O: Write>(rt: &HostRuntime, command: Command<'_>, out: &mut O) -> Res
         task,
     } = command;
     if let Task::Tables(words) = task {
-        check_place(rt, words.folder)?;
+        check_folder(rt, words.folder)?;
     }
     let made = use_store(rt, store, is_watched, task)?;
     match task {

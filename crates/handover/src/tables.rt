@@ -4,10 +4,8 @@ use crate::walking::walk;
 use esc_cli::DONE;
 use esc_desk::Reads;
 use esc_envelope::Kind;
-use esc_handover::{
-    Answer, Database, Layout, NewFolder, Progress, Stop, TableName, check_layouts, read_layouts,
-    read_table_names, write_table_file,
-};
+use esc_handover::{Answer, Progress, Stop, TableFolder, read_layouts, read_table_names};
+use esc_table_files::{Database, Layout, TableName, check_layouts};
 use std::alloc::Global;
 
 /// The words of the command: the folder, and whether a database is made as well.
@@ -86,7 +84,7 @@ fn write_folder<R: Reads>(
     layouts: &[Layout],
     progress: &mut Progress<'_>,
 ) -> Result<(), Stop> {
-    let mut folder = NewFolder::create(words.rt, words.folder)?;
+    let mut folder = TableFolder::create(words.rt, words.folder)?;
     let written = write_files(reader, words, layouts, &mut folder, progress);
     folder.finish(written)
 }
@@ -96,13 +94,13 @@ fn write_files<R: Reads>(
     reader: &mut R,
     words: Tabling<'_>,
     layouts: &[Layout],
-    folder: &mut NewFolder<'_>,
+    folder: &mut TableFolder<'_>,
     progress: &mut Progress<'_>,
 ) -> Result<(), Stop> {
     let alloc = words.rt.alloc();
     for layout in layouts {
         let walk = walk(alloc, reader, Some(layout.table.kind))?;
-        write_table_file(folder, walk, layout, progress)?;
+        folder.write_table(walk, layout, progress)?;
     }
     if words.has_database {
         write_database(alloc, reader, layouts, folder, progress)?;
@@ -115,25 +113,25 @@ fn write_database<R: Reads>(
     alloc: Global,
     reader: &mut R,
     layouts: &[Layout],
-    folder: &mut NewFolder<'_>,
+    folder: &mut TableFolder<'_>,
     progress: &mut Progress<'_>,
 ) -> Result<(), Stop> {
-    let mut database = Database::create(folder)?;
+    let mut database = folder.create_database()?;
     add_tables(alloc, reader, layouts, folder, &mut database, progress)?;
-    database.finish(folder, progress)
+    folder.finish_database(database, progress)
 }
 
 fn add_tables<R: Reads>(
     alloc: Global,
     reader: &mut R,
     layouts: &[Layout],
-    folder: &NewFolder<'_>,
+    folder: &TableFolder<'_>,
     database: &mut Database,
     progress: &mut Progress<'_>,
 ) -> Result<(), Stop> {
     for layout in layouts {
         let walk = walk(alloc, reader, Some(layout.table.kind))?;
-        database.add_table(folder, walk, layout, progress)?;
+        folder.add_table(database, walk, layout, progress)?;
     }
     Ok(())
 }

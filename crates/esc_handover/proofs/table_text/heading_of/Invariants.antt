@@ -1,6 +1,0 @@
-use Rattle.std.proofs.Common.{◌≡◌, ◌∷◌, ◌++◌, map, drop, codes, string_bytes}
-use Rattle.esc_handover.proofs.table_text.heading_of.Given as goal
-
--- with the columns that are left it is the whole
-abbrev pub invariant-loop-column : goal.invariant-loop-column
-invariant-loop-column l = map (λ f. f.now) l.line.items ++ map string_bytes (drop l.column-index l.columns) ≡ codes "key" ∷ map string_bytes l.columns

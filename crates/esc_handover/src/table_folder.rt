@@ -1,0 +1,128 @@
+//! A folder of tables, which is written while it is told how far that is.
+
+use crate::progress::{Progress, Watched};
+use crate::stop::{Stop, or_stop};
+use esc_apply::Objects;
+use esc_store::StoreFault;
+use esc_table_files::{
+    Database, Layout, NewFolder, REGISTRY, WritingFault, check_place, file_name, path_beside,
+    write_table_file,
+};
+use std::io::{Error, ErrorKind};
+
+/// A folder of tables that is being made at a place.
+#[derive(Drop)]
+pub struct TableFolder<'a> {
+    rt: &'a HostRuntime,
+    // Its place, as it was named.
+    place: &'a str,
+    folder: NewFolder<'a>,
+}
+
+/// `E1` unless there is nothing at a path, or a folder with nothing in it.
+pub fn check_folder(rt: &HostRuntime, place: &str) -> Result<(), Stop> {
+    or_stop(rt, place, check_place(rt, place))
+}
+
+impl<'a> TableFolder<'a> {
+    /// Makes a folder beside its place; `E1` of the name that it has there where something has it,
+    /// as what a run that was stopped left.
+    pub fn create(rt: &'a HostRuntime, place: &'a str) -> Result<TableFolder<'a>, Stop> {
+        match NewFolder::create(rt, place) {
+            Ok(folder) => Ok(TableFolder { rt, place, folder }),
+            Err(error) if error.kind() == ErrorKind::AlreadyExists => {
+                or_stop(rt, path_beside(rt.alloc(), place)?.as_str(), Err(error))
+            }
+            Err(error) => or_stop(rt, place, Err(error)),
+        }
+    }
+
+    /// Writes the file of a table, with the rows of these objects.
+    pub fn write_table<O>(
+        &mut self,
+        objects: O,
+        layout: &Layout,
+        progress: &mut Progress<'_>,
+    ) -> Result<(), Stop>
+    where
+        O: Objects<Error = StoreFault> + Drop,
+    {
+        let name = file_name(self.rt.alloc(), layout)?;
+        let written = write_file(&mut self.folder, objects, layout, name.as_str(), progress);
+        self.or_stop_writing(written)?;
+        progress.tell_written(name.as_str());
+        Ok(())
+    }
+
+    /// Makes the database, without tables.
+    pub fn create_database(&self) -> Result<Database, Stop> {
+        self.or_stop_writing(Database::create(&self.folder))
+    }
+
+    /// Adds a table with the rows of these objects to the database.
+    pub fn add_table<O>(
+        &self,
+        database: &mut Database,
+        objects: O,
+        layout: &Layout,
+        progress: &mut Progress<'_>,
+    ) -> Result<(), Stop>
+    where
+        O: Objects<Error = StoreFault> + Drop,
+    {
+        let mut objects = Watched::new(objects, progress, REGISTRY);
+        self.or_stop_writing(database.add_table(self.rt.alloc(), &mut objects, layout))
+    }
+
+    /// Closes the database when it has its tables.
+    pub fn finish_database(
+        &mut self,
+        database: Database,
+        progress: &mut Progress<'_>,
+    ) -> Result<(), Stop> {
+        let finished = database.finish(&mut self.folder);
+        self.or_stop_writing(finished)?;
+        progress.tell_written(REGISTRY);
+        Ok(())
+    }
+
+    /// Writes the file of the sums.
+    pub fn write_sums(&self) -> Result<(), Stop> {
+        self.or_stop(self.folder.write_sums())
+    }
+
+    /// Puts it in its place, if all that belongs in it was written; else removes it.
+    pub fn finish(self, written: Result<(), Stop>) -> Result<(), Stop> {
+        let finished = written.and_then(|()| self.or_stop(self.folder.put()));
+        if finished.is_err() {
+            self.folder.remove();
+        }
+        finished
+    }
+
+    // What came of a file in it, or the stop at its place.
+    fn or_stop<T>(&self, found: Result<T, Error>) -> Result<T, Stop> {
+        or_stop(self.rt, self.place, found)
+    }
+
+    // What came of a table in it, or the stop for that.
+    fn or_stop_writing<T>(&self, written: Result<T, WritingFault<StoreFault>>) -> Result<T, Stop> {
+        match written {
+            Ok(value) => Ok(value),
+            Err(WritingFault::Source(fault)) => Err(Stop::Store(fault)),
+            Err(WritingFault::Output(error)) => self.or_stop(Err(error)),
+            Err(WritingFault::NoMemory) => Err(Stop::NO_MEMORY),
+        }
+    }
+}
+
+fn write_file<O: Objects + Drop>(
+    folder: &mut NewFolder<'_>,
+    objects: O,
+    layout: &Layout,
+    name: &str,
+    progress: &mut Progress<'_>,
+) -> Result<(), WritingFault<O::Error>> {
+    let mut objects = Watched::new(objects, progress, name);
+    write_table_file(folder, &mut objects, layout)
+}

@@ -1,0 +1,4 @@
+pub mod Apart
+pub mod Gathering
+pub mod Layouts
+pub mod WritingFaults

@@ -1,0 +1,58 @@
+//! The tables of a registry as files: CSV, and a database.
+//!
+//! # In and out
+//!
+//! Objects come one at a time (`Objects` of `esc_apply`), as a desk's walk gives them, and so little
+//! memory is taken. `table_names_from` says which tables a kind has, `layouts_from` which columns
+//! these have, and `write_table` writes one of them as CSV. `text_in` gives the text of a field in
+//! a row, and `repeated` finds names that are the same but for case. `digest_of` is the SHA-256 of
+//! what a reader gives.
+//!
+//! `check_layouts` says whether tables can be files. Then `write_table_file` and a [`Database`] write
+//! them to a [`NewFolder`], with their sums.
+//!
+//! ```text
+//! let names = table_names_from(alloc, &mut walk(alloc, reader, None)?, Kind::Domain)?;
+//! for layout in &layouts_from(alloc, &mut walk(alloc, reader, None)?, names)? {
+//!     // domain with the columns name, clID; domainNs with domainName, hostName
+//!     write_table(alloc, &mut output, &mut walk(alloc, reader, None)?, layout)?;
+//! }
+//! ```
+//!
+//! # What the contracts mean
+//!
+//! `specs/Layouts.antt` says which tables a kind has (`table_names`: a table of child rows for each
+//! name that they have), which columns (`columns_of`: each field that a row has, once, in the order
+//! in which they first come) and the text of each (`table_csv`). An absent field is an empty text,
+//! as one that is there and empty. `tables_are_read_back` is a law: the text reads as its heading
+//! and its rows.
+//!
+//! Of what touches files it is proved that no call is unsafe and that each ends: no contract can say
+//! what a file holds, so that is tested on the built program. So it is with `database`, `folder`,
+//! `layout_check` and `table_file`.
+#![tactic(auto)]
+
+mod apart;
+mod database;
+mod folder;
+mod gathering;
+mod laws;
+mod layout;
+mod layout_check;
+mod sums;
+mod table_file;
+mod table_name;
+mod table_text;
+mod writing_fault;
+
+pub use apart::repeated;
+pub use database::{Database, REGISTRY};
+pub use folder::{NewFolder, check_place, path_beside};
+pub use laws::tables_are_read_back;
+pub use layout::{Layout, layouts_from};
+pub use layout_check::{LayoutFault, check_layouts};
+pub use sums::digest_of;
+pub use table_file::{file_name, write_table_file};
+pub use table_name::{TableName, table_names_from};
+pub use table_text::{text_in, write_table};
+pub use writing_fault::WritingFault;

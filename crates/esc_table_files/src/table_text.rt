@@ -1,0 +1,174 @@
+//! The text of a table.
+
+ghost use Rattle.std.specs.Prelude.{◌≡◌, ◌∷◌, ◌++◌, List, map, filter, option_map, codes, IfOk};
+ghost use Rattle.std.specs.Prelude.{IfErr, OnOk, string_bytes};
+ghost use Rattle.std.specs.Io.KnownBytes.{Appends};
+ghost use Rattle.std.specs.Map.{lookup};
+ghost use Rattle.std.specs.Str.{bytes_eq};
+ghost use Rattle.esc_apply.specs.ObjectStreams.{Entry};
+ghost use Rattle.esc_csv.specs.Lines.{line_text, text_of};
+ghost use Rattle.esc_check.specs.Export.{is_of_table};
+ghost use Rattle.esc_table_files.specs.Layouts.{row_line, entry_lines, table_csv};
+ghost use Rattle.esc_table_files.specs.WritingFaults.{IfWritingSource, OfWritingSource};
+
+use crate::layout::Layout;
+use crate::writing_fault::WritingFault;
+use esc_apply::Objects;
+use esc_bundle::NoMemory;
+use esc_csv::Lines;
+use esc_tables::{Key, Object, Row};
+use std::alloc::Global;
+use std::io::Write;
+
+/// The text of a field in a row: that of its first cell; `None` if it has no such field.
+pub fn text_in<'a>(row: &'a Row, field: &str) -> Option<&'a str>
+    ensures { option_map (λ t. t.now) result ≡ lookup (bytes_eq field.now) row.now.cells }
+{
+    for at in 0..row.len() {
+        if let Some((name, text)) = row.cell(at) {
+            if field == name {
+                return Some(text);
+            }
+        }
+    }
+    None
+}
+
+fn heading_of<'a>(alloc: Global, columns: &'a [String]) -> Result<Vec<&'a [u8]>, NoMemory>
+    ensures { IfOk result (λ line. map (λ f. f.now) line.items
+        ≡ codes "key" ∷ map string_bytes columns.now) }
+{
+    let mut line: Vec<&[u8]> = Vec::new(alloc);
+    line.push(b"key")?;
+    for column in columns {
+        line.push(column.as_bytes())?;
+    }
+    Ok(line)
+}
+
+fn line_of<'a>(
+    alloc: Global,
+    columns: &[String],
+    key: &'a Key,
+    row: &'a Row,
+) -> Result<Vec<&'a [u8]>, NoMemory>
+    ensures { IfOk result (λ line. map (λ f. f.now) line.items
+        ≡ row_line (map string_bytes columns.now) key.now row.now) }
+{
+    let mut line: Vec<&[u8]> = Vec::new(alloc);
+    line.push(key.text.as_bytes())?;
+    for column in columns {
+        let text = text_in(row, column.as_str()).unwrap_or("");
+        line.push(text.as_bytes())?;
+    }
+    Ok(line)
+}
+
+fn write_row(
+    alloc: Global,
+    lines: &mut Lines,
+    columns: &[String],
+    key: &Key,
+    row: &Row,
+) -> Result<(), NoMemory>
+    ensures { OnOk result (lines.new ≡ lines.old
+        ++ line_text (row_line (map string_bytes columns.now) key.now row.now)) }
+{
+    let line = line_of(alloc, columns, key, row)?;
+    lines.write(&line)
+}
+
+// Adds the lines of the child rows of this name.
+fn write_children(
+    alloc: Global,
+    lines: &mut Lines,
+    columns: &[String],
+    name: &str,
+    key: &Key,
+    rows: &[Row],
+) -> Result<(), NoMemory>
+    ensures { OnOk result (lines.new ≡ lines.old
+        ++ text_of (map (row_line (map string_bytes columns.now) key.now)
+        (filter (is_of_table name.now) rows.now))) }
+{
+    for row in rows {
+        if row.table() != name {
+            continue;
+        }
+        write_row(alloc, lines, columns, key, row)?;
+    }
+    Ok(())
+}
+
+// Adds the lines of an object's rows in a table.
+fn write_rows(
+    alloc: Global,
+    lines: &mut Lines,
+    layout: &Layout,
+    key: &Key,
+    object: &Object,
+) -> Result<(), NoMemory>
+    ensures { OnOk result (lines.new ≡ lines.old
+        ++ text_of (entry_lines layout.now (key.now, object.now))) }
+{
+    if key.kind != layout.table.kind {
+        return Ok(());
+    }
+    match &layout.table.child {
+        None => write_row(alloc, lines, &layout.columns, key, &object.parent),
+        Some(name) => {
+            let rows = &object.children;
+            write_children(alloc, lines, &layout.columns, name.as_str(), key, rows)
+        }
+    }
+}
+
+fn heading_text(alloc: Global, columns: &[String]) -> Result<Vec<u8>, NoMemory>
+    ensures { IfOk result (λ text. text.items
+        ≡ line_text (codes "key" ∷ map string_bytes columns.now)) }
+{
+    let heading = heading_of(alloc, columns)?;
+    let mut lines = Lines::new(alloc);
+    lines.write(&heading)?;
+    lines.into_text()
+}
+
+fn rows_text(
+    alloc: Global,
+    layout: &Layout,
+    key: &Key,
+    object: &Object,
+) -> Result<Vec<u8>, NoMemory>
+    ensures { IfOk result (λ text. text.items
+        ≡ text_of (entry_lines layout.now (key.now, object.now))) }
+{
+    let mut lines = Lines::new(alloc);
+    write_rows(alloc, &mut lines, layout, key, object)?;
+    lines.into_text()
+}
+
+/// Writes a table as CSV (this project's profile): a heading, and a line for each row, by the
+/// objects' keys. The first column is the key; a row that has no cell of a column's field has an
+/// empty text there. It allocates for the lines of one object at a time. At `Err` a part of the
+/// text may be written.
+pub fn write_table<O: Objects, W: Write>(
+    alloc: Global,
+    output: &mut W,
+    objects: &mut O,
+    layout: &Layout,
+) -> Result<(), WritingFault<O::Error>>
+    ensures follows { O.follows objects.old objects.new }
+    ensures source { IfErr result (λ fault. IfWritingSource fault (O.has_failed objects.new)) }
+    ensures cause { IfErr result (OfWritingSource O.fails) }
+    ensures text { OnOk result (O.is_honest objects.new → (es : List Entry)
+        → O.lists objects.old es
+        → Appends (W.contents output.old) (W.contents output.new) (table_csv layout.now es)) }
+{
+    let heading = heading_text(alloc, &layout.columns)?;
+    output.write_all(&heading)?;
+    while let Some((key, object)) = objects.next().map_err(WritingFault::Source)? {
+        let text = rows_text(alloc, layout, &key, &object)?;
+        output.write_all(&text)?;
+    }
+    Ok(())
+}
