@@ -100,7 +100,7 @@ pub use laws::{full_bundle_restores_its_tables, moments_stand_in_order};
 pub use line::{Line, lines_of};
 pub use page::page_of;
 pub use progress::Progress;
-pub use reading::{are_made_by, read_findings, read_layouts, read_table_names};
+pub use reading::{are_made_by, read_findings, read_layouts};
 pub use rebuild::{apply_deposit, are_listed};
 pub use refusal::BundleRefusal;
 pub use registry_bundle::{bundle_or_stop, check_object_count};

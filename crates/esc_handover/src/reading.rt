@@ -6,31 +6,19 @@ use crate::rebuild::are_listed;
 use esc_apply::Objects;
 use esc_check::{Finding, StreamFault, verify_from};
 use esc_envelope::Kind;
-use esc_table_files::{Layout, TableName, layouts_from, table_names_from};
+use esc_table_files::{Layout, layouts_of};
 use std::alloc::Global;
 use std::collections::BTreeMap;
 
-/// The tables of a kind ([`table_names_from`]).
-pub fn read_table_names<O: Objects + Drop>(
-    alloc: Global,
-    objects: O,
-    kind: Kind,
-    progress: &mut Progress<'_>,
-) -> Result<Vec<TableName>, StreamFault<O::Error>> {
-    let mut objects = Watched::new(objects, progress, kind.name());
-    table_names_from(alloc, &mut objects, kind)
-}
-
-/// The tables of a kind with their columns ([`layouts_from`]).
+/// The tables of a kind with their columns ([`layouts_of`]).
 pub fn read_layouts<O: Objects + Drop>(
     alloc: Global,
     objects: O,
     kind: Kind,
-    tables: Vec<TableName>,
     progress: &mut Progress<'_>,
 ) -> Result<Vec<Layout>, StreamFault<O::Error>> {
     let mut objects = Watched::new(objects, progress, kind.name());
-    layouts_from(alloc, &mut objects, tables)
+    layouts_of(alloc, &mut objects, kind)
 }
 
 /// The findings V1 to V7 ([`verify_from`]).

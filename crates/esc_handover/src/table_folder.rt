@@ -3,11 +3,13 @@
 use crate::progress::{Progress, Watched};
 use crate::stop::{Stop, or_stop};
 use esc_apply::Objects;
+use esc_envelope::Kind;
 use esc_store::StoreFault;
 use esc_table_files::{
     Database, Layout, NewFolder, REGISTRY, WritingFault, check_place, file_name, path_beside,
-    write_table_file,
+    write_table_files,
 };
+use std::alloc::Global;
 use std::io::{Error, ErrorKind};
 
 /// A folder of tables that is being made at a place.
@@ -37,21 +39,20 @@ impl<'a> TableFolder<'a> {
         }
     }
 
-    /// Writes the file of a table, with the rows of these objects.
-    pub fn write_table<O>(
+    /// Writes the files of a kind's tables, with the rows of these objects.
+    pub fn write_tables<O>(
         &mut self,
         objects: O,
-        layout: &Layout,
+        kind: Kind,
+        layouts: &[Layout],
         progress: &mut Progress<'_>,
     ) -> Result<(), Stop>
     where
         O: Objects<Error = StoreFault> + Drop,
     {
-        let name = file_name(self.rt.alloc(), layout)?;
-        let written = write_file(&mut self.folder, objects, layout, name.as_str(), progress);
+        let written = write_files(&mut self.folder, objects, kind, layouts, progress);
         self.or_stop_writing(written)?;
-        progress.tell_written(name.as_str());
-        Ok(())
+        tell_files(self.rt.alloc(), layouts, progress)
     }
 
     /// Makes the database, without tables.
@@ -59,19 +60,19 @@ impl<'a> TableFolder<'a> {
         self.or_stop_writing(Database::create(&self.folder))
     }
 
-    /// Adds a table with the rows of these objects to the database.
-    pub fn add_table<O>(
+    /// Adds tables with the rows of these objects to the database.
+    pub fn add_tables<O>(
         &self,
         database: &mut Database,
         objects: O,
-        layout: &Layout,
+        layouts: &[Layout],
         progress: &mut Progress<'_>,
     ) -> Result<(), Stop>
     where
         O: Objects<Error = StoreFault> + Drop,
     {
         let mut objects = Watched::new(objects, progress, REGISTRY);
-        self.or_stop_writing(database.add_table(self.rt.alloc(), &mut objects, layout))
+        self.or_stop_writing(database.add_tables(self.rt.alloc(), &mut objects, layouts))
     }
 
     /// Closes the database when it has its tables.
@@ -116,13 +117,21 @@ impl<'a> TableFolder<'a> {
     }
 }
 
-fn write_file<O: Objects + Drop>(
+fn tell_files(alloc: Global, layouts: &[Layout], progress: &mut Progress<'_>) -> Result<(), Stop> {
+    for layout in layouts {
+        let name = file_name(alloc, layout)?;
+        progress.tell_written(name.as_str());
+    }
+    Ok(())
+}
+
+fn write_files<O: Objects + Drop>(
     folder: &mut NewFolder<'_>,
     objects: O,
-    layout: &Layout,
-    name: &str,
+    kind: Kind,
+    layouts: &[Layout],
     progress: &mut Progress<'_>,
 ) -> Result<(), WritingFault<O::Error>> {
-    let mut objects = Watched::new(objects, progress, name);
-    write_table_file(folder, &mut objects, layout)
+    let mut objects = Watched::new(objects, progress, kind.name());
+    write_table_files(folder, &mut objects, layouts)
 }

@@ -1,6 +1,6 @@
 -- Names are gathered, and lines written, from one row after another.
 use Rattle.std.proofs.Common.{◌≡◌, ℕ, ◌+◌, ◌<◌, List, [], ◌∷◌, ◌++◌, length, get_or, drop, map, refl, sym, ap, ◌∙◌}
-use Rattle.std.specs.List.{flat_map}
+use Rattle.std.specs.List.{fold, flat_map}
 use Rattle.std.proofs.lemmas.List.{drop_more}
 use Rattle.std.proofs.lemmas.List.Sums.{fold-append}
 use Rattle.esc_tables.specs.ObjectValue.{RowValue}
@@ -8,6 +8,12 @@ use Rattle.esc_apply.specs.ObjectStreams.{Entry}
 use Rattle.esc_table_files.specs.Layouts.{TableNameValue, LayoutValue, entry_fields, layout_of}
 use Rattle.esc_table_files.specs.Gathering.{with_name, with_names, bare, with_fields, finished}
 use Rattle.esc_table_files.proofs.Names.{once_each}
+
+-- one more of those that are left is gathered
+pub one_added : {A B : Type 0} (f : B → A → B) (old new whole : B) (left rest : List A) (n : A) → left ≡ n ∷ rest
+    → fold f old left ≡ whole → new ≡ f old n → fold f new rest ≡ whole
+one_added f old new whole left rest n parts known wrote =
+    ap (λ b. fold f b rest) wrote ∙ ap (fold f old) (sym parts) ∙ known
 
 -- one more name of those that are left is gathered
 pub name_added : (old new whole left rest : List (List ℕ)) (n : List ℕ) → left ≡ n ∷ rest

@@ -1,7 +1,9 @@
 pub mod Came
 pub mod Cells
 pub mod Gathered
+pub mod KindTables
 pub mod Names
 pub mod ReadBack
 pub mod Repeats
 pub mod Written
+pub mod Zipped

@@ -1,9 +1,12 @@
--- Names that are gathered one after another.
-use Rattle.std.specs.Prelude.{ℕ, if◌then◌else◌, List, [], ◌∷◌, ◌++◌}
+-- Names, tables and columns that are gathered one after another.
+use Rattle.std.specs.Prelude.{ℕ, Bool, false, if◌then◌else◌, List, [], ◌∷◌, ◌++◌, map, Option}
+use Rattle.std.specs.Prelude.{Some, None}
 use Rattle.std.specs.List.{list_any, fold, flat_map}
 use Rattle.std.specs.Str.{bytes_eq}
+use Rattle.esc_envelope.specs.declared.kind.Kind.{Kind}
 use Rattle.esc_apply.specs.ObjectStreams.{Entry}
-use Rattle.esc_table_files.specs.Layouts.{TableNameValue, LayoutValue, entry_fields}
+use Rattle.esc_table_files.specs.Layouts.{TableNameValue, LayoutValue, parent_table, child_table}
+use Rattle.esc_table_files.specs.Layouts.{entry_fields}
 
 -- these names, and one more at their end, unless it is among them
 abbrev pub with_name : List (List ℕ) → List ℕ → List (List ℕ)
@@ -30,3 +33,25 @@ finished es l = record {
   table = l.table;
   columns = with_names l.columns (flat_map (entry_fields l.table) es);
 }
+
+-- the tables of a kind that has child rows of these names, without further columns
+abbrev pub bare_tables : Kind → List (List ℕ) → List LayoutValue
+bare_tables kind names = map bare (parent_table kind ∷ map (child_table kind) names)
+
+-- whether it is this name
+abbrev pub has_name : List ℕ → Option (List ℕ) → Bool
+has_name n None = false
+has_name n (Some m) = bytes_eq n m
+
+-- whether a table has the child rows of this name
+abbrev pub is_child : List ℕ → LayoutValue → Bool
+is_child n l = has_name n l.table.child
+
+-- these tables, and that of the child rows of a name at their end, unless it is among them
+abbrev pub with_table : Kind → List LayoutValue → List ℕ → List LayoutValue
+with_table kind ls n =
+    if list_any (is_child n) ls then ls else ls ++ bare (child_table kind n) ∷ []
+
+-- these tables, and then those of these names, each added unless it is among those before it
+abbrev pub with_tables : Kind → List LayoutValue → List (List ℕ) → List LayoutValue
+with_tables kind ls names = fold (with_table kind) ls names

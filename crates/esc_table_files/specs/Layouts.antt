@@ -87,6 +87,10 @@ columns_of es t = each_once (flat_map (entry_fields t) es)
 abbrev pub layout_of : List Entry → TableNameValue → LayoutValue
 layout_of es t = record { table = t; columns = columns_of es t }
 
+-- the tables of a kind with their columns
+abbrev pub kind_layouts : Kind → List Entry → List LayoutValue
+kind_layouts kind es = map (layout_of es) (table_names kind es)
+
 -- ---- the text of a table
 
 -- the line of a row: its object's key, and for each column the text of that field, which is empty
@@ -98,9 +102,13 @@ row_line columns k r = k.text ∷ map (λ f. cell f r) columns
 abbrev pub entry_lines : LayoutValue → Entry → List Line
 entry_lines l e = map (row_line l.columns e.0) (entry_rows l.table e)
 
+-- the heading of a table: the names of its columns
+abbrev pub heading_line : LayoutValue → Line
+heading_line l = codes "key" ∷ l.columns
+
 -- the lines of a table: its heading, and its rows by their objects' keys
 abbrev pub table_lines : LayoutValue → List Entry → List Line
-table_lines l es = (codes "key" ∷ l.columns) ∷ flat_map (entry_lines l) es
+table_lines l es = heading_line l ∷ flat_map (entry_lines l) es
 
 -- these lines as a text
 abbrev pub table_csv : LayoutValue → List Entry → List ℕ

@@ -8,12 +8,20 @@ use esc_apply::Objects;
 use esc_bundle::NoMemory;
 use esc_tables::{Key, Object, Row};
 use sqlite::types::ValueRef;
-use sqlite::{Alter, Connection, Error, ErrorCode, File, FileStore, Statement};
+use sqlite::{Alter, Connection, Error, File, FileStore, Statement};
 use std::alloc::Global;
 use std::{fs, io};
 
 /// The name of the database's file.
 pub const REGISTRY: &str = "registry.sqlite";
+
+/// How many objects are held, until their rows are added.
+const BATCH: usize = 256;
+
+/// How many rows a statement adds, and how many values, at most (but for one row with more).
+const MOST_ROWS: usize = 32;
+
+const MOST_VALUES: usize = 960;
 
 /// A database of tables, in a folder, that is being made.
 #[derive(Drop)]
@@ -30,14 +38,16 @@ impl Database {
         Ok(Database { connection })
     }
 
-    /// Adds a table with the rows of these objects.
-    pub fn add_table<O: Objects>(
+    /// Adds tables with the rows of these objects.
+    pub fn add_tables<O: Objects>(
         &mut self,
         alloc: Global,
         objects: &mut O,
-        layout: &Layout,
+        layouts: &[Layout],
     ) -> Result<(), WritingFault<O::Error>> {
-        fill_table(alloc, &mut self.connection, objects, layout)
+        let fillings = make_tables(alloc, &mut self.connection, layouts)?;
+        add_objects(alloc, &mut self.connection, objects, &fillings)?;
+        make_indexes(alloc, &mut self.connection, layouts)
     }
 
     /// Closes the database when it has its tables, and adds its sum. Its log is empty then, and is
@@ -84,15 +94,33 @@ fn table_text(alloc: Global, layout: &Layout) -> Result<String, NoMemory> {
     Ok(text)
 }
 
-// The statement that adds a row to a table.
-fn row_text(alloc: Global, layout: &Layout) -> Result<String, NoMemory> {
-    let table = quoted(alloc, layout.table.text())?;
-    let mut text = format!(in alloc; "INSERT INTO {table} VALUES (?1")?;
-    for at in 0..layout.columns.len() {
-        let number = at.saturating_add(2);
-        text.push_str(format!(in alloc; ", ?{number}")?.as_str())?;
+// The places of a row's values in a statement, from this number on: `(?1, ?2)`.
+fn places_text(alloc: Global, first: usize, width: usize) -> Result<String, NoMemory> {
+    let mut text = String::new(alloc);
+    for at in 0..width {
+        let number = first.saturating_add(at);
+        let mark = if at == 0 { "(" } else { ", " };
+        text.push_str(format!(in alloc; "{mark}?{number}")?.as_str())?;
     }
     text.push_str(")")?;
+    Ok(text)
+}
+
+// The statement that adds so many rows to a table.
+fn insert_text(
+    alloc: Global,
+    layout: &Layout,
+    width: usize,
+    rows: usize,
+) -> Result<String, NoMemory> {
+    let table = quoted(alloc, layout.table.text())?;
+    let mut text = format!(in alloc; "INSERT INTO {table} VALUES ")?;
+    for row in 0..rows {
+        let first = row.saturating_mul(width).saturating_add(1);
+        let places = places_text(alloc, first, width)?;
+        let mark = if row == 0 { "" } else { ", " };
+        text.push_str(format!(in alloc; "{mark}{places}")?.as_str())?;
+    }
     Ok(text)
 }
 
@@ -103,14 +131,13 @@ fn index_text(alloc: Global, name: &str) -> Result<String, NoMemory> {
     Ok(format!(in alloc; "CREATE INDEX {index} ON {table} (\"key\")")?)
 }
 
-// The values of a row. A field that the row doesn't have is NULL.
-fn values_of<'a>(
-    alloc: Global,
+// Adds the values of a row. A field that the row doesn't have is NULL.
+fn add_values<'a>(
+    values: &mut Vec<ValueRef<'a>>,
     columns: &[String],
     key: &'a Key,
     row: &'a Row,
-) -> Result<Vec<ValueRef<'a>>, NoMemory> {
-    let mut values = Vec::new(alloc);
+) -> Result<(), NoMemory> {
     values.push(ValueRef::Text(key.text.as_bytes()))?;
     for column in columns {
         let value = match text_in(row, column.as_str()) {
@@ -119,98 +146,178 @@ fn values_of<'a>(
         };
         values.push(value)?;
     }
+    Ok(())
+}
+
+// Adds the values of the child rows of this name.
+fn add_child_values<'a>(
+    values: &mut Vec<ValueRef<'a>>,
+    columns: &[String],
+    name: &str,
+    key: &'a Key,
+    rows: &'a [Row],
+) -> Result<(), NoMemory> {
+    for row in rows {
+        if row.table() == name {
+            add_values(values, columns, key, row)?;
+        }
+    }
+    Ok(())
+}
+
+// Adds the values of an object's rows in a table.
+fn add_object_values<'a>(
+    values: &mut Vec<ValueRef<'a>>,
+    layout: &Layout,
+    key: &'a Key,
+    object: &'a Object,
+) -> Result<(), NoMemory> {
+    if key.kind != layout.table.kind {
+        return Ok(());
+    }
+    match &layout.table.child {
+        None => add_values(values, &layout.columns, key, &object.parent),
+        Some(name) => {
+            let rows = &object.children;
+            add_child_values(values, &layout.columns, name.as_str(), key, rows)
+        }
+    }
+}
+
+// The values of these objects' rows in a table, one row after the other.
+fn values_in<'a>(
+    alloc: Global,
+    layout: &Layout,
+    batch: &'a [(Key, Object)],
+) -> Result<Vec<ValueRef<'a>>, NoMemory> {
+    let mut values = Vec::new(alloc);
+    for (key, object) in batch {
+        add_object_values(&mut values, layout, key, object)?;
+    }
     Ok(values)
 }
 
-// A table that is being filled, and the statement that adds a row to it.
-#[derive(Clone, Copy)]
+// A table that is being filled.
+#[derive(Drop)]
 struct Filling<'a> {
-    alloc: Global,
     layout: &'a Layout,
-    insert: &'a Statement,
+    // How many values a row has, and the statement that adds one.
+    width: usize,
+    one: Statement,
+    // How many values several rows have, and the statement that adds them.
+    most: usize,
+    several: Statement,
 }
 
-impl Filling<'_> {
-    fn add_row<'k, S: Alter>(
-        &self,
+impl<'a> Filling<'a> {
+    // Makes a table.
+    fn new<S: Alter, E>(
+        alloc: Global,
         connection: &mut Connection<S>,
-        key: &'k Key,
-        row: &'k Row,
-    ) -> Result<(), Error> {
-        let layout = self.layout;
-        match values_of(self.alloc, &layout.columns, key, row) {
-            Ok(values) => {
-                self.insert.execute(connection, &values)?;
-                Ok(())
-            }
-            Err(NoMemory) => Err(Error::SqliteFailure(ErrorCode::OutOfMemory)),
-        }
+        layout: &'a Layout,
+    ) -> Result<Filling<'a>, WritingFault<E>> {
+        let width = layout.columns.len().saturating_add(1);
+        let rows = MOST_VALUES
+            .checked_div(width)
+            .unwrap_or(1)
+            .min(MOST_ROWS)
+            .max(1);
+        let create = table_text(alloc, layout)?;
+        connection.execute(create.as_str(), &[])?;
+        let one = insert_text(alloc, layout, width, 1)?;
+        let several = insert_text(alloc, layout, width, rows)?;
+        Ok(Filling {
+            layout,
+            width,
+            one: connection.prepare(one.as_str())?,
+            most: rows.saturating_mul(width),
+            several: connection.prepare(several.as_str())?,
+        })
     }
 
-    fn add_children<S: Alter>(
+    // Adds rows that have these values.
+    fn add<S: Alter>(
         &self,
         connection: &mut Connection<S>,
-        name: &str,
-        key: &Key,
-        rows: &[Row],
+        values: &[ValueRef<'_>],
     ) -> Result<(), Error> {
-        for row in rows {
-            if row.table() == name {
-                self.add_row(connection, key, row)?;
+        let size = self.most.max(1);
+        for rows in values.chunks(size) {
+            if rows.len() == self.most {
+                self.several.execute(connection, rows)?;
+            } else {
+                self.add_each(connection, rows)?;
             }
         }
         Ok(())
     }
 
-    // Adds an object's rows in the table.
-    fn add_rows<S: Alter>(
+    fn add_each<S: Alter>(
         &self,
         connection: &mut Connection<S>,
-        key: &Key,
-        object: &Object,
+        values: &[ValueRef<'_>],
     ) -> Result<(), Error> {
-        let layout = self.layout;
-        if key.kind != layout.table.kind {
-            return Ok(());
+        let size = self.width.max(1);
+        for row in values.chunks(size) {
+            self.one.execute(connection, row)?;
         }
-        match &layout.table.child {
-            None => self.add_row(connection, key, &object.parent),
-            Some(name) => { self.add_children(connection, name.as_str(), key, &object.children) }
-        }
+        Ok(())
     }
 }
 
-// Makes a table, adds its rows, and then makes the index of child rows.
-fn fill_table<S: Alter, O: Objects>(
+fn make_tables<'a, S: Alter, E>(
     alloc: Global,
     connection: &mut Connection<S>,
-    objects: &mut O,
-    layout: &Layout,
-) -> Result<(), WritingFault<O::Error>> {
-    let create = table_text(alloc, layout)?;
-    connection.execute(create.as_str(), &[])?;
-    let insert = row_text(alloc, layout)?;
-    let insert = connection.prepare(insert.as_str())?;
-    let filling = Filling {
-        alloc,
-        layout,
-        insert: &insert,
-    };
-    add_objects(connection, objects, filling)?;
-    if let Some(name) = &layout.table.child {
-        let index = index_text(alloc, name.as_str())?;
-        connection.execute(index.as_str(), &[])?;
+    layouts: &'a [Layout],
+) -> Result<Vec<Filling<'a>>, WritingFault<E>> {
+    let mut fillings = Vec::new(alloc);
+    for layout in layouts {
+        fillings.push(Filling::new(alloc, connection, layout)?)?;
+    }
+    Ok(fillings)
+}
+
+// Adds the rows of these objects to the tables that have them.
+fn add_batch<S: Alter, E>(
+    alloc: Global,
+    connection: &mut Connection<S>,
+    batch: &[(Key, Object)],
+    fillings: &[Filling<'_>],
+) -> Result<(), WritingFault<E>> {
+    for filling in fillings {
+        let values = values_in(alloc, filling.layout, batch)?;
+        filling.add(connection, &values)?;
     }
     Ok(())
 }
 
 fn add_objects<S: Alter, O: Objects>(
+    alloc: Global,
     connection: &mut Connection<S>,
     objects: &mut O,
-    filling: Filling<'_>,
+    fillings: &[Filling<'_>],
 ) -> Result<(), WritingFault<O::Error>> {
-    while let Some((key, object)) = objects.next().map_err(WritingFault::Source)? {
-        filling.add_rows(connection, &key, &object)?;
+    let mut batch = Vec::new(alloc);
+    while let Some(entry) = objects.next().map_err(WritingFault::Source)? {
+        batch.push(entry)?;
+        if batch.len() >= BATCH {
+            add_batch(alloc, connection, &batch, fillings)?;
+            batch.clear();
+        }
+    }
+    add_batch(alloc, connection, &batch, fillings)
+}
+
+fn make_indexes<S: Alter, E>(
+    alloc: Global,
+    connection: &mut Connection<S>,
+    layouts: &[Layout],
+) -> Result<(), WritingFault<E>> {
+    for layout in layouts {
+        if let Some(name) = &layout.table.child {
+            let index = index_text(alloc, name.as_str())?;
+            connection.execute(index.as_str(), &[])?;
+        }
     }
     Ok(())
 }

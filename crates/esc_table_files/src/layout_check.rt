@@ -44,7 +44,7 @@ impl<T: Drop> From<AllocFailed<T>> for LayoutFault {
 /// is to be made.
 pub fn check_layouts(
     alloc: Global,
-    layouts: &[Layout],
+    layouts: &[&Layout],
     has_database: bool,
 ) -> Result<(), LayoutFault> {
     let mut names = Vec::new(alloc);
@@ -60,7 +60,7 @@ pub fn check_layouts(
     Ok(())
 }
 
-fn check_database(alloc: Global, layouts: &[Layout]) -> Result<(), LayoutFault> {
+fn check_database(alloc: Global, layouts: &[&Layout]) -> Result<(), LayoutFault> {
     for layout in layouts {
         if !is_for_database(alloc, layout)? {
             let name = String::from_str(alloc, layout.table.text())?;

@@ -3,28 +3,27 @@
 //! # In and out
 //!
 //! Objects come one at a time (`Objects` of `esc_apply`), as a desk's walk gives them, and so little
-//! memory is taken. `table_names_from` says which tables a kind has, `layouts_from` which columns
-//! these have, and `write_table` writes one of them as CSV. `text_in` gives the text of a field in
-//! a row, and `repeated` finds names that are the same but for case. `digest_of` is the SHA-256 of
-//! what a reader gives.
+//! memory is taken. `layouts_of` says which tables a kind has and which columns these have, from one
+//! walk. `write_tables` writes them as CSV, side by side, from another. `text_in` gives the text of
+//! a field in a row, and `repeated` finds names that are the same but for case. `digest_of` is the
+//! SHA-256 of what a reader gives.
 //!
-//! `check_layouts` says whether tables can be files. Then `write_table_file` and a [`Database`] write
-//! them to a [`NewFolder`], with their sums.
+//! `check_layouts` says whether tables can be files. Then `write_table_files` and a [`Database`]
+//! write them to a [`NewFolder`], with their sums.
 //!
 //! ```text
-//! let names = table_names_from(alloc, &mut walk(alloc, reader, None)?, Kind::Domain)?;
-//! for layout in &layouts_from(alloc, &mut walk(alloc, reader, None)?, names)? {
-//!     // domain with the columns name, clID; domainNs with domainName, hostName
-//!     write_table(alloc, &mut output, &mut walk(alloc, reader, None)?, layout)?;
-//! }
+//! let layouts = layouts_of(alloc, &mut walk(alloc, reader, Kind::Domain)?, Kind::Domain)?;
+//! // domain with the columns name, clID; domainNs with domainName, hostName
+//! write_table_files(&mut folder, &mut walk(alloc, reader, Kind::Domain)?, &layouts)?;
+//! database.add_tables(alloc, &mut walk(alloc, reader, Kind::Domain)?, &layouts)?;
 //! ```
 //!
 //! # What the contracts mean
 //!
 //! `specs/Layouts.antt` says which tables a kind has (`table_names`: a table of child rows for each
 //! name that they have), which columns (`columns_of`: each field that a row has, once, in the order
-//! in which they first come) and the text of each (`table_csv`). An absent field is an empty text,
-//! as one that is there and empty. `tables_are_read_back` is a law: the text reads as its heading
+//! in which they first come) and the text of each (`table_csv`): `layouts_of` and `write_tables` have
+//! just these. An absent field is an empty text, as one that is there and empty. `tables_are_read_back` is a law: the text reads as its heading
 //! and its rows.
 //!
 //! Of what touches files it is proved that no call is unsafe and that each ends: no contract can say
@@ -39,20 +38,24 @@ mod gathering;
 mod laws;
 mod layout;
 mod layout_check;
+mod layouts;
 mod sums;
 mod table_file;
 mod table_name;
 mod table_text;
+mod table_writer;
 mod writing_fault;
 
 pub use apart::repeated;
 pub use database::{Database, REGISTRY};
 pub use folder::{NewFolder, check_place, path_beside};
 pub use laws::tables_are_read_back;
-pub use layout::{Layout, layouts_from};
+pub use layout::Layout;
 pub use layout_check::{LayoutFault, check_layouts};
+pub use layouts::layouts_of;
 pub use sums::digest_of;
-pub use table_file::{file_name, write_table_file};
-pub use table_name::{TableName, table_names_from};
-pub use table_text::{text_in, write_table};
+pub use table_file::{file_name, write_table_files};
+pub use table_name::TableName;
+pub use table_text::text_in;
+pub use table_writer::{TableWriter, write_tables};
 pub use writing_fault::WritingFault;

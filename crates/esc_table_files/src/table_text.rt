@@ -1,24 +1,19 @@
 //! The text of a table.
 
-ghost use Rattle.std.specs.Prelude.{◌≡◌, ◌∷◌, ◌++◌, List, map, filter, option_map, codes, IfOk};
-ghost use Rattle.std.specs.Prelude.{IfErr, OnOk, string_bytes};
-ghost use Rattle.std.specs.Io.KnownBytes.{Appends};
+ghost use Rattle.std.specs.Prelude.{◌≡◌, ◌∷◌, ◌++◌, map, filter, option_map, codes, IfOk, OnOk};
+ghost use Rattle.std.specs.Prelude.{string_bytes};
 ghost use Rattle.std.specs.Map.{lookup};
 ghost use Rattle.std.specs.Str.{bytes_eq};
-ghost use Rattle.esc_apply.specs.ObjectStreams.{Entry};
 ghost use Rattle.esc_csv.specs.Lines.{line_text, text_of};
 ghost use Rattle.esc_check.specs.Export.{is_of_table};
-ghost use Rattle.esc_table_files.specs.Layouts.{row_line, entry_lines, table_csv};
-ghost use Rattle.esc_table_files.specs.WritingFaults.{IfWritingSource, OfWritingSource};
+ghost use Rattle.esc_table_files.specs.Layouts.{row_line, entry_lines};
+ghost use Rattle.esc_table_files.specs.Writing.{heading_csv};
 
 use crate::layout::Layout;
-use crate::writing_fault::WritingFault;
-use esc_apply::Objects;
 use esc_bundle::NoMemory;
 use esc_csv::Lines;
 use esc_tables::{Key, Object, Row};
 use std::alloc::Global;
-use std::io::Write;
 
 /// The text of a field in a row: that of its first cell; `None` if it has no such field.
 pub fn text_in<'a>(row: &'a Row, field: &str) -> Option<&'a str>
@@ -123,17 +118,19 @@ fn write_rows(
     }
 }
 
-fn heading_text(alloc: Global, columns: &[String]) -> Result<Vec<u8>, NoMemory>
-    ensures { IfOk result (λ text. text.items
-        ≡ line_text (codes "key" ∷ map string_bytes columns.now)) }
+/// The heading of a table as CSV.
+pub(crate) fn heading_text(alloc: Global, layout: &Layout) -> Result<Vec<u8>, NoMemory>
+    ensures { IfOk result (λ text. text.items ≡ heading_csv layout.now) }
 {
-    let heading = heading_of(alloc, columns)?;
+    let heading = heading_of(alloc, &layout.columns)?;
     let mut lines = Lines::new(alloc);
     lines.write(&heading)?;
     lines.into_text()
 }
 
-fn rows_text(
+/// An object's rows in a table as CSV (this project's profile): a line for each. The first column is
+/// the key; a row that has no cell of a column's field has an empty text there.
+pub(crate) fn rows_text(
     alloc: Global,
     layout: &Layout,
     key: &Key,
@@ -145,30 +142,4 @@ fn rows_text(
     let mut lines = Lines::new(alloc);
     write_rows(alloc, &mut lines, layout, key, object)?;
     lines.into_text()
-}
-
-/// Writes a table as CSV (this project's profile): a heading, and a line for each row, by the
-/// objects' keys. The first column is the key; a row that has no cell of a column's field has an
-/// empty text there. It allocates for the lines of one object at a time. At `Err` a part of the
-/// text may be written.
-pub fn write_table<O: Objects, W: Write>(
-    alloc: Global,
-    output: &mut W,
-    objects: &mut O,
-    layout: &Layout,
-) -> Result<(), WritingFault<O::Error>>
-    ensures follows { O.follows objects.old objects.new }
-    ensures source { IfErr result (λ fault. IfWritingSource fault (O.has_failed objects.new)) }
-    ensures cause { IfErr result (OfWritingSource O.fails) }
-    ensures text { OnOk result (O.is_honest objects.new → (es : List Entry)
-        → O.lists objects.old es
-        → Appends (W.contents output.old) (W.contents output.new) (table_csv layout.now es)) }
-{
-    let heading = heading_text(alloc, &layout.columns)?;
-    output.write_all(&heading)?;
-    while let Some((key, object)) = objects.next().map_err(WritingFault::Source)? {
-        let text = rows_text(alloc, layout, &key, &object)?;
-        output.write_all(&text)?;
-    }
-    Ok(())
 }

@@ -6,7 +6,7 @@ ghost use Rattle.esc_table_files.specs.declared.writing_fault.WritingFault.TheVa
 
 use esc_bundle::NoMemory;
 use sqlite::ErrorCode;
-use std::alloc::AllocError;
+use std::alloc::{AllocError, AllocFailed};
 use std::io;
 
 /// Why a table was not written.
@@ -30,6 +30,12 @@ impl<E> From<NoMemory> for WritingFault<E> {
 
 impl<E> From<AllocError> for WritingFault<E> {
     fn from(_error: AllocError) -> WritingFault<E> {
+        WritingFault::NoMemory
+    }
+}
+
+impl<E, T: Drop> From<AllocFailed<T>> for WritingFault<E> {
+    fn from(_error: AllocFailed<T>) -> WritingFault<E> {
         WritingFault::NoMemory
     }
 }

@@ -4,8 +4,8 @@ use crate::walking::walk;
 use esc_cli::DONE;
 use esc_desk::Reads;
 use esc_envelope::Kind;
-use esc_handover::{Answer, Progress, Stop, TableFolder, read_layouts, read_table_names};
-use esc_table_files::{Database, Layout, TableName, check_layouts};
+use esc_handover::{Answer, Progress, Stop, TableFolder, read_layouts};
+use esc_table_files::{Database, Layout, check_layouts};
 use std::alloc::Global;
 
 /// The words of the command: the folder, and whether a database is made as well.
@@ -16,7 +16,15 @@ pub struct Tabling<'a> {
     pub has_database: bool,
 }
 
-/// Writes the tables of a store as files, or nothing.
+// The tables of a kind.
+#[derive(Drop)]
+struct KindTables {
+    kind: Kind,
+    layouts: Vec<Layout>,
+}
+
+/// Writes the tables of a store as files, or nothing. The objects of each kind are read once for
+/// their tables and columns, once for the CSV files, and once for the database.
 pub fn write_tables<R: Reads>(
     reader: &mut R,
     words: Tabling<'_>,
@@ -24,9 +32,9 @@ pub fn write_tables<R: Reads>(
 ) -> Result<Answer, Stop> {
     let alloc = words.rt.alloc();
     check_chain(alloc, reader)?;
-    let layouts = layouts_in(alloc, reader, &mut progress)?;
-    check_layouts(alloc, &layouts, words.has_database)?;
-    write_folder(reader, words, &layouts, &mut progress)?;
+    let kinds = read_kinds(alloc, reader, &mut progress)?;
+    check_kinds(alloc, &kinds, words.has_database)?;
+    write_folder(reader, words, &kinds, &mut progress)?;
     Ok(Answer {
         text: Vec::new(alloc),
         status: DONE,
@@ -41,51 +49,40 @@ fn check_chain<R: Reads>(alloc: Global, reader: &mut R) -> Result<(), Stop> {
     }
 }
 
-// The tables of all kinds.
-fn layouts_in<R: Reads>(
+// Reads which tables and columns there are.
+fn read_kinds<R: Reads>(
     alloc: Global,
     reader: &mut R,
     progress: &mut Progress<'_>,
-) -> Result<Vec<Layout>, Stop> {
-    let mut layouts = Vec::new(alloc);
+) -> Result<Vec<KindTables>, Stop> {
+    let mut kinds = Vec::new(alloc);
     for kind in Kind::ALL {
-        add_layouts(alloc, reader, kind, &mut layouts, progress)?;
+        let walk = walk(alloc, reader, Some(kind))?;
+        let layouts = read_layouts(alloc, walk, kind, progress)?;
+        kinds.push(KindTables { kind, layouts })?;
     }
-    Ok(layouts)
+    Ok(kinds)
 }
 
-fn add_layouts<R: Reads>(
-    alloc: Global,
-    reader: &mut R,
-    kind: Kind,
-    layouts: &mut Vec<Layout>,
-    progress: &mut Progress<'_>,
-) -> Result<(), Stop> {
-    let tables = tables_of(alloc, reader, kind, progress)?;
-    let walk = walk(alloc, reader, Some(kind))?;
-    layouts.append(&mut read_layouts(alloc, walk, kind, tables, progress)?)?;
-    Ok(())
-}
-
-fn tables_of<R: Reads>(
-    alloc: Global,
-    reader: &mut R,
-    kind: Kind,
-    progress: &mut Progress<'_>,
-) -> Result<Vec<TableName>, Stop> {
-    let walk = walk(alloc, reader, Some(kind))?;
-    Ok(read_table_names(alloc, walk, kind, progress)?)
+fn check_kinds(alloc: Global, kinds: &[KindTables], has_database: bool) -> Result<(), Stop> {
+    let mut layouts = Vec::new(alloc);
+    for tables in kinds {
+        for layout in &tables.layouts {
+            layouts.push(layout)?;
+        }
+    }
+    Ok(check_layouts(alloc, &layouts, has_database)?)
 }
 
 // Writes the folder, or nothing.
 fn write_folder<R: Reads>(
     reader: &mut R,
     words: Tabling<'_>,
-    layouts: &[Layout],
+    kinds: &[KindTables],
     progress: &mut Progress<'_>,
 ) -> Result<(), Stop> {
     let mut folder = TableFolder::create(words.rt, words.folder)?;
-    let written = write_files(reader, words, layouts, &mut folder, progress);
+    let written = write_files(reader, words, kinds, &mut folder, progress);
     folder.finish(written)
 }
 
@@ -93,17 +90,17 @@ fn write_folder<R: Reads>(
 fn write_files<R: Reads>(
     reader: &mut R,
     words: Tabling<'_>,
-    layouts: &[Layout],
+    kinds: &[KindTables],
     folder: &mut TableFolder<'_>,
     progress: &mut Progress<'_>,
 ) -> Result<(), Stop> {
     let alloc = words.rt.alloc();
-    for layout in layouts {
-        let walk = walk(alloc, reader, Some(layout.table.kind))?;
-        folder.write_table(walk, layout, progress)?;
+    for tables in kinds {
+        let walk = walk(alloc, reader, Some(tables.kind))?;
+        folder.write_tables(walk, tables.kind, &tables.layouts, progress)?;
     }
     if words.has_database {
-        write_database(alloc, reader, layouts, folder, progress)?;
+        write_database(alloc, reader, kinds, folder, progress)?;
     }
     folder.write_sums()
 }
@@ -112,26 +109,26 @@ fn write_files<R: Reads>(
 fn write_database<R: Reads>(
     alloc: Global,
     reader: &mut R,
-    layouts: &[Layout],
+    kinds: &[KindTables],
     folder: &mut TableFolder<'_>,
     progress: &mut Progress<'_>,
 ) -> Result<(), Stop> {
     let mut database = folder.create_database()?;
-    add_tables(alloc, reader, layouts, folder, &mut database, progress)?;
+    add_tables(alloc, reader, kinds, folder, &mut database, progress)?;
     folder.finish_database(database, progress)
 }
 
 fn add_tables<R: Reads>(
     alloc: Global,
     reader: &mut R,
-    layouts: &[Layout],
+    kinds: &[KindTables],
     folder: &TableFolder<'_>,
     database: &mut Database,
     progress: &mut Progress<'_>,
 ) -> Result<(), Stop> {
-    for layout in layouts {
-        let walk = walk(alloc, reader, Some(layout.table.kind))?;
-        folder.add_table(database, walk, layout, progress)?;
+    for tables in kinds {
+        let walk = walk(alloc, reader, Some(tables.kind))?;
+        folder.add_tables(database, walk, &tables.layouts, progress)?;
     }
     Ok(())
 }

@@ -1,6 +1,6 @@
 use Rattle.std.proofs.Common.{◌≡◌, ◌++◌, map, take, drop}
 use Rattle.esc_table_files.specs.Gathering.{with_fields}
-use Rattle.esc_table_files.proofs.layout.add_all_fields.Given as goal
+use Rattle.esc_table_files.proofs.layouts.add_all_fields.Given as goal
 
 -- those so far are changed, and those that are left are as they were
 abbrev pub invariant-loop-layout : goal.invariant-loop-layout
