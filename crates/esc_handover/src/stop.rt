@@ -41,6 +41,8 @@ pub enum Stop {
     Alike(String),
     /// `H10`: this table can't be one of a database.
     Undatabased(String),
+    /// `H11`: PostgreSQL can't load this table.
+    Unloadable(String),
 }
 
 impl Stop {
@@ -75,7 +77,7 @@ impl Stop {
                 ..
             } => STOPPED,
             Stop::Unbundled { .. } | Stop::Chainless => REFUSED,
-            Stop::Alike(_) | Stop::Undatabased(_) => REFUSED,
+            Stop::Alike(_) | Stop::Undatabased(_) | Stop::Unloadable(_) => REFUSED,
         }
     }
 
@@ -96,6 +98,7 @@ impl fmt::Display for Stop {
             Stop::Chainless => f.write_str("H7"),
             Stop::Alike(table) => write!(f, "H9 {}", OneLine(table.as_str())),
             Stop::Undatabased(table) => write!(f, "H10 {}", OneLine(table.as_str())),
+            Stop::Unloadable(table) => write!(f, "H11 {}", OneLine(table.as_str())),
         }
     }
 }
@@ -172,6 +175,7 @@ impl From<LayoutFault> for Stop {
         match fault {
             LayoutFault::Alike(table) => Stop::Alike(table),
             LayoutFault::Undatabased(table) => Stop::Undatabased(table),
+            LayoutFault::Unloadable(table) => Stop::Unloadable(table),
             LayoutFault::NoMemory => Stop::NO_MEMORY,
         }
     }

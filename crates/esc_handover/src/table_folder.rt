@@ -6,8 +6,8 @@ use esc_apply::Objects;
 use esc_envelope::Kind;
 use esc_store::StoreFault;
 use esc_table_files::{
-    Database, Layout, NewFolder, REGISTRY, WritingFault, check_place, file_name, path_beside,
-    write_table_files,
+    Database, LOAD_SCRIPT, Layout, NewFolder, REGISTRY, WritingFault, check_place, file_name,
+    is_loadable_file, path_beside, write_load_script, write_table_files,
 };
 use std::alloc::Global;
 use std::io::{Error, ErrorKind};
@@ -85,6 +85,30 @@ impl<'a> TableFolder<'a> {
         self.or_stop_writing(finished)?;
         progress.tell_written(REGISTRY);
         Ok(())
+    }
+
+    /// Writes the statements by which PostgreSQL loads the files of these tables, which are there.
+    pub fn write_load_script(
+        &mut self,
+        layouts: &[&Layout],
+        progress: &mut Progress<'_>,
+    ) -> Result<(), Stop> {
+        for layout in layouts {
+            self.check_file(layout)?;
+        }
+        let written = write_load_script(&mut self.folder, layouts);
+        self.or_stop(written)?;
+        progress.tell_written(LOAD_SCRIPT);
+        Ok(())
+    }
+
+    // `H11` if PostgreSQL can't load the file of a table.
+    fn check_file(&self, layout: &Layout) -> Result<(), Stop> {
+        if self.or_stop(is_loadable_file(&self.folder, layout))? {
+            return Ok(());
+        }
+        let name = String::from_str(self.rt.alloc(), layout.table.text())?;
+        Err(Stop::Unloadable(name))
     }
 
     /// Writes the file of the sums.

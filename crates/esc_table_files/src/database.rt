@@ -2,6 +2,7 @@
 
 use crate::folder::NewFolder;
 use crate::layout::Layout;
+use crate::load_script::quoted;
 use crate::table_text::text_in;
 use crate::writing_fault::WritingFault;
 use esc_apply::Objects;
@@ -73,21 +74,15 @@ fn remove_log(folder: &NewFolder<'_>) -> Result<(), io::Error> {
     fs::remove_file(folder.rt(), log.as_str())
 }
 
-// A name between double quotes, which stand twice within.
-fn quoted(alloc: Global, name: &str) -> Result<String, NoMemory> {
-    let doubled = name.replace(alloc, '"', "\"\"")?;
-    Ok(format!(in alloc; "\"{doubled}\"")?)
-}
-
 // The statement that makes a table. The key of parent rows is the table's.
 fn table_text(alloc: Global, layout: &Layout) -> Result<String, NoMemory> {
-    let table = quoted(alloc, layout.table.text())?;
+    let table = quoted(alloc, layout.table.text(), "\"")?;
     let mut text = format!(in alloc; "CREATE TABLE {table} (\"key\" TEXT NOT NULL")?;
     if layout.table.child.is_none() {
         text.push_str(" PRIMARY KEY")?;
     }
     for column in &layout.columns {
-        let column = quoted(alloc, column.as_str())?;
+        let column = quoted(alloc, column.as_str(), "\"")?;
         text.push_str(format!(in alloc; ", {column} TEXT")?.as_str())?;
     }
     text.push_str(")")?;
@@ -113,7 +108,7 @@ fn insert_text(
     width: usize,
     rows: usize,
 ) -> Result<String, NoMemory> {
-    let table = quoted(alloc, layout.table.text())?;
+    let table = quoted(alloc, layout.table.text(), "\"")?;
     let mut text = format!(in alloc; "INSERT INTO {table} VALUES ")?;
     for row in 0..rows {
         let first = row.saturating_mul(width).saturating_add(1);
@@ -126,8 +121,8 @@ fn insert_text(
 
 // The statement that makes the index over the keys of child rows. No table has a point in its name.
 fn index_text(alloc: Global, name: &str) -> Result<String, NoMemory> {
-    let index = quoted(alloc, format!(in alloc; "{name}.key")?.as_str())?;
-    let table = quoted(alloc, name)?;
+    let index = quoted(alloc, format!(in alloc; "{name}.key")?.as_str(), "\"")?;
+    let table = quoted(alloc, name, "\"")?;
     Ok(format!(in alloc; "CREATE INDEX {index} ON {table} (\"key\")")?)
 }
 

@@ -91,18 +91,29 @@ impl<'a> NewFolder<'a> {
 
     /// Adds the line of a file in it: its SHA-256 and its name, as `sha256sum -c` reads them.
     pub(crate) fn add_sum(&mut self, name: &str) -> Result<(), Error> {
-        let path = self.path_of(name)?;
-        let digest = digest_at(self.rt, path.as_str())?;
+        let mut file = self.open_file(name)?;
+        let digest = digest_of(&mut file)?;
         let digest = hex::encode(self.rt.alloc(), &digest)?;
         write!(self.sums, "{digest}  {name}\n")?;
         Ok(())
     }
 
+    /// A file in it, to be read.
+    pub(crate) fn open_file(&self, name: &str) -> Result<File, Error> {
+        let path = self.path_of(name)?;
+        File::open(self.rt, path.as_str())
+    }
+
+    /// Writes a new file in it.
+    pub(crate) fn write_file(&self, name: &str, bytes: &[u8]) -> Result<(), Error> {
+        let mut file = self.create_file(name)?;
+        file.write_all(bytes)?;
+        file.sync_all()
+    }
+
     /// Writes the file of the sums.
     pub fn write_sums(&self) -> Result<(), Error> {
-        let mut file = self.create_file("sha256sums")?;
-        file.write_all(self.sums.as_bytes())?;
-        file.sync_all()
+        self.write_file("sha256sums", self.sums.as_bytes())
     }
 
     /// Puts it in its place, in one step: an empty folder that is there is replaced.
@@ -115,11 +126,6 @@ impl<'a> NewFolder<'a> {
     pub fn remove(&self) {
         let _ = fs::remove_dir_all(self.rt, self.beside.as_str());
     }
-}
-
-fn digest_at(rt: &HostRuntime, path: &str) -> Result<[u8; 32], Error> {
-    let mut file = File::open(rt, path)?;
-    digest_of(&mut file)
 }
 
 // The names in it are on the disk before it gets its own.

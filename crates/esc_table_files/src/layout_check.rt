@@ -2,6 +2,7 @@
 
 use crate::apart::repeated;
 use crate::layout::Layout;
+use crate::load_check::has_loadable_names;
 use esc_bundle::NoMemory;
 use std::alloc::{AllocError, AllocFailed, Global};
 
@@ -18,6 +19,8 @@ pub enum LayoutFault {
     Alike(String),
     /// This table can't be one of a database.
     Undatabased(String),
+    /// PostgreSQL can't have this table.
+    Unloadable(String),
     /// Out of memory.
     NoMemory,
 }
@@ -40,13 +43,8 @@ impl<T: Drop> From<AllocFailed<T>> for LayoutFault {
     }
 }
 
-/// The fault where two tables would have one file, or where a table can't be in the database that
-/// is to be made.
-pub fn check_layouts(
-    alloc: Global,
-    layouts: &[&Layout],
-    has_database: bool,
-) -> Result<(), LayoutFault> {
+/// The fault where two tables would have one file.
+pub fn check_layouts(alloc: Global, layouts: &[&Layout]) -> Result<(), LayoutFault> {
     let mut names = Vec::new(alloc);
     for layout in layouts {
         names.push(layout.table.text())?;
@@ -54,13 +52,22 @@ pub fn check_layouts(
     if let Some(name) = repeated(&names) {
         return Err(LayoutFault::Alike(String::from_str(alloc, name)?));
     }
-    if has_database {
-        check_database(alloc, layouts)?;
+    Ok(())
+}
+
+/// The fault where PostgreSQL can't have a table.
+pub fn check_loadable(alloc: Global, layouts: &[&Layout]) -> Result<(), LayoutFault> {
+    for layout in layouts {
+        if !has_loadable_names(layout) {
+            let name = String::from_str(alloc, layout.table.text())?;
+            return Err(LayoutFault::Unloadable(name));
+        }
     }
     Ok(())
 }
 
-fn check_database(alloc: Global, layouts: &[&Layout]) -> Result<(), LayoutFault> {
+/// The fault where a table can't be in an SQLite database.
+pub fn check_database(alloc: Global, layouts: &[&Layout]) -> Result<(), LayoutFault> {
     for layout in layouts {
         if !is_for_database(alloc, layout)? {
             let name = String::from_str(alloc, layout.table.text())?;

@@ -9,7 +9,8 @@
 //! SHA-256 of what a reader gives.
 //!
 //! `check_layouts` says whether tables can be files. Then `write_table_files` and a [`Database`]
-//! write them to a [`NewFolder`], with their sums.
+//! write them to a [`NewFolder`], with their sums, and `write_load_script` the statements by which
+//! PostgreSQL loads the files.
 //!
 //! ```text
 //! let layouts = layouts_of(alloc, &mut walk(alloc, reader, Kind::Domain)?, Kind::Domain)?;
@@ -28,7 +29,7 @@
 //!
 //! Of what touches files it is proved that no call is unsafe and that each ends: no contract can say
 //! what a file holds, so that is tested on the built program. So it is with `database`, `folder`,
-//! `layout_check` and `table_file`.
+//! `layout_check`, `load_check`, `load_script` and `table_file`.
 #![tactic(auto)]
 
 mod apart;
@@ -39,6 +40,8 @@ mod laws;
 mod layout;
 mod layout_check;
 mod layouts;
+mod load_check;
+mod load_script;
 mod sums;
 mod table_file;
 mod table_name;
@@ -51,8 +54,10 @@ pub use database::{Database, REGISTRY};
 pub use folder::{NewFolder, check_place, path_beside};
 pub use laws::tables_are_read_back;
 pub use layout::Layout;
-pub use layout_check::{LayoutFault, check_layouts};
+pub use layout_check::{LayoutFault, check_database, check_layouts, check_loadable};
 pub use layouts::layouts_of;
+pub use load_check::is_loadable_file;
+pub use load_script::{LOAD_SCRIPT, write_load_script};
 pub use sums::digest_of;
 pub use table_file::{file_name, write_table_files};
 pub use table_name::TableName;

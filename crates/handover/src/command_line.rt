@@ -26,8 +26,10 @@ H4 TABLE (rows of this table have different fields), H5 TABLE (no field has the 
 this table), H6 TABLE (its rows begin with a byte order mark), H7 (there is no chain yet), H8 OUT
 (the bundle reads as other objects), H9 TABLE (another table has the same name but for case), H10
 TABLE (SQLite can't have this table: two of its columns have the same name but for case, it has over
-2,000 of them, or its name begins with sqlite_); Z1 to Z7 (`handover zone --help`). With -v a second
-line says why it is E or S: why: check desk.db: locked by another process.
+2,000 of them, or its name begins with sqlite_), H11 TABLE (PostgreSQL can't load this table: a name
+has 64 bytes, or a column is called key or as one of its own, such as ctid; it has over 1,600 columns,
+a NUL, or a line that is \\. alone); Z1 to Z7 (`handover zone --help`). With -v a second line says why
+it is E or S: why: check desk.db: locked by another process.
 Status: 0 done; 1 refused by U, H or Z, or by a test of check; 2 invalid usage; 3 stopped by S or E1.
 ";
 
@@ -70,6 +72,7 @@ DIR is made, or is an empty folder. In it are then:
 KIND.csv         for each kind, also one without objects: the parent rows
 TABLE.csv        for each table of child rows that there are
 registry.sqlite  with --sqlite: the same tables as those of an SQLite database
+load.sql         with --postgres: what makes the tables in a PostgreSQL database, and loads them
 sha256sums       the SHA-256 of each of these, as `sha256sum -c` reads them
 
 A CSV file has a heading. Its first column, `key`, is the key of the object that a row belongs to, for
@@ -77,11 +80,17 @@ a domain or a host in lower case. Then comes each field that a row of the table 
 which the fields first come. A row without a field has an empty text there, and NULL in the database.
 In the database `key` is the primary key of the parent rows, and child rows have an index over it.
 
+PostgreSQL loads all tables or none. `key` is the primary key of the parent rows, and each child row
+refers to its parent row by it. A column that names objects refers to them, if they are all there. A
+column is of moments or of integers where each row has one, and else of texts; a comment on it says
+so. An empty text is NULL.
+
 The files are made in DIR.part, which becomes DIR when they are whole. With --progress there is also a
 line for each file that is written. Example:
 
     handover tables --store desk.db --sqlite registry
     sqlite3 registry/registry.sqlite 'SELECT hostName, count(*) FROM domainNs GROUP BY hostName'
+    handover tables --store desk.db --postgres copy && cd copy && psql -X -f load.sql registry
 ";
 
 const ZONE: &str = "\
@@ -251,6 +260,13 @@ static PROGRAM: Program = Program {
                     help: "Makes registry.sqlite as well",
                 },
                 Argument {
+                    id: "postgres",
+                    form: ArgumentForm::Flag,
+                    value_name: "",
+                    values: ValueParser::Bool,
+                    help: "Makes load.sql as well, with which PostgreSQL loads the CSV files",
+                },
+                Argument {
                     id: "folder",
                     form: ArgumentForm::Word,
                     value_name: "DIR",
@@ -339,6 +355,7 @@ fn task_of<'a>(rt: &'a HostRuntime, name: &str, given: &ArgMatches<'a>) -> Optio
             rt,
             folder: given.get_str("folder")?,
             has_database: given.get_flag("sqlite"),
+            has_script: given.get_flag("postgres"),
         })),
         _ => None,
     }

@@ -7,8 +7,8 @@
 //!   for each test of [`esc_handover::Test`] ([`esc_handover::lines_of`], whose contract says which
 //!   of them pass).
 //! - `handover tables --store FILE DIR` writes the tables as CSV files
-//!   ([`esc_handover::write_table`], whose contract states the whole text), and with `--sqlite` as
-//!   a database.
+//!   ([`esc_table_files::write_tables`], whose contract states each text), with `--sqlite` as a
+//!   database, and with `--postgres` the statements by which PostgreSQL loads them.
 //! - `handover zone --store FILE --origin TLD --apex FILE --serial N OUT` writes the zone of the
 //!   registry's top-level domain ([`esc_zone`], whose page has the forms of lines and refusals).
 //! - `handover page --store FILE OUT` writes a page of HTML that shows the release and the registry
@@ -23,10 +23,11 @@
 //! rows. Its own refusals are `H4 TABLE` for a table whose rows have different fields, `H5 TABLE`
 //! for one whose key is in no field, `H6 TABLE` for one whose rows begin with a byte order mark,
 //! `H7` for a store without a chain, `H8 OUT` where the bundle that was made reads as other
-//! objects, `H9 TABLE` for two tables with the same name but for case, and `H10 TABLE` for a table
-//! that SQLite can't have. `Z1` to `Z7` are those of `zone`. The status is 0 where all went well; 1
-//! for U, H and Z, and where a test of `check` is wrong; 2 for invalid usage; 3 for S and E1. With
-//! `--progress` standard error says how far the work is, with `--verbose` why it is S or E1.
+//! objects, `H9 TABLE` for two tables with the same name but for case, `H10 TABLE` for a table that
+//! SQLite can't have, and `H11 TABLE` for one that PostgreSQL can't load. `Z1` to `Z7` are those of
+//! `zone`. The status is 0 where all went well; 1 for U, H and Z, and where a test of `check` is
+//! wrong; 2 for invalid usage; 3 for S and E1. With `--progress` standard error says how far the
+//! work is, with `--verbose` why it is S or E1.
 //!
 //! | Module | Does |
 //! |---|---|
@@ -38,8 +39,8 @@
 //! | `zone` | `zone`: the zone as a file |
 //!
 //! What needs no desk is in [`esc_handover`]: what the bodies of a store say, texts and pages, how
-//! files, folders and a database are written, how it is told how far the work is, and what the
-//! program stops for.
+//! files are written, how it is told how far the work is, and what the program stops for; and in
+//! [`esc_table_files`]: which tables there are, and how they are written.
 //!
 //! By proof: that no call is unsafe and that each ends, whatever the words and files are.
 #![tactic(auto)]

@@ -5,15 +5,17 @@ use esc_cli::DONE;
 use esc_desk::Reads;
 use esc_envelope::Kind;
 use esc_handover::{Answer, Progress, Stop, TableFolder, read_layouts};
-use esc_table_files::{Database, Layout, check_layouts};
+use esc_table_files::{Database, Layout, check_database, check_layouts, check_loadable};
 use std::alloc::Global;
 
-/// The words of the command: the folder, and whether a database is made as well.
+/// The words of the command: the folder, and whether a database and the statements for PostgreSQL
+/// are made as well.
 #[derive(Clone, Copy)]
 pub struct Tabling<'a> {
     pub rt: &'a HostRuntime,
     pub folder: &'a str,
     pub has_database: bool,
+    pub has_script: bool,
 }
 
 // The tables of a kind.
@@ -33,7 +35,7 @@ pub fn write_tables<R: Reads>(
     let alloc = words.rt.alloc();
     check_chain(alloc, reader)?;
     let kinds = read_kinds(alloc, reader, &mut progress)?;
-    check_kinds(alloc, &kinds, words.has_database)?;
+    check_kinds(words, &kinds)?;
     write_folder(reader, words, &kinds, &mut progress)?;
     Ok(Answer {
         text: Vec::new(alloc),
@@ -64,14 +66,28 @@ fn read_kinds<R: Reads>(
     Ok(kinds)
 }
 
-fn check_kinds(alloc: Global, kinds: &[KindTables], has_database: bool) -> Result<(), Stop> {
+// The tables of all kinds.
+fn all_layouts(alloc: Global, kinds: &[KindTables]) -> Result<Vec<&Layout>, Stop> {
     let mut layouts = Vec::new(alloc);
     for tables in kinds {
         for layout in &tables.layouts {
             layouts.push(layout)?;
         }
     }
-    Ok(check_layouts(alloc, &layouts, has_database)?)
+    Ok(layouts)
+}
+
+fn check_kinds(words: Tabling<'_>, kinds: &[KindTables]) -> Result<(), Stop> {
+    let alloc = words.rt.alloc();
+    let layouts = all_layouts(alloc, kinds)?;
+    check_layouts(alloc, &layouts)?;
+    if words.has_database {
+        check_database(alloc, &layouts)?;
+    }
+    if words.has_script {
+        check_loadable(alloc, &layouts)?;
+    }
+    Ok(())
 }
 
 // Writes the folder, or nothing.
@@ -98,6 +114,10 @@ fn write_files<R: Reads>(
     for tables in kinds {
         let walk = walk(alloc, reader, Some(tables.kind))?;
         folder.write_tables(walk, tables.kind, &tables.layouts, progress)?;
+    }
+    if words.has_script {
+        let layouts = all_layouts(alloc, kinds)?;
+        folder.write_load_script(&layouts, progress)?;
     }
     if words.has_database {
         write_database(alloc, reader, kinds, folder, progress)?;

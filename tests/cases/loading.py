@@ -1,0 +1,148 @@
+"""`handover tables --postgres`: what `load.sql` makes of the tables of registries, against a plain
+model; and what PostgreSQL can't load. (trials/postgres.py has a PostgreSQL load it.)"""
+import functools
+import hashlib
+import os
+import shutil
+
+from cases.handovers import (
+    BUNDLE, CHECK, CHILD, FIRST, PAGE, TABLES, check_contents_refused, check_refused, children,
+    contacts, names_in, played_apart, store_of)
+from cases.tables import sheets_of
+from support.documents import csv_text
+from support.files import read
+from support.formats import KINDS
+from support.outputs import prepared
+from support.releases import SAMPLES, Release
+from support.stage import Failed, Stage, Wanted, case, compare, compare_all
+from support.stores import contents, run
+
+LOAD = 'tables --store a.db --postgres out'
+# The kinds that columns name objects of (FORMATS, links).
+LINKS = {
+    ('contact', 'clID'): 'registrar', ('host', 'clID'): 'registrar',
+    ('domain', 'clID'): 'registrar', ('domain', 'registrant'): 'contact',
+    ('domain', 'idnTableId'): 'idn',
+    ('nndn', 'idnTableId'): 'idn', ('domainContacts', 'contactId'): 'contact',
+    ('domainNs', 'hostName'): 'host'}
+NOBODY = 65534
+
+Sheets = dict[str, tuple[bool, list[str], list[tuple]]]
+
+
+def statements_of(sheets: Sheets) -> list[str]:
+    """The lines of `load.sql` from the first table on."""
+    made, settled, kind = [], [], ''
+    for name, (is_parent, columns, _) in sheets.items():
+        kind = name if is_parent else kind
+        fields = ''.join(f', "{it}" text' for it in columns)
+        role = 'PRIMARY KEY' if is_parent else 'NOT NULL'
+        made += [f'CREATE TABLE "{name}" ("key" text {role}{fields});',
+                 f'\\copy "{name}" FROM \'{name}.csv\' '
+                 "WITH (FORMAT csv, HEADER, ENCODING 'UTF8')"]
+        if is_parent:
+            made.append(f'COMMENT ON TABLE "{name}" IS \'The {kind} objects.\';')
+        else:
+            made += [f'ALTER TABLE "{name}" ADD FOREIGN KEY ("key") REFERENCES "{kind}";',
+                     f'CREATE INDEX ON "{name}" ("key");',
+                     f'COMMENT ON TABLE "{name}" IS \'Child rows of {kind} objects.\';']
+        for it in columns:
+            target = LINKS.get((name, it))
+            what, last = ('refer', f", '{target}'") if target else ('settle', '')
+            settled.append(f'CALL pg_temp.{what}(\'"{name}"\', \'{it}\'{last});')
+    return [*made, *settled, '', 'COMMIT;']
+
+
+def check_script(stage: Stage, release: Release) -> None:
+    release.rebuild(stage)
+    objects = release.desk().objects
+    if not release.desk().steps:
+        check_refused(stage, 'H7', LOAD)
+        return
+    run(stage, LOAD, 'handover')
+    sheets = sheets_of(objects)
+    files = [*(f'{it}.csv' for it in sheets), 'load.sql']
+    compare_all('files', sorted([*files, 'sha256sums']), sorted(os.listdir(stage.at('out'))))
+    compare_all('sums', (f'{hashlib.sha256(read(stage.at(f"out/{it}"))).hexdigest()}  {it}'
+                         for it in files), read(stage.at('out/sha256sums')).decode().splitlines())
+    lines = read(stage.at('out/load.sql')).decode().splitlines()
+    first = next(at for at, it in enumerate(lines) if it.startswith('CREATE TABLE'))
+    compare_all('statements', statements_of(sheets), lines[first:])
+    compare('one transaction', '1 1', f'{lines.count("BEGIN;")} {lines.count("COMMIT;")}')
+    shutil.rmtree(stage.at('out'))
+
+
+CASES = {f'load.sql of {name}': functools.partial(check_script, release=it)
+         for name, it in SAMPLES.items()}
+LONG = 'a' * 64
+# The tables of a Full and of a Differential, of which PostgreSQL can't load one: by a name, a NUL,
+# or a line at which psql stops.
+UNLOADED = (
+    ('H11 contact', (contacts(b'C1,c1\n', ('id', 'ctid')),)),
+    ('H11 contact', (contacts(b'C1,c1\n', ('id', 'key')),)),
+    ('H11 contact', (contacts(b'C1,c1\n', ('id', LONG)),)),
+    (f'H11 {LONG}', (FIRST, children(b'C1\n', LONG, ('id',)))),
+    ('H11 more', (FIRST, CHILD), (contacts(b'C2,X2\n'), children(b'C2,x\x00y\n'))),
+    ('H11 contact', (contacts(csv_text((('C1', 'a\n\\.\nb'),), ',')),)),
+    ('H11 contact', (contacts(csv_text((('C1', '\n\\.\r\n'),), ',')),)),
+)
+CASES['Tables that PostgreSQL can not load'] = played_apart(
+    functools.partial(check_contents_refused, lines=(LOAD,)), UNLOADED)
+
+
+def check_loaded(stage: Stage, *tables: object) -> None:
+    store_of(stage, tables)
+    run(stage, LOAD, 'handover')
+    shutil.rmtree(stage.at('out'))
+
+
+# Tables that are near to those.
+LOADED = (
+    (contacts(b'C1,c1,c2\n', ('id', 'ID', 'Key')),),
+    (contacts(b'C1,c1\n', ('id', LONG[1:])),),
+    (contacts(csv_text((('C1', 'a\\.\n\\.b\n \\.\n\\..\n.'),), ',')),),
+)
+CASES['Tables that PostgreSQL can load'] = played_apart(check_loaded, LOADED)
+
+
+def test_words(stage: Stage) -> None:
+    """Words of `--postgres`, with a database too."""
+    store_of(stage, (FIRST,))
+    for line in ('tables --store a.db --postgres', 'tables --store a.db --postgres=yes out',
+                 'tables --store a.db --postgres --postgres out'):
+        stage.check(line, Wanted(2, '', None), program='handover')
+    told = ''.join(f'{it}.csv: written\n' for it in KINDS)
+    stage.check(f'{LOAD} --sqlite --progress', Wanted(
+        0, '', f'opening a.db\n{told}load.sql: written\nregistry.sqlite: written\n'),
+        program='handover')
+
+
+def test_the_store_is_as_it_was(stage: Stage) -> None:
+    """What reads a store changes neither it nor its log, also a second time."""
+    store_of(stage, (FIRST, CHILD))
+    run(stage, 'report --store a.db status')
+    before = contents(stage.at('a.db'))
+    for at, line in enumerate((CHECK, PAGE, TABLES, LOAD, f'{LOAD} --sqlite', BUNDLE) * 2):
+        with case(line):
+            run(stage, line.replace(' out', f' out{at}'), 'handover', (0, 1))
+            if contents(stage.at('a.db')) != before:
+                raise Failed('the store or its log is changed')
+
+
+def test_a_store_that_may_not_be_written(stage: Stage) -> None:
+    """A store that may be read alone, in such a folder. (This asks for root.)"""
+    if os.geteuid():
+        return
+    store_of(stage, (FIRST,))
+    stage.programs = {it: shutil.copy(stage.programs[it], stage.at(it))
+                      for it in ('restore', 'handover')}
+    os.chmod(stage.room.name, 0o755)
+    for end in ('', '-wal'):
+        os.chmod(stage.at(f'a.db{end}'), 0o644)
+    before, names = contents(stage.at('a.db')), names_in(stage.room.name)
+    for line in (CHECK, PAGE, TABLES, LOAD, BUNDLE):
+        stage.check(line, Wanted(3, '', 'E1 a.db\n'), program='handover',
+                    prepare=prepared(user=NOBODY))
+        compare_all('files', names, names_in(stage.room.name))
+    if contents(stage.at('a.db')) != before:
+        raise Failed('the store or its log is changed')
