@@ -1,4 +1,2 @@
-pub mod Applied
 pub mod AxisOrder
-pub mod Places
 pub mod Restoring

@@ -6,7 +6,7 @@ ghost use Rattle.esc_handover.specs.FullBundle.{full_of, IsFullOf};
 
 use crate::draft::draft_bundle;
 use crate::refusal::BundleRefusal;
-use crate::same::{are_same_counts, are_same_tables};
+use esc_acceptance::{are_same_counts, are_same_tables};
 use esc_envelope::{DepositType, Header, Kind};
 use esc_tables::{Deposit, Key, Object, read_deposit};
 use std::alloc::Global;

@@ -16,8 +16,6 @@ mod style;
 mod summary;
 mod way;
 
-use crate::detail::moment_words;
-use crate::line::lines_of;
 use crate::page::findings::findings_section;
 use crate::page::objects::objects_section;
 use crate::page::part::leaf;
@@ -25,7 +23,7 @@ use crate::page::receipts::{parked_section, receipts_section};
 use crate::page::release::release_section;
 use crate::page::style::STYLE;
 use crate::page::summary::{page_head, tests_section};
-use crate::seen::Seen;
+use esc_acceptance::{Seen, lines_of, moment_words};
 use esc_bundle::NoMemory;
 use esc_envelope::Place;
 use esc_events::ParkedBody;

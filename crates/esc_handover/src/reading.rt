@@ -1,8 +1,7 @@
 //! What is found in objects as they come, while it is told how many were read.
 
-use crate::chain::ChainFacts;
 use crate::progress::{Progress, Watched};
-use crate::rebuild::are_listed;
+use esc_acceptance::{ChainFacts, are_listed};
 use esc_apply::Objects;
 use esc_check::{Finding, StreamFault, verify_from};
 use esc_envelope::Kind;

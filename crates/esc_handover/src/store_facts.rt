@@ -3,12 +3,9 @@
 ghost use Rattle.std.specs.Prelude.{◌≡◌, IfOk};
 ghost use Rattle.esc_html.specs.Markup.{IsHtmlPage};
 
-use crate::acceptance::is_accepted;
-use crate::chain::ChainFacts;
-use crate::line::lines_of;
 use crate::page::page_of;
-use crate::seen::Seen;
 use crate::stop::REFUSED;
+use esc_acceptance::{ChainFacts, Seen, is_accepted, lines_of};
 use esc_bundle::NoMemory;
 use esc_chain::GapLine;
 use esc_check::Finding;

@@ -1,7 +1,8 @@
 //! What the bodies of a store say: whether they are as listed, and what those of the chain make.
 
+use esc_acceptance::ChainFacts;
 use esc_desk::{Reads, StoreFault};
-use esc_handover::{ChainFacts, Progress, StoreFacts};
+use esc_handover::{Progress, StoreFacts};
 use sha2::{Digest, Sha256};
 use std::alloc::Global;
 

@@ -2,10 +2,10 @@
 
 use crate::bodies::read_bodies;
 use crate::walking::walk;
-use esc_desk::Reads;
+use esc_acceptance::gaps_of;
+use esc_desk::{Cause, Reads, StoreFault};
 use esc_handover::{
-    Answer, Form, Progress, Stop, StoreFacts, answer_of, are_made_by, entries_of, gaps_of,
-    read_findings,
+    Answer, Form, Progress, Stop, StoreFacts, answer_of, are_made_by, entries_of, read_findings,
 };
 use std::alloc::Global;
 
@@ -78,7 +78,9 @@ fn ask_end<R: Reads>(
 fn ask_rows<R: Reads>(alloc: Global, reader: &mut R, facts: &mut StoreFacts) -> Result<(), Stop> {
     facts.held = reader.held(alloc)?;
     let moment = facts.moment;
-    facts.gaps = gaps_of(alloc, reader.manifest(), &facts.held, moment)?;
+    facts.gaps = gaps_of(alloc, reader.manifest(), &facts.held, moment)?.ok_or(StoreFault::Failed(
+        Cause::Contradiction,
+    ))?;
     facts.parked = reader.parked(alloc)?;
     Ok(())
 }

@@ -2,7 +2,7 @@
 
 use crate::page::part::{Cell, row_cells, section, table};
 use crate::page::share::share_of;
-use crate::seen::Seen;
+use esc_acceptance::Seen;
 use esc_envelope::Kind;
 use esc_html::{Attribute, Html, Tag, Value};
 use std::alloc::Global;

@@ -1,6 +1,6 @@
 //! What the sections of a page have in common.
 
-use crate::detail::{moment_words, one_line};
+use esc_acceptance::{moment_words, one_line};
 use esc_bundle::NoMemory;
 use esc_html::{Attribute, Html, Tag, Value};
 use std::alloc::Global;

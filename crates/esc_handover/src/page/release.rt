@@ -4,7 +4,7 @@ use crate::page::axis::Axis;
 use crate::page::group::{Group, Grouping, groups_of};
 use crate::page::part::{Cell, leaf, of_class, row, section, table};
 use crate::page::picture::{LANES, lane_name, picture, shape_of, state_word, used};
-use crate::seen::Seen;
+use esc_acceptance::Seen;
 use esc_bundle::NoMemory;
 use esc_chain::{GapLine, State};
 use esc_envelope::DepositType;

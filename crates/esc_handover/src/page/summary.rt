@@ -1,9 +1,7 @@
 //! What a page says first: whether the registry may be taken over.
 
-use crate::acceptance::is_accepted;
-use crate::line::Line;
 use crate::page::part::{leaf, of_class, section, table, with_moment};
-use crate::seen::Seen;
+use esc_acceptance::{Line, Seen, is_accepted};
 use esc_chain::State;
 use esc_html::{Attribute, Html, Tag, Value};
 use std::alloc::Global;

@@ -1,0 +1,16 @@
+use Rattle.std.proofs.Common.{◌∙◌, List, String, Global, string_bytes, sym, ap}
+use Rattle.std.specs.List.{list_any}
+use Rattle.std.specs.Str.{bytes_eq}
+use Rattle.esc_acceptance.specs.Guides.{has_field}
+use Rattle.esc_bundle.specs.ListLaws.{list_any_map}
+use Rattle.esc_envelope.specs.EnvelopeValue.{TableValue}
+use Rattle.esc_acceptance.proofs.guides.has_field.Goals as goal
+
+pub returns : goal.returns
+returns c =
+    let name = c.args.field.now in
+    let items = c.table.inside.fields.items in
+    c.is_among.ensures
+    ∙ ap (λ (fs : List (String Global)). list_any (λ n. bytes_eq (string_bytes n) name) fs) c.deref.ensures.value
+    ∙ sym (list_any_map (λ n. bytes_eq n name) string_bytes items)
+    ∙ ap (λ (t : TableValue). has_field name t) c.table.view_is

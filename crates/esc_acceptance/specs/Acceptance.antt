@@ -1,0 +1,116 @@
+-- What the acceptance of a rebuilt registry asks (this project's profile).
+use Rattle.std.specs.Prelude.{ℕ, ℤ, List, [], ◌∷◌, Bool, true, false, not, ◌&&◌, ◌||◌, ◌==◌, nat_lt}
+use Rattle.std.specs.Prelude.{int_lt, Option, Some, None, is_some}
+use Rattle.std.specs.List.{list_all, list_any}
+use Rattle.std.specs.Ordering.{int_eq}
+use Rattle.esc_envelope.specs.declared.kind.Kind.{Kind}
+use Rattle.esc_envelope.specs.declared.place.Place.{Place}
+use Rattle.esc_envelope.specs.EnvelopeValue.{TableValue}
+use Rattle.esc_envelope.specs.Kinds.{is_kind, kinds}
+use Rattle.esc_envelope.specs.Place.{rank}
+use Rattle.esc_chain.specs.declared.gap.GapLine.{GapLine}
+use Rattle.esc_chain.specs.declared.gap.State.{State}
+use Rattle.esc_chain.specs.declared.gap.State.TheVariants as state
+use Rattle.esc_acceptance.specs.declared.test.Test.{Test}
+use Rattle.esc_acceptance.specs.declared.test.Test.TheVariants as test
+use Rattle.esc_acceptance.specs.Guides.{guides, is_wanted, is_guide_declared, is_disguise}
+
+-- what was seen of a store: the moment that is set, the chain's end, the line of each listed place,
+-- how many bodies are parked and how many findings there are, the objects and the declared numbers
+-- by kind, the tables that the chain's deposits declare, how many orphans these have, how many held
+-- bodies aren't what their rows list, and whether the tables are those that the chain makes
+pub record SeenValue : Type 0 where
+  pub moment : Option ℤ
+  pub end : Option Place
+  pub gaps : List GapLine
+  pub parked : ℕ
+  pub findings : ℕ
+  pub objects : List (Kind × ℕ)
+  pub counts : List (Kind × ℕ)
+  pub tables : List TableValue
+  pub orphans : ℕ
+  pub spoiled : ℕ
+  pub is_rebuilt : Bool
+
+-- whether a place is after another
+abbrev pub is_after : Place → Place → Bool
+is_after p q = int_lt q.watermark p.watermark
+    || (int_eq q.watermark p.watermark && nat_lt (rank q.kind) (rank p.kind))
+
+-- whether a watermark is not later than the moment, if there is one
+abbrev pub is_by : Option ℤ → ℤ → Bool
+is_by None w = true
+is_by (Some t) w = not (int_lt t w)
+
+-- whether a listed place counts, and is after this one
+abbrev pub is_later : Option ℤ → Place → GapLine → Bool
+is_later moment p g = is_by moment g.place.watermark && is_after g.place p
+
+-- whether no place counts that is after this one, the end of the chain; there has to be a chain
+abbrev pub is_end : Option ℤ → List GapLine → Option Place → Bool
+is_end moment gaps None = false
+is_end moment gaps (Some p) = list_all (λ g. not (is_later moment p g)) gaps
+
+-- whether a place is in the chain, and a later revision of it is awaited
+abbrev pub is_in_chain : State → Bool
+is_in_chain state.Missing = false
+is_in_chain state.Blocked = false
+is_in_chain state.Chain = true
+is_in_chain state.Standing = false
+
+abbrev pub is_outdated : GapLine → Bool
+is_outdated g = is_in_chain g.state && is_some g.awaited
+
+-- whether a place is missing or blocked
+abbrev pub is_open : State → Bool
+is_open state.Missing = true
+is_open state.Blocked = true
+is_open state.Chain = false
+is_open state.Standing = false
+
+-- whether a place is missing or blocked, and the chain goes past it
+abbrev pub is_passed : Option Place → GapLine → Bool
+is_passed None g = false
+is_passed (Some p) g = is_open g.state && is_after p g.place
+
+-- whether the number of a kind's objects is declared
+abbrev pub is_counted : List (Kind × ℕ) → Kind → Bool
+is_counted counts k = list_any (λ c. is_kind c.0 k) counts
+
+-- what each test asks
+abbrev pub passes : Test → SeenValue → Bool
+passes test.End s = is_end s.moment s.gaps s.end
+passes test.Resends s = list_all (λ g. not (is_outdated g)) s.gaps
+passes test.Gaps s = list_all (λ g. not (is_passed s.end g)) s.gaps
+passes test.Parked s = s.parked == 0
+passes test.Findings s = s.findings == 0
+passes test.Orphans s = s.orphans == 0
+passes test.Counts s = list_all (is_counted s.counts) kinds
+passes test.Fields s =
+    list_all (λ g. not (is_wanted s.objects g) || is_guide_declared s.tables g) guides
+passes test.Names s = list_all (λ g. not (list_any (is_disguise g) s.tables)) guides
+passes test.Bodies s = s.spoiled == 0
+passes test.Tables s = s.is_rebuilt
+
+-- all tests, in the order in which they are told
+unfoldable pub tests : List Test
+tests =
+    test.End ∷ test.Resends ∷ test.Gaps ∷ test.Parked ∷ test.Findings ∷ test.Orphans ∷
+    test.Counts ∷ test.Fields ∷ test.Names ∷ test.Bodies ∷ test.Tables ∷ []
+
+-- whether a registry may be taken over: each test passes, but for that of gaps, which is only told
+abbrev pub is_told_alone : Test → Bool
+is_told_alone test.Gaps = true
+is_told_alone test.End = false
+is_told_alone test.Resends = false
+is_told_alone test.Parked = false
+is_told_alone test.Findings = false
+is_told_alone test.Orphans = false
+is_told_alone test.Counts = false
+is_told_alone test.Fields = false
+is_told_alone test.Names = false
+is_told_alone test.Bodies = false
+is_told_alone test.Tables = false
+
+abbrev pub is_accepted : SeenValue → Bool
+is_accepted s = list_all (λ t. is_told_alone t || passes t s) tests

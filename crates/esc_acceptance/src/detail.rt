@@ -1,0 +1,205 @@
+//! What a test found, in words, and what to do. No clause says how it is told.
+
+use crate::acceptance::{has_disguise, is_by, is_counted, is_outdated, is_passed};
+use crate::guide::Guide;
+use crate::guides::{is_declared, is_wanted};
+use crate::seen::Seen;
+use crate::test::Test;
+use crate::words::{moment_words, one_line, place_words};
+use esc_bundle::NoMemory;
+use esc_chain::GapLine;
+use esc_envelope::{Kind, Place};
+use std::alloc::Global;
+
+/// What a test found, and what to do: empty where it passed, but for the end of the chain.
+pub(crate) fn detail_of(alloc: Global, test: Test, seen: &Seen<'_>) -> Result<String, NoMemory> {
+    match test {
+        Test::End => end_detail(alloc, seen),
+        Test::Resends => resends_detail(alloc, seen.gaps),
+        Test::Gaps => gaps_detail(alloc, seen.end, seen.gaps),
+        Test::Parked => parked_detail(alloc, seen.parked),
+        Test::Findings => findings_detail(alloc, seen),
+        Test::Orphans => orphans_detail(alloc, seen.orphans),
+        Test::Counts => counts_detail(alloc, seen.counts),
+        Test::Fields => fields_detail(alloc, seen),
+        Test::Names => names_detail(alloc, seen),
+        Test::Bodies => bodies_detail(alloc, seen.spoiled),
+        Test::Tables => tables_detail(alloc, seen.is_rebuilt),
+    }
+}
+
+// The last listed place up to the moment, if any.
+fn last_listed(moment: Option<i64>, gaps: &[GapLine]) -> Option<Place> {
+    gaps.iter()
+        .filter(|line| is_by(moment, line.place.watermark))
+        .last()
+        .map(|line| line.place)
+}
+
+fn end_detail(alloc: Global, seen: &Seen<'_>) -> Result<String, NoMemory> {
+    let Some(end) = seen.end else {
+        return Ok(String::from_str(
+            alloc,
+            "there is no chain; take what `restore report gaps` names",
+        )?);
+    };
+    let mut text = place_words(alloc, end)?;
+    if let Some(moment) = seen.moment {
+        let moment = moment_words(alloc, moment)?;
+        write!(text, ", up to the moment {moment}")?;
+    }
+    if let Some(last) = last_listed(seen.moment, seen.gaps) {
+        if last != end {
+            let last = place_words(alloc, last)?;
+            write!(
+                text,
+                ", and listed up to {last}; take what `restore report gaps` names"
+            )?;
+        }
+    }
+    Ok(text)
+}
+
+fn resends_detail(alloc: Global, gaps: &[GapLine]) -> Result<String, NoMemory> {
+    let count = gaps.iter().filter(|line| is_outdated(line)).count();
+    let Some(first) = gaps.iter().find(|line| is_outdated(line)) else {
+        return Ok(String::new(alloc));
+    };
+    let place = place_words(alloc, first.place)?;
+    let resend = first.awaited.unwrap_or(0);
+    Ok(format!(in alloc;
+        "{count} of the chain await a later resend, the first {place} resend {resend}; ask the agent for it"
+    )?)
+}
+
+fn gaps_detail(alloc: Global, end: Option<Place>, gaps: &[GapLine]) -> Result<String, NoMemory> {
+    let count = gaps.iter().filter(|line| is_passed(end, line)).count();
+    let Some(first) = gaps.iter().find(|line| is_passed(end, line)) else {
+        return Ok(String::new(alloc));
+    };
+    let place = place_words(alloc, first.place)?;
+    let state = first.state;
+    Ok(format!(in alloc;
+        "{count} before the end are missing or blocked, the first {place} {state}; the chain goes past them"
+    )?)
+}
+
+fn parked_detail(alloc: Global, parked: usize) -> Result<String, NoMemory> {
+    if parked == 0 {
+        return Ok(String::new(alloc));
+    }
+    Ok(format!(in alloc;
+        "{parked} are listed by no row; ask the agent for the manifest that lists them, see `restore report parked`"
+    )?)
+}
+
+fn findings_detail(alloc: Global, seen: &Seen<'_>) -> Result<String, NoMemory> {
+    let count = seen.findings.len();
+    let Some(first) = seen.findings.first() else {
+        return Ok(String::new(alloc));
+    };
+    let rule = first.rule;
+    let kind = first.kind.name();
+    let key = one_line(alloc, first.key.as_str())?;
+    let field = first.field.as_str();
+    let gap = if key.is_empty() { "" } else { " " };
+    Ok(format!(in alloc;
+        "{count}, the first {rule} {kind}{gap}{key} {field}; see `restore report links`"
+    )?)
+}
+
+fn orphans_detail(alloc: Global, orphans: u64) -> Result<String, NoMemory> {
+    if orphans == 0 {
+        return Ok(String::new(alloc));
+    }
+    Ok(format!(in alloc;
+        "{orphans} child rows in the chain's deposits have no parent row, and are lost; ask the agent by which field they belong to it"
+    )?)
+}
+
+fn push_item(text: &mut String, item: &str) -> Result<(), NoMemory> {
+    if !text.is_empty() {
+        text.push_str(", ")?;
+    }
+    text.push_str(item)?;
+    Ok(())
+}
+
+fn counts_detail(alloc: Global, counts: &[(Kind, u64)]) -> Result<String, NoMemory> {
+    let mut text = String::new(alloc);
+    for kind in Kind::ALL {
+        if !is_counted(counts, kind) {
+            push_item(&mut text, kind.name())?;
+        }
+    }
+    if !text.is_empty() {
+        text.push_str(
+            " not declared by the chain's last deposit; ask the agent how many there are",
+        )?;
+    }
+    Ok(text)
+}
+
+// The table and the field of a guide: the table's name, or its kind where the parent rows have it.
+fn push_guide(text: &mut String, guide: Guide) -> Result<(), NoMemory> {
+    push_item(
+        text,
+        match guide.child_name() {
+            "" => guide.kind().name(),
+            table => table,
+        },
+    )?;
+    let field = guide.field_name();
+    Ok(write!(text, " {field}")?)
+}
+
+fn fields_detail(alloc: Global, seen: &Seen<'_>) -> Result<String, NoMemory> {
+    let mut text = String::new(alloc);
+    for guide in Guide::ALL {
+        if is_wanted(seen.objects, guide) && !is_declared(seen.tables, guide) {
+            push_guide(&mut text, guide)?;
+        }
+    }
+    if !text.is_empty() {
+        text.push_str(
+            " declared by no deposit of the chain, and so not checked; ask the agent which fields they are",
+        )?;
+    }
+    Ok(text)
+}
+
+fn names_detail(alloc: Global, seen: &Seen<'_>) -> Result<String, NoMemory> {
+    let mut text = String::new(alloc);
+    for guide in Guide::ALL {
+        if has_disguise(guide, seen.tables) {
+            push_guide(&mut text, guide)?;
+        }
+    }
+    if !text.is_empty() {
+        text.push_str(
+            " under another name, and so not checked; have the deposits declared by these names",
+        )?;
+    }
+    Ok(text)
+}
+
+fn bodies_detail(alloc: Global, spoiled: &[usize]) -> Result<String, NoMemory> {
+    let count = spoiled.len();
+    let Some(first) = spoiled.first() else {
+        return Ok(String::new(alloc));
+    };
+    let row = first.saturating_add(1);
+    Ok(format!(in alloc;
+        "{count} held have another SHA-256 than listed, the first of row {row}; go back to a copy of the store, or make it anew"
+    )?)
+}
+
+fn tables_detail(alloc: Global, is_rebuilt: bool) -> Result<String, NoMemory> {
+    if is_rebuilt {
+        return Ok(String::new(alloc));
+    }
+    Ok(String::from_str(
+        alloc,
+        "not those of the chain's deposits; go back to a copy of the store, or make it anew",
+    )?)
+}
