@@ -1,6 +1,6 @@
 -- What the acceptance of a rebuilt registry asks (this project's profile).
 use Rattle.std.specs.Prelude.{ℕ, ℤ, List, [], ◌∷◌, Bool, true, false, not, ◌&&◌, ◌||◌, ◌==◌, nat_lt}
-use Rattle.std.specs.Prelude.{int_lt, Option, Some, None, is_some}
+use Rattle.std.specs.Prelude.{int_lt, Option, Some, None, is_some, length, if◌then◌else◌, codes}
 use Rattle.std.specs.List.{list_all, list_any}
 use Rattle.std.specs.Ordering.{int_eq}
 use Rattle.esc_envelope.specs.declared.kind.Kind.{Kind}
@@ -13,24 +13,33 @@ use Rattle.esc_chain.specs.declared.gap.State.{State}
 use Rattle.esc_chain.specs.declared.gap.State.TheVariants as state
 use Rattle.esc_acceptance.specs.declared.test.Test.{Test}
 use Rattle.esc_acceptance.specs.declared.test.Test.TheVariants as test
-use Rattle.esc_acceptance.specs.Guides.{guides, is_wanted, is_guide_declared, is_disguise}
+use Rattle.esc_apply.specs.ObjectStreams.{Entry}
+use Rattle.esc_acceptance.specs.Guides.{guides, is_wanted, is_there, is_disguise}
 
--- what was seen of a store: the moment that is set, the chain's end, the line of each listed place,
--- how many bodies are parked and how many findings there are, the objects and the declared numbers
--- by kind, the tables that the chain's deposits declare, how many orphans these have, how many held
--- bodies aren't what their rows list, and whether the tables are those that the chain makes
+-- what was seen of a store: how many TLDs the chain's deposits name; the moment that is set, the
+-- chain's end, whether the chain is the latest one, the line of each listed place; how many bodies
+-- are parked, how many arrivals are early ones without a body, how many findings there are; the
+-- objects and the declared numbers by kind, the tables that the chain's deposits declare, what they
+-- make, how many orphans they have, how many held bodies aren't what their rows list, whether those
+-- of the chain are deposits, and whether the tables are what they make; and the notes in them
 pub record SeenValue : Type 0 where
+  pub tlds : ℕ
   pub moment : Option ℤ
   pub end : Option Place
+  pub is_latest : Bool
   pub gaps : List GapLine
   pub parked : ℕ
+  pub early : ℕ
   pub findings : ℕ
   pub objects : List (Kind × ℕ)
   pub counts : List (Kind × ℕ)
   pub tables : List TableValue
+  pub made : List Entry
   pub orphans : ℕ
   pub spoiled : ℕ
+  pub are_read : Bool
   pub is_rebuilt : Bool
+  pub notes : List (List ℕ)
 
 -- whether a place is after another
 abbrev pub is_after : Place → Place → Bool
@@ -79,31 +88,41 @@ is_counted counts k = list_any (λ c. is_kind c.0 k) counts
 
 -- what each test asks
 abbrev pub passes : Test → SeenValue → Bool
+passes test.Tld s = nat_lt s.tlds 2
 passes test.End s = is_end s.moment s.gaps s.end
+passes test.Chain s = s.is_latest
 passes test.Resends s = list_all (λ g. not (is_outdated g)) s.gaps
 passes test.Gaps s = list_all (λ g. not (is_passed s.end g)) s.gaps
+passes test.Moment s = not (is_some s.moment)
 passes test.Parked s = s.parked == 0
+passes test.Early s = s.early == 0
 passes test.Findings s = s.findings == 0
 passes test.Orphans s = s.orphans == 0
 passes test.Counts s = list_all (is_counted s.counts) kinds
 passes test.Fields s =
-    list_all (λ g. not (is_wanted s.objects g) || is_guide_declared s.tables g) guides
+    list_all (λ g. not (is_wanted s.objects g) || is_there s.tables s.made g) guides
 passes test.Names s = list_all (λ g. not (list_any (is_disguise g) s.tables)) guides
-passes test.Bodies s = s.spoiled == 0
+passes test.Bodies s = (s.spoiled == 0) && s.are_read
 passes test.Tables s = s.is_rebuilt
+passes test.Notes s = length s.notes == 0
 
 -- all tests, in the order in which they are told
 unfoldable pub tests : List Test
 tests =
-    test.End ∷ test.Resends ∷ test.Gaps ∷ test.Parked ∷ test.Findings ∷ test.Orphans ∷
-    test.Counts ∷ test.Fields ∷ test.Names ∷ test.Bodies ∷ test.Tables ∷ []
+    test.Tld ∷ test.End ∷ test.Chain ∷ test.Resends ∷ test.Gaps ∷ test.Moment ∷ test.Parked ∷
+    test.Early ∷ test.Findings ∷ test.Orphans ∷ test.Counts ∷ test.Fields ∷ test.Names ∷
+    test.Bodies ∷ test.Tables ∷ test.Notes ∷ []
 
--- whether a registry may be taken over: each test passes, but for that of gaps, which is only told
+-- whether a registry may be taken over where a test fails: then it is only told
 abbrev pub is_told_alone : Test → Bool
-is_told_alone test.Gaps = true
+is_told_alone test.Tld = false
 is_told_alone test.End = false
+is_told_alone test.Chain = false
 is_told_alone test.Resends = false
+is_told_alone test.Gaps = true
+is_told_alone test.Moment = true
 is_told_alone test.Parked = false
+is_told_alone test.Early = true
 is_told_alone test.Findings = false
 is_told_alone test.Orphans = false
 is_told_alone test.Counts = false
@@ -111,6 +130,33 @@ is_told_alone test.Fields = false
 is_told_alone test.Names = false
 is_told_alone test.Bodies = false
 is_told_alone test.Tables = false
+is_told_alone test.Notes = true
 
+-- whether a registry may be taken over: each test passes, but for those that are only told
 abbrev pub is_accepted : SeenValue → Bool
 is_accepted s = list_all (λ t. is_told_alone t || passes t s) tests
+
+-- the status: 0 exactly where the registry may be taken over; a strict one only where nothing is
+-- told either
+abbrev pub status_of : Bool → SeenValue → ℕ
+status_of true s = if list_all (λ t. passes t s) tests then 0 else 1
+status_of false s = if is_accepted s then 0 else 1
+
+-- the name of a test
+unfoldable pub test_name : Test → List ℕ
+test_name test.Tld = codes "tld"
+test_name test.End = codes "end"
+test_name test.Chain = codes "chain"
+test_name test.Resends = codes "resends"
+test_name test.Gaps = codes "gaps"
+test_name test.Moment = codes "moment"
+test_name test.Parked = codes "parked"
+test_name test.Early = codes "early"
+test_name test.Findings = codes "findings"
+test_name test.Orphans = codes "orphans"
+test_name test.Counts = codes "counts"
+test_name test.Fields = codes "fields"
+test_name test.Names = codes "names"
+test_name test.Bodies = codes "bodies"
+test_name test.Tables = codes "tables"
+test_name test.Notes = codes "notes"

@@ -2,13 +2,17 @@
 -- RFC 5731 to 5733, and this project's profile).
 use Rattle.std.specs.Prelude.{ℕ, List, [], ◌∷◌, map, filter, take, drop, length, Bool, true, false}
 use Rattle.std.specs.Prelude.{not, ◌&&◌, ◌||◌, ◌==◌, nat_lt, codes, if◌then◌else◌}
-use Rattle.std.specs.List.{list_any}
+use Rattle.std.specs.Prelude.{is_some}
+use Rattle.std.specs.List.{list_any, list_all}
+use Rattle.std.specs.Map.{lookup}
 use Rattle.std.specs.Str.{bytes_eq}
 use Rattle.std.specs.Char.{to_ascii_lowercase}
 use Rattle.esc_envelope.specs.declared.kind.Kind.{Kind}
 use Rattle.esc_envelope.specs.declared.kind.Kind.TheVariants as kind
 use Rattle.esc_envelope.specs.EnvelopeValue.{TableValue}
 use Rattle.esc_envelope.specs.Kinds.{is_kind}
+use Rattle.esc_tables.specs.ObjectValue.{RowValue}
+use Rattle.esc_apply.specs.ObjectStreams.{Entry}
 use Rattle.esc_acceptance.specs.declared.guide.Guide.{Guide}
 use Rattle.esc_acceptance.specs.declared.guide.Guide.TheVariants.{RegistrarCreation, ContactSponsor}
 use Rattle.esc_acceptance.specs.declared.guide.Guide.TheVariants.{ContactCreation, ContactStatus}
@@ -121,6 +125,22 @@ has_field field t = list_any (λ f. bytes_eq f field) t.fields
 abbrev pub is_guide_declared : List TableValue → Guide → Bool
 is_guide_declared tables g =
     list_any (λ t. is_its_table g t && has_field (guide_field_name g) t) tables
+
+-- whether a row has a field
+abbrev pub has_cell : List ℕ → RowValue → Bool
+has_cell field r = is_some (lookup (bytes_eq field) r.cells)
+
+-- whether an object has it, if it is of the kind that does: its parent row, or each child row of
+-- that table
+abbrev pub has_guide : Guide → Entry → Bool
+has_guide g e = not (is_kind e.0.kind (guide_kind g))
+    || (if is_of_parents g then has_cell (guide_field_name g) e.1.parent
+    else list_all (λ r. not (bytes_eq r.table (child_name g)) || has_cell (guide_field_name g) r)
+    e.1.children)
+
+-- whether it is declared, and each of these objects has it
+abbrev pub is_there : List TableValue → List Entry → Guide → Bool
+is_there tables es g = is_guide_declared tables g && list_all (has_guide g) es
 
 -- whether there are objects of a kind
 abbrev pub has_objects : List (Kind × ℕ) → Kind → Bool

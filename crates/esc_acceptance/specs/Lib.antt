@@ -1,3 +1,7 @@
 pub mod Acceptance
+pub mod Chains
 pub mod Guides
+pub mod Lines
+pub mod Listed
 pub mod Rebuilt
+pub mod Remarks

@@ -1,20 +1,22 @@
 //! The acceptance of a rebuilt registry: what each test finds.
 
-ghost use Rattle.std.specs.Prelude.{◌≡◌, ◌||◌, not};
+ghost use Rattle.std.specs.Prelude.{◌≡◌, ◌||◌, ◌&&◌, not};
 ghost use Rattle.std.specs.List.{list_all, list_any};
 ghost use Rattle.esc_envelope.specs.Kinds.{kinds};
 ghost use Rattle.esc_envelope.specs.Place.{rank};
 ghost use Rattle.esc_acceptance.specs.Acceptance.{is_after, is_by, is_later, is_end, is_in_chain};
 ghost use Rattle.esc_acceptance.specs.Acceptance.{is_outdated, is_open, is_passed, is_counted};
-ghost use Rattle.esc_acceptance.specs.Acceptance.{passes, tests, is_accepted};
-ghost use Rattle.esc_acceptance.specs.Guides.{is_disguise, is_wanted, is_guide_declared, guides};
+ghost use Rattle.esc_acceptance.specs.Acceptance.{passes, tests, is_accepted, status_of};
+ghost use Rattle.esc_acceptance.specs.Guides.{is_disguise, is_wanted, is_there, guides};
 
 use crate::guide::Guide;
-use crate::guides::{all_guides, is_declared, is_disguise, is_wanted};
+use crate::guides::{all_guides, is_disguise, is_there, is_wanted};
 use crate::seen::Seen;
 use crate::test::Test;
 use esc_chain::{GapLine, State};
 use esc_envelope::{DepositType, Kind, Place, Table};
+use esc_tables::{Key, Object};
+use std::collections::BTreeMap;
 
 // The place of a type in the order of types.
 fn rank(kind: DepositType) -> u8
@@ -117,12 +119,12 @@ fn are_counted(counts: &[(Kind, u64)]) -> bool
     kinds.iter().all(|kind| is_counted(counts, *kind))
 }
 
-fn are_fields_there(objects: &[(Kind, u64)], tables: &[Table]) -> bool
+fn are_fields_there(objects: &[(Kind, u64)], tables: &[Table], made: &BTreeMap<Key, Object>) -> bool
     ensures { result ≡ list_all
-        (λ g. not (is_wanted objects.now g) || is_guide_declared tables.now g) guides }
+        (λ g. not (is_wanted objects.now g) || is_there tables.now made.now.entries g) guides }
 {
     let guides = all_guides();
-    guides.iter().all(|guide| !is_wanted(objects, *guide) || is_declared(tables, *guide))
+    guides.iter().all(|guide| !is_wanted(objects, *guide) || is_there(tables, made, *guide))
 }
 
 pub(crate) fn has_disguise(guide: Guide, tables: &[Table]) -> bool
@@ -155,29 +157,33 @@ pub fn passes(test: Test, seen: &Seen<'_>) -> bool
     ensures { result ≡ passes test seen.now }
 {
     match test {
+        Test::Tld => seen.tlds.len() < 2,
         Test::End => is_end_of(seen.moment, seen.gaps, seen.end),
+        Test::Chain => seen.is_latest,
         Test::Resends => has_resends(seen.gaps),
         Test::Gaps => has_no_gaps(seen.end, seen.gaps),
+        Test::Moment => seen.moment.is_none(),
         Test::Parked => seen.parked == 0,
+        Test::Early => seen.early == 0,
         Test::Findings => seen.findings.len() == 0,
         Test::Orphans => seen.orphans == 0,
         Test::Counts => are_counted(seen.counts),
-        Test::Fields => are_fields_there(seen.objects, seen.tables),
+        Test::Fields => are_fields_there(seen.objects, seen.tables, seen.made),
         Test::Names => are_names_clear(seen.tables),
-        Test::Bodies => seen.spoiled.len() == 0,
+        Test::Bodies => seen.spoiled.len() == 0 && seen.are_read,
         Test::Tables => seen.is_rebuilt,
+        Test::Notes => seen.notes.len() == 0,
     }
 }
 
 #[tactic(auto, unfolding(crate::specs::Acceptance::tests))]
-pub(crate) fn all_tests() -> [Test; 11]
+pub(crate) fn all_tests() -> [Test; 16]
     ensures { result ≡ tests }
 {
     Test::ALL
 }
 
-/// Whether a registry may be taken over: each test passes, but for that of gaps, which is only
-/// told.
+/// Whether a registry may be taken over: each test passes, but for those that are only told.
 pub fn is_accepted(seen: &Seen<'_>) -> bool
     ensures { result ≡ is_accepted seen.now }
 {
@@ -185,4 +191,24 @@ pub fn is_accepted(seen: &Seen<'_>) -> bool
     tests
         .iter()
         .all(|test| test.is_told_alone() || passes(*test, seen))
+}
+
+fn is_passed_by_all(seen: &Seen<'_>) -> bool
+    ensures { result ≡ list_all (λ t. passes t seen.now) tests }
+{
+    let tests = all_tests();
+    tests.iter().all(|test| passes(*test, seen))
+}
+
+/// The status of what was seen: 0 exactly where the registry may be taken over, else 1. A strict
+/// one is 0 only where nothing is told either.
+pub fn status_of(seen: &Seen<'_>, is_strict: bool) -> u8
+    ensures { result ≡ status_of is_strict seen.now }
+{
+    let is_right = if is_strict {
+        is_passed_by_all(seen)
+    } else {
+        is_accepted(seen)
+    };
+    if is_right { 0 } else { 1 }
 }

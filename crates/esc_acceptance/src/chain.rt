@@ -1,9 +1,12 @@
 //! What the deposits of a chain make.
 
+ghost use Rattle.std.specs.Prelude.{◌++◌, ◌∷◌, [], ℕ, List, Option, option_map, OnOk};
+ghost use Rattle.esc_acceptance.specs.Chains.{AreFactsOf};
+
+use crate::declared::Declared;
 use crate::rebuild::apply_deposit;
 use esc_bundle::{Fault, NoMemory};
-use esc_envelope::{Envelope, Table};
-use esc_tables::{Key, Object, read_bundled_envelope, read_deposit};
+use esc_tables::{Deposit, Key, Object, read_deposit};
 use std::alloc::Global;
 use std::collections::BTreeMap;
 
@@ -12,29 +15,39 @@ use std::collections::BTreeMap;
 pub struct ChainFacts {
     /// The tables that they make.
     pub objects: BTreeMap<Key, Object>,
-    /// The tables of contents that they declare, each once.
-    pub tables: Vec<Table>,
     /// How many orphans they have.
     pub orphans: u64,
     /// Whether the body of each is there, and is a deposit.
     pub are_read: bool,
+    /// What their envelopes say.
+    pub declared: Declared,
 }
 
 impl ChainFacts {
     /// What no deposits say.
-    pub fn new(alloc: Global) -> ChainFacts {
+    pub fn new(alloc: Global) -> ChainFacts
+        ensures { AreFactsOf [] result }
+    {
         ChainFacts {
             objects: BTreeMap::new(alloc),
-            tables: Vec::new(alloc),
             orphans: 0,
             are_read: true,
+            declared: Declared::new(alloc),
         }
     }
 
-    /// Adds what the next body of the chain says.
-    pub fn add(&mut self, alloc: Global, body: &[u8]) -> Result<(), NoMemory> {
-        match self.add_deposit(alloc, body) {
-            Ok(()) => Ok(()),
+    /// Adds what the next body of the chain says, if it is there.
+    pub fn add(&mut self, alloc: Global, body: Option<&[u8]>) -> Result<(), NoMemory>
+        ensures { OnOk result ((bodies : List (Option (List ℕ))) → AreFactsOf bodies self.old
+            → AreFactsOf (bodies ++ option_map (λ b. b.now) body.entry ∷ []) self.new) }
+    {
+        let Some(body) = body else {
+            self.are_read = false;
+            return Ok(());
+        };
+        self.declared.add(alloc, body)?;
+        match read_deposit(alloc, body) {
+            Ok(deposit) => self.add_deposit(deposit),
             Err(Fault::Refused(_)) => {
                 self.are_read = false;
                 Ok(())
@@ -43,28 +56,8 @@ impl ChainFacts {
         }
     }
 
-    fn add_deposit(&mut self, alloc: Global, body: &[u8]) -> Result<(), Fault> {
-        let Envelope { contents, .. } = read_bundled_envelope(alloc, body)?;
-        for table in contents {
-            if !self.declares(&table) {
-                self.tables.push(table)?;
-            }
-        }
-        let deposit = read_deposit(alloc, body)?;
+    fn add_deposit(&mut self, deposit: Deposit) -> Result<(), NoMemory> {
         self.orphans = self.orphans.saturating_add(deposit.orphans);
-        apply_deposit(&mut self.objects, deposit)?;
-        Ok(())
+        apply_deposit(&mut self.objects, deposit)
     }
-
-    fn declares(&self, table: &Table) -> bool {
-        self.tables.iter().any(|other| is_same_table(table, other))
-    }
-}
-
-// Whether two tables are declared alike, but for the key and the file.
-fn is_same_table(table: &Table, other: &Table) -> bool {
-    table.name == other.name
-        && table.kind == other.kind
-        && table.parent == other.parent
-        && table.fields == other.fields
 }

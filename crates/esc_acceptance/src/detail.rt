@@ -2,7 +2,7 @@
 
 use crate::acceptance::{has_disguise, is_by, is_counted, is_outdated, is_passed};
 use crate::guide::Guide;
-use crate::guides::{is_declared, is_wanted};
+use crate::guides::{is_there, is_wanted};
 use crate::seen::Seen;
 use crate::test::Test;
 use crate::words::{moment_words, one_line, place_words};
@@ -11,21 +11,71 @@ use esc_chain::GapLine;
 use esc_envelope::{Kind, Place};
 use std::alloc::Global;
 
-/// What a test found, and what to do: empty where it passed, but for the end of the chain.
+/// What a test found, and what to do: empty where it passed, but for the TLD and the end of the
+/// chain.
 pub(crate) fn detail_of(alloc: Global, test: Test, seen: &Seen<'_>) -> Result<String, NoMemory> {
     match test {
+        Test::Tld => tld_detail(alloc, seen.tlds),
         Test::End => end_detail(alloc, seen),
+        Test::Chain => chain_detail(alloc, seen.is_latest),
         Test::Resends => resends_detail(alloc, seen.gaps),
         Test::Gaps => gaps_detail(alloc, seen.end, seen.gaps),
+        Test::Moment => moment_detail(alloc, seen.moment),
         Test::Parked => parked_detail(alloc, seen.parked),
+        Test::Early => early_detail(alloc, seen.early),
         Test::Findings => findings_detail(alloc, seen),
         Test::Orphans => orphans_detail(alloc, seen.orphans),
         Test::Counts => counts_detail(alloc, seen.counts),
         Test::Fields => fields_detail(alloc, seen),
         Test::Names => names_detail(alloc, seen),
-        Test::Bodies => bodies_detail(alloc, seen.spoiled),
+        Test::Bodies => bodies_detail(alloc, seen),
         Test::Tables => tables_detail(alloc, seen.is_rebuilt),
+        Test::Notes => notes_detail(alloc, seen.notes),
     }
+}
+
+fn tld_detail(alloc: Global, tlds: &[String]) -> Result<String, NoMemory> {
+    let mut text = String::new(alloc);
+    for tld in tlds {
+        let name = one_line(alloc, tld.as_str())?;
+        push_item(&mut text, name.as_str())?;
+    }
+    if tlds.is_empty() {
+        text.push_str("no deposit of the chain names one")?;
+    }
+    if tlds.len() > 1 {
+        text.push_str(" are named by the chain's deposits; make a store for each")?;
+    }
+    Ok(text)
+}
+
+fn chain_detail(alloc: Global, is_latest: bool) -> Result<String, NoMemory> {
+    if is_latest {
+        return Ok(String::new(alloc));
+    }
+    Ok(String::from_str(
+        alloc,
+        "not the latest one of the held rows; go back to a copy of the store, or make it anew",
+    )?)
+}
+
+fn moment_detail(alloc: Global, moment: Option<i64>) -> Result<String, NoMemory> {
+    let Some(moment) = moment else {
+        return Ok(String::new(alloc));
+    };
+    let moment = moment_words(alloc, moment)?;
+    Ok(format!(in alloc;
+        "{moment} is set, and what is later doesn't count; take it back by `restore as-of` with `latest`"
+    )?)
+}
+
+fn early_detail(alloc: Global, early: u64) -> Result<String, NoMemory> {
+    if early == 0 {
+        return Ok(String::new(alloc));
+    }
+    Ok(format!(in alloc;
+        "{early} arrivals of version 1 had no row, and their bodies weren't kept; take them again unless they are held"
+    )?)
 }
 
 // The last listed place up to the moment, if any.
@@ -156,13 +206,13 @@ fn push_guide(text: &mut String, guide: Guide) -> Result<(), NoMemory> {
 fn fields_detail(alloc: Global, seen: &Seen<'_>) -> Result<String, NoMemory> {
     let mut text = String::new(alloc);
     for guide in Guide::ALL {
-        if is_wanted(seen.objects, guide) && !is_declared(seen.tables, guide) {
+        if is_wanted(seen.objects, guide) && !is_there(seen.tables, seen.made, guide) {
             push_guide(&mut text, guide)?;
         }
     }
     if !text.is_empty() {
         text.push_str(
-            " declared by no deposit of the chain, and so not checked; ask the agent which fields they are",
+            " declared by no deposit of the chain, or not for each object, and so not checked; ask the agent which fields they are",
         )?;
     }
     Ok(text)
@@ -183,14 +233,24 @@ fn names_detail(alloc: Global, seen: &Seen<'_>) -> Result<String, NoMemory> {
     Ok(text)
 }
 
-fn bodies_detail(alloc: Global, spoiled: &[usize]) -> Result<String, NoMemory> {
-    let count = spoiled.len();
-    let Some(first) = spoiled.first() else {
-        return Ok(String::new(alloc));
+fn bodies_detail(alloc: Global, seen: &Seen<'_>) -> Result<String, NoMemory> {
+    let Some(first) = seen.spoiled.first() else {
+        return unread_detail(alloc, seen.are_read);
     };
+    let count = seen.spoiled.len();
     let row = first.saturating_add(1);
     Ok(format!(in alloc;
-        "{count} held have another SHA-256 than listed, the first of row {row}; go back to a copy of the store, or make it anew"
+        "{count} held are gone or have another SHA-256 than listed, the first of row {row}; go back to a copy of the store, or make it anew"
+    )?)
+}
+
+fn unread_detail(alloc: Global, are_read: bool) -> Result<String, NoMemory> {
+    if are_read {
+        return Ok(String::new(alloc));
+    }
+    Ok(String::from_str(
+        alloc,
+        "one of the chain is gone or is no deposit; go back to a copy of the store, or make it anew",
     )?)
 }
 
@@ -201,5 +261,15 @@ fn tables_detail(alloc: Global, is_rebuilt: bool) -> Result<String, NoMemory> {
     Ok(String::from_str(
         alloc,
         "not those of the chain's deposits; go back to a copy of the store, or make it anew",
+    )?)
+}
+
+fn notes_detail(alloc: Global, notes: &[String]) -> Result<String, NoMemory> {
+    let count = notes.len();
+    if count == 0 {
+        return Ok(String::new(alloc));
+    }
+    Ok(format!(in alloc;
+        "{count} in the chain's deposits, from when their bundles were made; each has a line below"
     )?)
 }

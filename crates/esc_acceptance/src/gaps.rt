@@ -1,11 +1,12 @@
-//! The listed places, by the rows that are held.
+//! The listed places, and the latest chain, by the rows that are held.
 
-ghost use Rattle.std.specs.Prelude.{IfOk, IfSome};
+ghost use Rattle.std.specs.Prelude.{◌≡◌, true, IfOk, IfSome};
 ghost use Rattle.std.specs.FinSet as set;
+ghost use Rattle.esc_chain.specs.Chain.{IsLatestChainAt};
 ghost use Rattle.esc_chain.specs.Gap.{AreGapLinesAt};
 
 use esc_bundle::NoMemory;
-use esc_chain::{GapLine, Held, gaps_at};
+use esc_chain::{GapLine, Held, gaps_at, latest_chain_at};
 use esc_manifest::Manifest;
 use std::alloc::Global;
 
@@ -24,4 +25,23 @@ pub fn gaps_of(
         return Ok(None);
     };
     Ok(Some(gaps_at(alloc, manifest, &rows, moment)?))
+}
+
+/// Whether a chain, as rows by their indices from 0, is the latest one of the held rows, up to the
+/// moment that is set, if one is. `None` if one of the held rows isn't listed.
+pub fn is_latest(
+    alloc: Global,
+    manifest: &Manifest,
+    held: &[usize],
+    moment: Option<i64>,
+    chain: &[usize],
+) -> Result<Option<bool>, NoMemory>
+    ensures { IfOk result (λ found. IfSome found (λ is_latest. is_latest ≡ true
+        → IsLatestChainAt manifest.now (set.from_list held.now) moment chain.now)) }
+{
+    let Some(rows) = Held::from_rows(alloc, manifest, held)? else {
+        return Ok(None);
+    };
+    let latest = latest_chain_at(alloc, manifest, &rows, moment)?;
+    Ok(Some(latest.as_slice() == chain))
 }

@@ -1,17 +1,21 @@
 //! Which declared tables have the fields by which links, statuses and dates go, and which look as
 //! if they had.
 
-ghost use Rattle.std.specs.Prelude.{◌≡◌, string_bytes};
-ghost use Rattle.std.specs.List.{list_any};
+ghost use Rattle.std.specs.Prelude.{◌≡◌, ◌||◌, not, string_bytes};
+ghost use Rattle.std.specs.List.{list_any, list_all};
 ghost use Rattle.std.specs.Str.{bytes_eq};
 ghost use Rattle.esc_acceptance.specs.Guides.{guides, is_of_parents, is_its_table, has_field};
 ghost use Rattle.esc_acceptance.specs.Guides.{is_guide_declared, has_objects, is_wanted};
+ghost use Rattle.esc_acceptance.specs.Guides.{has_cell, has_guide, is_there};
 ghost use Rattle.esc_acceptance.specs.Guides.{is_name_sign, folds_to, looks_like, is_disguised};
 ghost use Rattle.esc_acceptance.specs.Guides.{is_disguised_table, has_disguised_field, has_disguise};
 ghost use Rattle.esc_acceptance.specs.Guides.{stands_for_its_table, is_disguise};
 
 use crate::guide::Guide;
+use crate::row::text_in;
 use esc_envelope::{Kind, Table};
+use esc_tables::{Key, Object, Row};
+use std::collections::BTreeMap;
 
 // All of them.
 #[tactic(auto, unfolding(crate::specs::Guides::guides))]
@@ -52,11 +56,53 @@ fn has_field(table: &Table, field: &str) -> bool
     is_among(&table.fields, field)
 }
 
-/// Whether a field is in a declared table.
-pub(crate) fn is_declared(tables: &[Table], guide: Guide) -> bool
+// Whether a field is in a declared table.
+fn is_declared(tables: &[Table], guide: Guide) -> bool
     ensures { result ≡ is_guide_declared tables.now guide }
 {
     tables.iter().any(|table| is_its_table(guide, table) && has_field(table, guide.field_name()))
+}
+
+fn has_cell(row: &Row, field: &str) -> bool
+    ensures { result ≡ has_cell field.now row.now }
+{
+    text_in(row, field).is_some()
+}
+
+fn have_cells(rows: &[Row], table: &str, field: &str) -> bool
+    ensures { result ≡ list_all (λ r. not (bytes_eq r.table table.now) || has_cell field.now r)
+        rows.now }
+{
+    rows.iter()
+        .all(|row| row.table() != table || has_cell(row, field))
+}
+
+// Whether an object has a field, if it is of the kind that does.
+fn has_guide(guide: Guide, key: &Key, object: &Object) -> bool
+    ensures { result ≡ has_guide guide (key.now, object.now) }
+{
+    if key.kind != guide.kind() {
+        return true;
+    }
+    if is_of_parents(guide) {
+        has_cell(&object.parent, guide.field_name())
+    } else {
+        have_cells(&object.children, guide.child_name(), guide.field_name())
+    }
+}
+
+fn have_guide(guide: Guide, made: &BTreeMap<Key, Object>) -> bool
+    ensures { result ≡ list_all (has_guide guide) made.now.entries }
+{
+    made.iter()
+        .all(|(key, object)| has_guide(guide, key, object))
+}
+
+/// Whether a field is in a declared table, and in each object that has to have it.
+pub(crate) fn is_there(tables: &[Table], made: &BTreeMap<Key, Object>, guide: Guide) -> bool
+    ensures { result ≡ is_there tables.now made.now.entries guide }
+{
+    is_declared(tables, guide) && have_guide(guide, made)
 }
 
 fn has_objects(objects: &[(Kind, u64)], kind: Kind) -> bool

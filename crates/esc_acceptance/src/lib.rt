@@ -34,24 +34,32 @@
 #![tactic(auto)]
 
 mod acceptance;
+mod bodies;
 mod chain;
+mod declared;
 mod detail;
 mod gaps;
 mod guide;
 mod guides;
 mod line;
 mod rebuild;
+mod remarks;
+mod report;
+mod row;
 mod same;
 mod seen;
 mod test;
 mod words;
 
-pub use acceptance::{is_accepted, passes};
+pub use acceptance::{is_accepted, passes, status_of};
+pub use bodies::is_as_listed;
 pub use chain::ChainFacts;
-pub use gaps::gaps_of;
+pub use declared::Declared;
+pub use gaps::{gaps_of, is_latest};
 pub use guide::Guide;
 pub use line::{Line, lines_of};
 pub use rebuild::{apply_deposit, are_listed};
+pub use report::{Report, report_of};
 pub use same::{are_same_counts, are_same_tables};
 pub use seen::Seen;
 pub use test::Test;

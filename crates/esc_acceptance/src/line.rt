@@ -2,6 +2,7 @@
 
 ghost use Rattle.std.specs.Prelude.{◌≡◌, map, IfOk};
 ghost use Rattle.esc_acceptance.specs.Acceptance.{passes, tests};
+ghost use Rattle.esc_acceptance.specs.Lines.{AreLinesOf, word, failure_word};
 
 use crate::acceptance::{all_tests, passes};
 use crate::detail::detail_of;
@@ -9,7 +10,6 @@ use crate::seen::Seen;
 use crate::test::Test;
 use esc_bundle::NoMemory;
 use std::alloc::Global;
-use std::fmt;
 
 /// What a test found.
 #[derive(Debug, Drop)]
@@ -20,35 +20,28 @@ pub struct Line {
     pub detail: String,
 }
 
-impl Line {
-    /// `ok`; `told` where a registry may be taken over all the same; else `wrong`.
-    pub fn word(&self) -> &'static str {
-        if self.has_passed {
-            "ok"
-        } else if self.test.is_told_alone() {
-            "told"
-        } else {
-            "wrong"
-        }
-    }
+// The word of a test that fails.
+fn failure_word(is_told_alone: bool) -> &'static str
+    ensures { result.now ≡ failure_word is_told_alone }
+{
+    if is_told_alone { "told" } else { "wrong" }
 }
 
-impl fmt::Display for Line {
-    fn fmt<W: fmt::Write>(&self, f: &mut fmt::Formatter<W>) -> fmt::Result {
-        let (word, name) = (self.word(), self.test.name());
-        if self.detail.is_empty() {
-            return write!(f, "{word} {name}");
+impl Line {
+    /// `ok`; `told` where a registry may be taken over all the same; else `wrong`.
+    pub fn word(&self) -> &'static str
+        ensures { result.now ≡ word self.now.test self.now.has_passed }
+    {
+        if self.has_passed {
+            return "ok";
         }
-        let detail = self.detail.as_str();
-        write!(f, "{word} {name}: {detail}")
+        failure_word(self.test.is_told_alone())
     }
 }
 
 /// A line for each test, in order, by what was seen of a store.
 pub fn lines_of(alloc: Global, seen: &Seen<'_>) -> Result<Vec<Line>, NoMemory>
-    ensures tests { IfOk result (λ lines. map (λ l. l.test) lines.items ≡ tests) }
-    ensures passed { IfOk result (λ lines. map (λ l. l.has_passed) lines.items
-        ≡ map (λ t. passes t seen.now) tests) }
+    ensures { IfOk result (λ lines. AreLinesOf seen.now lines.items) }
 {
     let tests = all_tests();
     lines_of_tests(alloc, &tests, seen)

@@ -1,42 +1,56 @@
 //! The tests of the acceptance.
 
+ghost use Rattle.std.specs.Prelude.{◌≡◌};
+ghost use Rattle.esc_acceptance.specs.Acceptance.{is_told_alone, test_name};
+
 /// A test of the acceptance of a rebuilt registry (this project's profile).
 #[derive(Clone, Copy, Debug, PartialEq, Eq)]
 pub enum Test {
+    /// The chain's deposits name one TLD at most.
+    Tld,
     /// No place up to the moment is listed after the chain's end, and there is a chain.
     End,
+    /// The chain is the latest one of the held rows.
+    Chain,
     /// No place of the chain awaits a resend.
     Resends,
     /// No place that is missing or blocked is before the chain's end. It is only told.
     Gaps,
+    /// No moment is set. It is only told.
+    Moment,
     /// No body is parked.
     Parked,
+    /// No arrival has the verdict `A2` of version 1, which kept no such body. It is only told.
+    Early,
     /// There is no finding V1 to V7.
     Findings,
     /// No deposit of the chain has an orphan.
     Orphans,
     /// The chain's last deposit declares how many objects of each kind there are.
     Counts,
-    /// Each field by which links, statuses and dates go is declared where its kind has objects.
+    /// Each object has the fields by which links, statuses and dates go.
     Fields,
     /// No declared table or field looks like one of them under another name.
     Names,
-    /// Each held body has the SHA-256 that its row lists.
+    /// Each held body has the SHA-256 that its row lists, and those of the chain are deposits.
     Bodies,
     /// The tables are those that the held bodies of the chain make.
     Tables,
+    /// The chain's deposits have no notes. They are only told.
+    Notes,
 }
 
 impl Test {
-    ghost use Rattle.std.specs.Prelude.{◌≡◌};
-    ghost use Rattle.esc_acceptance.specs.Acceptance.{is_told_alone};
-
     /// All tests, in the order in which they are told.
-    pub const ALL: [Test; 11] = [
+    pub const ALL: [Test; 16] = [
+        Test::Tld,
         Test::End,
+        Test::Chain,
         Test::Resends,
         Test::Gaps,
+        Test::Moment,
         Test::Parked,
+        Test::Early,
         Test::Findings,
         Test::Orphans,
         Test::Counts,
@@ -44,15 +58,22 @@ impl Test {
         Test::Names,
         Test::Bodies,
         Test::Tables,
+        Test::Notes,
     ];
 
     /// Its name.
-    pub fn name(self) -> &'static str {
+    pub fn name(self) -> &'static str
+        ensures { result.now ≡ test_name self }
+    {
         match self {
+            Test::Tld => "tld",
             Test::End => "end",
+            Test::Chain => "chain",
             Test::Resends => "resends",
             Test::Gaps => "gaps",
+            Test::Moment => "moment",
             Test::Parked => "parked",
+            Test::Early => "early",
             Test::Findings => "findings",
             Test::Orphans => "orphans",
             Test::Counts => "counts",
@@ -60,6 +81,7 @@ impl Test {
             Test::Names => "names",
             Test::Bodies => "bodies",
             Test::Tables => "tables",
+            Test::Notes => "notes",
         }
     }
 
@@ -68,8 +90,10 @@ impl Test {
         ensures { result ≡ is_told_alone self }
     {
         match self {
-            Test::Gaps => true,
-            Test::End
+            Test::Gaps | Test::Moment | Test::Early | Test::Notes => true,
+            Test::Tld
+            | Test::End
+            | Test::Chain
             | Test::Resends
             | Test::Parked
             | Test::Findings

@@ -1,26 +1,27 @@
 //! What a desk and the bodies of its store say, and the lines or the page of it.
 
 ghost use Rattle.std.specs.Prelude.{◌≡◌, IfOk};
+ghost use Rattle.esc_acceptance.specs.Acceptance.{status_of};
+ghost use Rattle.esc_acceptance.specs.Lines.{IsTextOf};
 ghost use Rattle.esc_html.specs.Markup.{IsHtmlPage};
 
 use crate::page::page_of;
-use crate::stop::REFUSED;
-use esc_acceptance::{ChainFacts, Seen, is_accepted, lines_of};
+use esc_acceptance::{ChainFacts, Report, Seen, report_of};
 use esc_bundle::NoMemory;
 use esc_chain::GapLine;
 use esc_check::Finding;
 use esc_cli::DONE;
 use esc_envelope::{Kind, Place};
 use esc_events::ParkedBody;
-use esc_store::Reply;
+use esc_store::{Reply, Verdict};
 use std::alloc::Global;
 use std::collections::BTreeMap;
 
 /// How what was seen of a store is shown.
 #[derive(Clone, Copy)]
 pub enum Form {
-    /// A line for each test.
-    Lines,
+    /// A line for each test; the status of strict ones is 1 where anything is told.
+    Lines { is_strict: bool },
     /// A page, with the receipts too.
     Page,
 }
@@ -39,6 +40,8 @@ pub struct StoreFacts {
     pub moment: Option<i64>,
     /// The place of the chain's last deposit, if there is a chain.
     pub end: Option<Place>,
+    /// Whether the chain is the latest one of the held rows.
+    pub is_latest: bool,
     /// How many objects of each kind there are.
     pub objects: Vec<(Kind, u64)>,
     /// How many objects of a kind the chain's last deposit declares, for the kinds that it does.
@@ -50,7 +53,6 @@ pub struct StoreFacts {
     /// The line of each listed place.
     pub gaps: Vec<GapLine>,
     pub parked: Vec<ParkedBody>,
-    /// The receipts, for a form that has them.
     pub receipts: Vec<Reply>,
     /// The held rows whose body isn't there, or has another SHA-256 than listed.
     pub spoiled: Vec<usize>,
@@ -65,6 +67,7 @@ impl StoreFacts {
         StoreFacts {
             moment: None,
             end: None,
+            is_latest: false,
             objects: Vec::new(alloc),
             counts: Vec::new(alloc),
             findings: Vec::new(alloc),
@@ -80,20 +83,35 @@ impl StoreFacts {
 
     // What the acceptance is about.
     fn seen(&self) -> Seen<'_> {
+        let declared = &self.chain.declared;
         Seen {
+            tlds: &declared.tlds,
             moment: self.moment,
             end: self.end,
+            is_latest: self.is_latest,
             gaps: &self.gaps,
             parked: self.parked.len(),
+            early: early_in(&self.receipts),
             findings: &self.findings,
             objects: &self.objects,
             counts: &self.counts,
-            tables: &self.chain.tables,
+            tables: &declared.tables,
+            made: &self.chain.objects,
             orphans: self.chain.orphans,
             spoiled: &self.spoiled,
+            are_read: self.chain.are_read,
             is_rebuilt: self.is_rebuilt,
+            notes: &declared.notes,
         }
     }
+}
+
+// How many arrivals have the verdict of version 1 for a body that no row listed.
+fn early_in(receipts: &[Reply]) -> u64 {
+    receipts
+        .iter()
+        .filter(|reply| reply.verdict == Verdict::A2)
+        .count() as u64
 }
 
 /// The entries of a map of numbers.
@@ -114,22 +132,17 @@ pub fn answer_of(alloc: Global, facts: &StoreFacts, form: Form) -> Result<Answer
 {
     let seen = facts.seen();
     match form {
-        Form::Lines => lines_answer(alloc, &seen),
+        Form::Lines { is_strict } => lines_answer(alloc, &seen, is_strict),
         Form::Page => page_answer(alloc, &seen, facts),
     }
 }
 
-// The text of the lines, and the status.
-fn lines_answer(alloc: Global, seen: &Seen<'_>) -> Result<Answer, NoMemory> {
-    let mut text = String::new(alloc);
-    let lines = lines_of(alloc, seen)?;
-    for line in &lines {
-        write!(text, "{line}\n")?;
-    }
-    Ok(Answer {
-        text: text.into_bytes(),
-        status: if is_accepted(seen) { DONE } else { REFUSED },
-    })
+fn lines_answer(alloc: Global, seen: &Seen<'_>, is_strict: bool) -> Result<Answer, NoMemory>
+    ensures text { IfOk result (λ answer. IsTextOf seen.now answer.text.items) }
+    ensures status { IfOk result (λ answer. answer.status ≡ status_of is_strict seen.now) }
+{
+    let Report { text, status } = report_of(alloc, seen, is_strict)?;
+    Ok(Answer { text, status })
 }
 
 fn page_answer(alloc: Global, seen: &Seen<'_>, facts: &StoreFacts) -> Result<Answer, NoMemory>

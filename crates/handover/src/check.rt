@@ -2,7 +2,7 @@
 
 use crate::bodies::read_bodies;
 use crate::walking::walk;
-use esc_acceptance::gaps_of;
+use esc_acceptance::{gaps_of, is_latest};
 use esc_desk::{Cause, Reads, StoreFault};
 use esc_handover::{
     Answer, Form, Progress, Stop, StoreFacts, answer_of, are_made_by, entries_of, read_findings,
@@ -17,7 +17,7 @@ pub fn acceptance<R: Reads>(
     mut progress: Progress<'_>,
 ) -> Result<Answer, Stop> {
     let mut facts = StoreFacts::new(alloc);
-    see(alloc, reader, form, &mut facts, &mut progress)?;
+    see(alloc, reader, &mut facts, &mut progress)?;
     Ok(answer_of(alloc, &facts, form)?)
 }
 
@@ -25,11 +25,10 @@ pub fn acceptance<R: Reads>(
 fn see<R: Reads>(
     alloc: Global,
     reader: &mut R,
-    form: Form,
     facts: &mut StoreFacts,
     progress: &mut Progress<'_>,
 ) -> Result<(), Stop> {
-    ask(alloc, reader, form, facts, progress)?;
+    ask(alloc, reader, facts, progress)?;
     read_bodies(alloc, reader, facts, progress)?;
     compare(alloc, reader, facts, progress)
 }
@@ -38,7 +37,6 @@ fn see<R: Reads>(
 fn ask<R: Reads>(
     alloc: Global,
     reader: &mut R,
-    form: Form,
     facts: &mut StoreFacts,
     progress: &mut Progress<'_>,
 ) -> Result<(), Stop> {
@@ -46,7 +44,9 @@ fn ask<R: Reads>(
     ask_status(alloc, reader, facts)?;
     ask_end(alloc, reader, facts, progress)?;
     ask_rows(alloc, reader, facts)?;
-    ask_receipts(alloc, reader, form, facts)
+    ask_chain(alloc, reader, facts)?;
+    facts.receipts = reader.receipts(alloc)?;
+    Ok(())
 }
 
 fn ask_status<R: Reads>(alloc: Global, reader: &mut R, facts: &mut StoreFacts) -> Result<(), Stop> {
@@ -85,17 +85,16 @@ fn ask_rows<R: Reads>(alloc: Global, reader: &mut R, facts: &mut StoreFacts) -> 
     Ok(())
 }
 
-// The receipts, for a form that has them.
-fn ask_receipts<R: Reads>(
-    alloc: Global,
-    reader: &mut R,
-    form: Form,
-    facts: &mut StoreFacts,
-) -> Result<(), Stop> {
-    match form {
-        Form::Lines => {}
-        Form::Page => facts.receipts = reader.receipts(alloc)?,
+// Whether the chain that is kept is the latest one of the held rows.
+fn ask_chain<R: Reads>(alloc: Global, reader: &mut R, facts: &mut StoreFacts) -> Result<(), Stop> {
+    let mut rows = Vec::new(alloc);
+    for step in &reader.chain(alloc)? {
+        rows.push(step.row)?;
     }
+    let (held, moment) = (&facts.held, facts.moment);
+    facts.is_latest = is_latest(alloc, reader.manifest(), held, moment, &rows)?.ok_or(
+        StoreFault::Failed(Cause::Contradiction),
+    )?;
     Ok(())
 }
 

@@ -47,23 +47,28 @@ in different ways, and one of them has to be generated again. Nothing is printed
 
 const CHECK: &str = "\
 A line for each test: ok; told, where the registry may be taken over all the same; or wrong, with what
-is wrong and what to do. The status is 1 if one is wrong.
+is wrong and what to do. The status is 1 if one is wrong, with --strict also if one is told.
 
+tld       the chain's deposits name one TLD at most
 end       no place is listed after the chain's end, up to the moment that is set
+chain     the chain is the latest one of the bundles that are held
 resends   no place of the chain awaits a later resend
 gaps      no place before the end is missing or blocked (told)
+moment    no moment is set (told)
 parked    each bundle that was taken is listed
+early     version 1 has let go of no bundle, by verdict A2 (told)
 findings  links, counts, statuses and dates break no rule (V1 to V7)
 orphans   each child row in the chain's deposits has its parent row
 counts    the chain's last deposit declares how many objects of each kind there are
-fields    each field that has links, statuses or dates is declared, where its kind has objects
+fields    each field that has links, statuses or dates is in each object of its kind
 names     no declared table or field looks like one of these under another name, as fClID
-bodies    each bundle that is held has the SHA-256 that is listed
+bodies    each bundle that is held has the SHA-256 that is listed, and can be read
 tables    the tables are those that the bundles of the chain make when they are applied again
+notes     the bundles of the chain have no notes; each is told on a line below (told)
 
-The last two read all bundles again. Example:
+All bundles are read again. Example:
 
-    handover check --store desk.db
+    handover check --store desk.db --strict
 ";
 
 const TABLES: &str = "\
@@ -156,7 +161,13 @@ static PROGRAM: Program = Program {
             name: "check",
             about: "Prints whether the registry may be taken over as it is, a line for each test",
             details: Some(CHECK),
-            arguments: &[],
+            arguments: &[Argument {
+                id: "strict",
+                form: ArgumentForm::Flag,
+                value_name: "",
+                values: ValueParser::Bool,
+                help: "The status is 1 where anything is told, too",
+            }],
         },
         Subcommand {
             name: "page",
@@ -315,7 +326,7 @@ fn perform<O: Write>(rt: &HostRuntime, command: Command<'_>, out: &mut O) -> Res
     }
     let made = use_store(rt, store, is_watched, task)?;
     match task {
-        Task::Check | Task::Zone(_) => or_stop(rt, "-", out.write_all(&made.text))?,
+        Task::Check { .. } | Task::Zone(_) => or_stop(rt, "-", out.write_all(&made.text))?,
         Task::Page { path } | Task::Bundle { path, .. } => place_file(rt, path, &made.text)?,
         Task::Tables(_) => {}
     }
@@ -342,7 +353,9 @@ fn command_of<'a>(rt: &'a HostRuntime, matches: &ArgMatches<'a>) -> Option<Comma
 
 fn task_of<'a>(rt: &'a HostRuntime, name: &str, given: &ArgMatches<'a>) -> Option<Task<'a>> {
     match name {
-        "check" => Some(Task::Check),
+        "check" => Some(Task::Check {
+            is_strict: given.get_flag("strict"),
+        }),
         "page" => Some(Task::Page {
             path: given.get_str("target")?,
         }),

@@ -15,8 +15,8 @@ use std::alloc::Global;
 pub enum Task<'a> {
     /// The bundle of its tables under this id, which is to be at this path.
     Bundle { id: &'a str, path: &'a str },
-    /// The lines of its acceptance.
-    Check,
+    /// The lines of its acceptance; strict ones let nothing be told.
+    Check { is_strict: bool },
     /// Nothing: its tables are written as files.
     Tables(Tabling<'a>),
     /// The counts of its zone, which is written to a file.
@@ -51,7 +51,9 @@ fn perform<R: Reads>(
 ) -> Result<Answer, Stop> {
     match task {
         Task::Bundle { id, path } => tables_bundle(alloc, reader, id, path),
-        Task::Check => acceptance(alloc, reader, Form::Lines, progress),
+        Task::Check { is_strict } => {
+            acceptance(alloc, reader, Form::Lines { is_strict }, progress)
+        },
         Task::Page { .. } => acceptance(alloc, reader, Form::Page, progress),
         Task::Tables(words) => write_tables(reader, words, progress),
         Task::Zone(words) => write_zone(reader, words, progress),

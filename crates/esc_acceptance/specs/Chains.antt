@@ -1,0 +1,29 @@
+-- What the bodies of a chain make, one after the other (RFC 8909, section 2).
+use Rattle.std.specs.Prelude.{◌≡◌, ℕ, Bool, true, false, List, [], ◌∷◌, Option, Some, None}
+use Rattle.std.specs.Prelude.{Result, Ok, Err}
+use Rattle.std.specs.List.{list_all, flat_map}
+use Rattle.esc_bundle.specs.declared.refusal.Refusal.{Refusal}
+use Rattle.esc_tables.specs.DepositValue.{DepositValue}
+use Rattle.esc_tables.specs.Reading.{reading}
+use Rattle.esc_acceptance.specs.declared.chain.ChainFacts.{ChainFacts}
+use Rattle.esc_acceptance.specs.Rebuilt.{AreTablesOf}
+
+-- the deposit that was read, if one was
+abbrev pub read_deposits : Result DepositValue Refusal → List DepositValue
+read_deposits (Ok d) = d ∷ []
+read_deposits (Err e) = []
+
+-- the deposit of a body, if it is there and is one
+abbrev pub deposit_in : Option (List ℕ) → List DepositValue
+deposit_in None = []
+deposit_in (Some body) = read_deposits (reading body)
+
+-- whether there is one
+abbrev pub is_one : List DepositValue → Bool
+is_one [] = false
+is_one (d ∷ ds) = true
+
+-- what these bodies say: whether each is there and is a deposit, and then their tables
+pub record AreFactsOf (bodies : List (Option (List ℕ))) (facts : ChainFacts) : Type 0 where
+  pub read : facts.are_read ≡ list_all (λ b. is_one (deposit_in b)) bodies
+  pub made : facts.are_read ≡ true → AreTablesOf (flat_map deposit_in bodies) facts.objects.entries

@@ -1,0 +1,80 @@
+//! What the envelopes of a chain's deposits say.
+
+use crate::remarks::{Remarks, read_remarks};
+use esc_bundle::{Fault, NoMemory};
+use esc_envelope::{Envelope, Table};
+use esc_tables::read_bundled_envelope;
+use std::alloc::Global;
+
+/// What the envelopes of a chain's deposits say.
+#[derive(Drop)]
+pub struct Declared {
+    /// The TLDs that they name, each once, whatever its case.
+    pub tlds: Vec<String>,
+    /// The tables of contents that they declare, each once.
+    pub tables: Vec<Table>,
+    /// Their notes, each on one line.
+    pub notes: Vec<String>,
+}
+
+impl Declared {
+    /// What no envelopes say.
+    pub(crate) fn new(alloc: Global) -> Declared {
+        Declared {
+            tlds: Vec::new(alloc),
+            tables: Vec::new(alloc),
+            notes: Vec::new(alloc),
+        }
+    }
+
+    /// Adds what the envelope of one more body says, if it has one.
+    pub(crate) fn add(&mut self, alloc: Global, body: &[u8]) -> Result<(), NoMemory> {
+        match read_bundled_envelope(alloc, body) {
+            Ok(envelope) => {
+                self.add_tables(envelope)?;
+                self.add_remarks(read_remarks(alloc, body)?)
+            }
+            Err(Fault::Refused(_)) => Ok(()),
+            Err(Fault::NoMemory) => Err(NoMemory),
+        }
+    }
+
+    fn add_tables(&mut self, envelope: Envelope) -> Result<(), NoMemory> {
+        let Envelope { contents, .. } = envelope;
+        for table in contents {
+            if !self.declares(&table) {
+                self.tables.push(table)?;
+            }
+        }
+        Ok(())
+    }
+
+    fn declares(&self, table: &Table) -> bool {
+        self.tables.iter().any(|other| is_same_table(table, other))
+    }
+
+    fn add_remarks(&mut self, remarks: Remarks) -> Result<(), NoMemory> {
+        let Remarks { tld, mut notes } = remarks;
+        if let Some(tld) = tld {
+            if !self.names(tld.as_str()) {
+                self.tlds.push(tld)?;
+            }
+        }
+        self.notes.append(&mut notes)?;
+        Ok(())
+    }
+
+    fn names(&self, tld: &str) -> bool {
+        self.tlds
+            .iter()
+            .any(|other| tld.eq_ignore_ascii_case(other.as_str()))
+    }
+}
+
+// Whether two tables are declared alike, but for the key and the file.
+fn is_same_table(table: &Table, other: &Table) -> bool {
+    table.name == other.name
+        && table.kind == other.kind
+        && table.parent == other.parent
+        && table.fields == other.fields
+}
