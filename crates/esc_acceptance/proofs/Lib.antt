@@ -1,3 +1,4 @@
 pub mod Applied
+pub mod MoreBodies
 pub mod Cells
 pub mod Places

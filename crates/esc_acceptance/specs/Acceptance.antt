@@ -143,7 +143,7 @@ status_of true s = if list_all (λ t. passes t s) tests then 0 else 1
 status_of false s = if is_accepted s then 0 else 1
 
 -- the name of a test
-unfoldable pub test_name : Test → List ℕ
+abbrev pub test_name : Test → List ℕ
 test_name test.Tld = codes "tld"
 test_name test.End = codes "end"
 test_name test.Chain = codes "chain"

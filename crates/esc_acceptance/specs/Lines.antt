@@ -32,7 +32,7 @@ note_text note = codes "told note: " ++ note ++ codes "\n"
 
 -- these are the lines of what was seen: one for each test, in order, that says whether it passes
 pub record AreLinesOf (s : SeenValue) (lines : List Line) : Type 0 where
-  pub tests : map (λ (l : Line). l.test) lines ≡ tests
+  pub in_order : map (λ (l : Line). l.test) lines ≡ tests
   pub passed : map (λ (l : Line). l.has_passed) lines ≡ map (λ t. passes t s) tests
 
 -- the text has these lines, and after them one for each note

@@ -1,5 +1,5 @@
 -- Whether a body is what its row lists.
-use Rattle.std.specs.Prelude.{◌≡◌, ⊥, ℕ, List, Option, Some, None}
+use Rattle.std.specs.Prelude.{◌≡◌, ℕ, List, Option, Some, None}
 use Rattle.sha2.specs.Sha256.{sha256}
 use Rattle.esc_manifest.specs.declared.row.MRow.{MRow}
 

@@ -1,7 +1,9 @@
 //! What the deposits of a chain make.
 
-ghost use Rattle.std.specs.Prelude.{◌++◌, ◌∷◌, [], ℕ, List, Option, option_map, OnOk};
+ghost use Rattle.std.specs.Prelude.{◌≡◌, ◌++◌, ◌∷◌, [], ℕ, List, Option, option_map, OnOk};
+ghost use Rattle.esc_tables.specs.DepositValue.{DepositValue};
 ghost use Rattle.esc_acceptance.specs.Chains.{AreFactsOf};
+ghost use Rattle.esc_acceptance.specs.Rebuilt.{AreTablesOf};
 
 use crate::declared::Declared;
 use crate::rebuild::apply_deposit;
@@ -56,7 +58,12 @@ impl ChainFacts {
         }
     }
 
-    fn add_deposit(&mut self, deposit: Deposit) -> Result<(), NoMemory> {
+    fn add_deposit(&mut self, deposit: Deposit) -> Result<(), NoMemory>
+        ensures read { OnOk result (self.new.are_read ≡ self.old.are_read) }
+        ensures made { OnOk result ((c : List DepositValue)
+            → AreTablesOf c self.old.objects.entries
+            → AreTablesOf (c ++ deposit ∷ []) self.new.objects.entries) }
+    {
         self.orphans = self.orphans.saturating_add(deposit.orphans);
         apply_deposit(&mut self.objects, deposit)
     }
