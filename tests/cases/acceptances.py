@@ -15,7 +15,8 @@ from support.stores import EMPTY_LOG, change_row
 SEEDS = (*range(26), 305, 129, 68, 28)
 # Those of releases whose deposits are series.
 SERIES = (2, 3, 4, 7, 9, 13, 15, 16, 18, 29, 33, 37)
-TESTS = ('end', 'resends', 'gaps', 'parked', 'findings', 'orphans', 'counts', 'fields', 'names', 'bodies', 'tables')
+# The tests that each pass in some of these releases, and not in others.
+TESTS = ('end', 'resends', 'gaps', 'moment', 'parked', 'findings', 'orphans', 'counts', 'fields', 'names', 'bodies', 'tables')
 
 
 def changed_body(change):
@@ -112,10 +113,10 @@ def test_random_series(stage):
         release.rebuild(stage, store)
         with case(f'seed {seed}'):
             check_store(stage, store, release.desk(), seen)
-    check_words(seen, [it for it in TESTS if it not in ('bodies', 'tables')])
+    check_words(seen, [it for it in TESTS if it not in ('bodies', 'moment', 'tables')])
 
 
 def check_words(seen, tests):
     """The releases are such that each of these tests passes in some of them, and not in others."""
-    compare('words', text_of(f'{it} {"told" if it == "gaps" else "wrong"} ok' for it in tests),
+    compare('words', text_of(f'{it} {word_of(it, False)} ok' for it in tests),
             text_of(' '.join([it, *sorted(seen[it], reverse=True)]) for it in tests))

@@ -18,6 +18,8 @@ GUIDES = (
     ('domain', 'domainStatuses', 'status'),
     ('nndn', None, 'idnTableId'),
 )
+# The tests that are only told.
+TOLD_ALONE = ('gaps', 'moment', 'early', 'notes')
 # The kind that a link by a field leads to.
 TARGETS = {'clID': 'registrar', 'registrant': 'contact', 'contactId': 'contact', 'hostName': 'host', 'idnTableId': 'idn'}
 # What is accepted of each kind.
@@ -109,6 +111,13 @@ def is_bundle(body):
         return False
 
 
+def has_guide(guide, kind, record):
+    """Whether an object has the field of a guide, if it is of the kind that does: in its parent row, or in each row of that child table."""
+    rows = read_record(record)
+    rows = rows[:1] if guide[1] is None else [it for it in rows[1:] if it[0] == guide[1]]
+    return kind != guide[0] or all(guide[2] in dict(cells) for _, cells in rows)
+
+
 class Seen:
     """What is seen of a store where the body of the chain's last deposit is a bundle. (One that went bad may have rows of which no
     deposit is read. It still declares tables.)"""
@@ -118,14 +127,20 @@ class Seen:
         read = list(map(found_in, bodies))
         deposits = [it for it in read if isinstance(it, Deposit)]
         self.moment, self.gaps, self.parked = desk.moment, desk.gaps(), len(desk.parked)
+        self.is_latest = desk.steps == desk.latest_chain()
+        self.early = sum(it.verdict == 'A2' for it in desk.receipts.values())
         self.end = desk.place(desk.steps[-1]) if bodies else None
         self.counts = counts_in(envelope_in(bodies[-1])) if bodies else {}
         self.findings = findings(desk.objects, self.end[0], self.counts) if bodies else []
         self.objects = {kind: count_of(desk.objects, kind) for kind in KINDS}
-        self.tables = [it for body in filter(is_bundle, bodies) for it in envelope_in(body).get('contents', [])]
+        envelopes = [envelope_in(it) for it in filter(is_bundle, bodies)]
+        self.tables = [it for envelope in envelopes for it in envelope.get('contents', [])]
+        self.tlds = list({it['tld'].lower(): it['tld'] for it in reversed(envelopes) if it.get('tld')}.values())[::-1]
+        self.notes = [control_spelled(it) for envelope in envelopes for it in envelope.get('notes', [])]
         self.orphans = sum(it.orphans for it in deposits)
         self.spoiled = [at for at, body in sorted(desk.held.items()) if hashlib.sha256(body).hexdigest() != desk.listed[at][4]]
-        self.is_rebuilt = deposits == read and made_by(deposits) == desk.objects
+        self.are_read, self.made = deposits == read, made_by(deposits)
+        self.is_rebuilt = self.are_read and self.made == desk.objects
 
 
 # ---- the lines
@@ -161,33 +176,40 @@ def tests_of(seen):
     outdated = [it for it in seen.gaps if it.state == 'chain' and it.awaited is not None]
     passed = [it for it in seen.gaps if it.state in ('missing', 'blocked') and seen.end and in_order(it.place) < in_order(seen.end)]
     fields = [it for it in GUIDES if seen.objects[it[0]] and (it[2] != 'idnTableId' or seen.objects['idn'])]
-    undeclared = [it for it in fields if not any(is_table_of(it, table) and it[2] in table['fields'] for table in seen.tables)]
+    declared = [it for it in fields if any(is_table_of(it, table) and it[2] in table['fields'] for table in seen.tables)]
+    undeclared = [it for it in fields if it not in declared or not all(has_guide(it, kind, of) for (kind, _), of in seen.made.items())]
+    yield 'tld', len(seen.tlds) < 2, ', '.join(map(control_spelled, seen.tlds)) or 'no deposit of the chain names one'
     yield 'end', *end_line(seen)
     for name, wrong in {
+            'chain': '' if seen.is_latest else 'not the latest one',
             'resends': counted(outdated, lambda it: f' of the chain await a later resend, the first {place_text(it.place)} resend {it.awaited}'),
             'gaps': counted(passed, lambda it: f' before the end are missing or blocked, the first {place_text(it.place)} {it.state}'),
+            'moment': '' if seen.moment is None else f'{moment_text(seen.moment)} is set',
             'parked': f'{seen.parked} are listed by no row' if seen.parked else '',
+            'early': f'{seen.early} arrivals of version 1' if seen.early else '',
             'findings': counted(seen.findings, lambda it: ', the first ' + ' '.join(
                 filter(None, (f'V{it[0]}', it[1], control_spelled(it[2]), it[3])))),
             'orphans': f'{seen.orphans} child rows' if seen.orphans else '',
             'counts': named([it for it in KINDS if it not in seen.counts], 'not declared'),
-            'fields': named(map(guide_text, undeclared), 'declared by no deposit'),
+            'fields': named(map(guide_text, undeclared), 'declared by no deposit of the chain, or not for each object'),
             'names': named((guide_text(it) for it in GUIDES if is_under_other_name(it, seen.tables)), 'under another name'),
-            'bodies': counted(seen.spoiled, lambda it: f' held have another SHA-256 than listed, the first of row {it + 1}'),
-            'tables': '' if seen.is_rebuilt else 'not those'}.items():
+            'bodies': counted(seen.spoiled, lambda it: f' held are gone or have another SHA-256 than listed, the first of row {it + 1}')
+                      or ('' if seen.are_read else 'one of the chain is gone or is no deposit'),
+            'tables': '' if seen.is_rebuilt else 'not those',
+            'notes': f'{len(seen.notes)} in the chain' if seen.notes else ''}.items():
         yield name, not wrong, wrong
 
 
 def is_accepted(tests):
-    """Whether the registry may be taken over: each test passes, but for that of gaps, which is told alone."""
-    return all(passes or name == 'gaps' for name, passes, _ in tests)
+    """Whether the registry may be taken over: each test passes, but for those that are told alone."""
+    return all(passes or name in TOLD_ALONE for name, passes, _ in tests)
 
 
 def word_of(name, passes):
-    return 'ok' if passes else 'told' if name == 'gaps' else 'wrong'
+    return 'ok' if passes else 'told' if name in TOLD_ALONE else 'wrong'
 
 
 def beginning(name, passes, said):
     """How the line of a test begins, or the whole line where it passes."""
     line = f'{word_of(name, passes)} {name}'
-    return f'{line}: {said}' if not passes or name == 'end' else line
+    return f'{line}: {said}' if not passes or name in ('tld', 'end') else line

@@ -16,7 +16,7 @@ use Rattle.esc_acceptance.specs.declared.test.Test.TheVariants as test
 use Rattle.esc_apply.specs.ObjectStreams.{Entry}
 use Rattle.esc_acceptance.specs.Guides.{guides, is_wanted, is_there, is_disguise}
 
--- what was seen of a store: how many TLDs the chain's deposits name; the moment that is set, the
+-- what was seen of a store: how many TLDs the held deposits name; the moment that is set, the
 -- chain's end, whether the chain is the latest one, the line of each listed place; how many bodies
 -- are parked, how many arrivals are early ones without a body, how many findings there are; the
 -- objects and the declared numbers by kind, the tables that the chain's deposits declare, what they

@@ -9,8 +9,6 @@ use std::alloc::Global;
 /// What the envelopes of a chain's deposits say.
 #[derive(Drop)]
 pub struct Declared {
-    /// The TLDs that they name, each once, whatever its case.
-    pub tlds: Vec<String>,
     /// The tables of contents that they declare, each once.
     pub tables: Vec<Table>,
     /// Their notes, each on one line.
@@ -21,7 +19,6 @@ impl Declared {
     /// What no envelopes say.
     pub(crate) fn new(alloc: Global) -> Declared {
         Declared {
-            tlds: Vec::new(alloc),
             tables: Vec::new(alloc),
             notes: Vec::new(alloc),
         }
@@ -54,20 +51,9 @@ impl Declared {
     }
 
     fn add_remarks(&mut self, remarks: Remarks) -> Result<(), NoMemory> {
-        let Remarks { tld, mut notes } = remarks;
-        if let Some(tld) = tld {
-            if !self.names(tld.as_str()) {
-                self.tlds.push(tld)?;
-            }
-        }
+        let Remarks { mut notes, .. } = remarks;
         self.notes.append(&mut notes)?;
         Ok(())
-    }
-
-    fn names(&self, tld: &str) -> bool {
-        self.tlds
-            .iter()
-            .any(|other| tld.eq_ignore_ascii_case(other.as_str()))
     }
 }
 

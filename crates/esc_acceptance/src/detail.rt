@@ -41,10 +41,10 @@ fn tld_detail(alloc: Global, tlds: &[String]) -> Result<String, NoMemory> {
         push_item(&mut text, name.as_str())?;
     }
     if tlds.is_empty() {
-        text.push_str("no deposit of the chain names one")?;
+        text.push_str("no held deposit names one")?;
     }
     if tlds.len() > 1 {
-        text.push_str(" are named by the chain's deposits; make a store for each")?;
+        text.push_str(" are named by the held deposits; make a store for each")?;
     }
     Ok(text)
 }

@@ -49,6 +49,7 @@ mod row;
 mod same;
 mod seen;
 mod test;
+mod tlds;
 mod words;
 
 pub use acceptance::{is_accepted, passes, status_of};
@@ -63,4 +64,5 @@ pub use report::{Report, report_of};
 pub use same::{are_same_counts, are_same_tables};
 pub use seen::Seen;
 pub use test::Test;
+pub use tlds::Tlds;
 pub use words::{moment_words, one_line};

@@ -2,7 +2,7 @@
 
 ghost use Rattle.std.specs.Prelude.{◌≡◌, map, IfOk};
 ghost use Rattle.esc_acceptance.specs.Acceptance.{passes, tests};
-ghost use Rattle.esc_acceptance.specs.Lines.{AreLinesOf, word, failure_word};
+ghost use Rattle.esc_acceptance.specs.Lines.{word, failure_word};
 
 use crate::acceptance::{all_tests, passes};
 use crate::detail::detail_of;
@@ -41,7 +41,9 @@ impl Line {
 
 /// A line for each test, in order, by what was seen of a store.
 pub fn lines_of(alloc: Global, seen: &Seen<'_>) -> Result<Vec<Line>, NoMemory>
-    ensures { IfOk result (λ lines. AreLinesOf seen.now lines.items) }
+    ensures tests { IfOk result (λ lines. map (λ l. l.test) lines.items ≡ tests) }
+    ensures passed { IfOk result (λ lines. map (λ l. l.has_passed) lines.items
+        ≡ map (λ t. passes t seen.now) tests) }
 {
     let tests = all_tests();
     lines_of_tests(alloc, &tests, seen)

@@ -10,7 +10,7 @@ use std::marker::Model;
 /// What was seen of a store, for its acceptance.
 #[derive(Drop)]
 pub struct Seen<'a> {
-    /// The TLDs that the chain's deposits name, each once, whatever its case.
+    /// The TLDs that the held deposits name, each once, whatever its case.
     pub tlds: &'a [String],
     /// The moment that is set, if one is, in nanoseconds since 1970-01-01T00:00:00Z.
     pub moment: Option<i64>,

@@ -6,7 +6,7 @@ ghost use Rattle.esc_acceptance.specs.Acceptance.{is_told_alone, test_name};
 /// A test of the acceptance of a rebuilt registry (this project's profile).
 #[derive(Clone, Copy, Debug, PartialEq, Eq)]
 pub enum Test {
-    /// The chain's deposits name one TLD at most.
+    /// The held deposits name one TLD at most.
     Tld,
     /// No place up to the moment is listed after the chain's end, and there is a chain.
     End,

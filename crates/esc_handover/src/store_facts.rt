@@ -6,7 +6,7 @@ ghost use Rattle.esc_acceptance.specs.Lines.{IsTextOf};
 ghost use Rattle.esc_html.specs.Markup.{IsHtmlPage};
 
 use crate::page::page_of;
-use esc_acceptance::{ChainFacts, Report, Seen, report_of};
+use esc_acceptance::{ChainFacts, Report, Seen, Tlds, report_of};
 use esc_bundle::NoMemory;
 use esc_chain::GapLine;
 use esc_check::Finding;
@@ -56,6 +56,8 @@ pub struct StoreFacts {
     pub receipts: Vec<Reply>,
     /// The held rows whose body isn't there, or has another SHA-256 than listed.
     pub spoiled: Vec<usize>,
+    /// The TLDs that the held deposits name.
+    pub tlds: Tlds,
     pub chain: ChainFacts,
     /// Whether the tables are those that the bodies of the chain make.
     pub is_rebuilt: bool,
@@ -76,6 +78,7 @@ impl StoreFacts {
             parked: Vec::new(alloc),
             receipts: Vec::new(alloc),
             spoiled: Vec::new(alloc),
+            tlds: Tlds::new(alloc),
             chain: ChainFacts::new(alloc),
             is_rebuilt: false,
         }
@@ -85,7 +88,7 @@ impl StoreFacts {
     fn seen(&self) -> Seen<'_> {
         let declared = &self.chain.declared;
         Seen {
-            tlds: &declared.tlds,
+            tlds: &self.tlds.names,
             moment: self.moment,
             end: self.end,
             is_latest: self.is_latest,

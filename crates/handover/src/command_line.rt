@@ -49,7 +49,7 @@ const CHECK: &str = "\
 A line for each test: ok; told, where the registry may be taken over all the same; or wrong, with what
 is wrong and what to do. The status is 1 if one is wrong, with --strict also if one is told.
 
-tld       the chain's deposits name one TLD at most
+tld       the bundles that are held name one TLD at most
 end       no place is listed after the chain's end, up to the moment that is set
 chain     the chain is the latest one of the bundles that are held
 resends   no place of the chain awaits a later resend
