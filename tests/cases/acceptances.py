@@ -1,14 +1,17 @@
 """`handover check` over random releases, and over stores that went bad, against the plain model: the word of each test, and how its line
 begins. (The words of the lines are those of transcripts/handing.txt, what they name and count is the model's.)"""
-import random
+import hashlib, random
 from collections import defaultdict
 
 from support.acceptance import Seen, beginning, is_accepted, is_bundle, tests_of, word_of
+from support.bundles import Header, Table, deposit, manifest
 from support.files import read
+from support.first_store import first_rows, write_store
 from support.flawed import draw_release, draw_series, misnamed_releases
 from support.formats import KINDS, read_record, record
-from support.stage import Failed, case, compare, text_of
-from support.stores import EMPTY_LOG, change_row
+from support.releases import Release, numbered
+from support.stage import Failed, Wanted, case, compare, text_of
+from support.stores import EMPTY_LOG, change_row, run
 
 # The seeds of the releases. The last ones are rare: in these the day of the chain's end has a later place, a revision is missing below the
 # one that is used, a place is missing on the day of the end, and a deposit before the last one has orphans.
@@ -120,3 +123,131 @@ def check_words(seen, tests):
     """The releases are such that each of these tests passes in some of them, and not in others."""
     compare('words', text_of(f'{it} {word_of(it, False)} ok' for it in tests),
             text_of(' '.join([it, *sorted(seen[it], reverse=True)]) for it in tests))
+
+
+# ---- what is no all-clear, each by a release made by hand
+
+# A Full, a later revision of it, and a Differential on it, on the day after.
+F1, F1_AGAIN = Header('F1', 'FULL', '2024-03-03T00:00:00Z'), Header('F1', 'FULL', '2024-03-03T00:00:00Z', resend=1)
+D2 = Header('D2', 'DIFF', '2024-03-04T00:00:00Z', 'F1')
+DATES = '2020-01-01T00:00:00Z,2030-01-01T00:00:00Z'
+FIELDS = ('name', 'clID', 'registrant', 'crDate', 'exDate')
+REGISTRARS = Table('registrar', 'registrar', 'parent', ('id', 'crDate'), b'R1,2020-01-01T00:00:00Z\n')
+CHILDREN = (Table('domainContacts', 'domain', 'child', ('domainName', 'contactId')),
+            Table('domainNs', 'domain', 'child', ('domainName', 'hostName')),
+            Table('domainStatuses', 'domain', 'child', ('domainName', 'status'), b'a.example,ok\n'))
+
+
+def domains(*rows, fields=FIELDS):
+    return Table('domain', 'domain', 'parent', fields, ''.join(f'{it}\n' for it in rows).encode())
+
+
+A, B = domains(f'a.example,R1,,{DATES}'), domains(f'b.example,R1,,{DATES}')
+
+
+def body_of(header, *tables, domain=1, **besides):
+    """A deposit that declares one registrar and so many domains."""
+    counts = dict.fromkeys(KINDS, 0) | {'registrar': 1, 'domain': domain}
+    return deposit(header, tables, counts=counts, **besides)
+
+
+def full(header, **besides):
+    return body_of(header, REGISTRARS, A, *CHILDREN, **besides)
+
+
+def release_of(*deposits, moment=None):
+    return Release(manifest(deposits), numbered(body for _, body in deposits), moment)
+
+
+def lines_but(*others, end='2024-03-03T00:00:00Z FULL', tld='no held deposit names one', notes=()):
+    """The lines where all tests pass, but for those that are given, and then those of notes."""
+    passed = {f'{it}': f'ok {it}' for it in ('tld', 'end', 'chain', 'resends', 'gaps', 'moment', 'parked', 'early', 'findings', 'orphans',
+                                             'counts', 'fields', 'names', 'bodies', 'tables', 'notes')}
+    passed |= {'tld': f'ok tld: {tld}', 'end': f'ok end: {end}'} | {it.split()[1].rstrip(':'): it for it in others}
+    return ''.join(f'{it}\n' for it in (*passed.values(), *notes))
+
+
+def check_lines(stage, store, status, *others, strict=None, **told):
+    stage.check(f'check --store {store}', Wanted(lines_but(*others, **told), '', status), program='handover')
+    stage.check(f'check --store {store} --strict', Wanted(lines_but(*others, **told), '', status if strict is None else strict),
+                program='handover')
+
+
+def test_all_clear(stage):
+    """A registry that may be taken over, with a TLD and without."""
+    release_of((F1, full(F1))).rebuild(stage)
+    check_lines(stage, 'a.db', 0)
+    release_of((F1, full(F1, tld='example'))).rebuild(stage, 'b.db')
+    check_lines(stage, 'b.db', 0, tld='example')
+
+
+def test_a_field_that_not_each_object_has(stage):
+    """The domains of a Full have no registrar, and the one of a Differential has."""
+    bare = body_of(F1, REGISTRARS, domains(f'a.example,,{DATES}', fields=('name', 'registrant', 'crDate', 'exDate')), *CHILDREN)
+    release_of((F1, bare), (D2, body_of(D2, B, *CHILDREN[:2], domain=2))).rebuild(stage)
+    check_lines(stage, 'a.db', 1, 'wrong fields: domain clID declared by no deposit of the chain, or not for each object, and so not '
+                'checked; ask the agent which fields they are', end='2024-03-04T00:00:00Z DIFF')
+
+
+def test_a_chain_that_is_not_the_latest(stage):
+    """The steps of a file name a revision, and a later one of it is held."""
+    release_of((F1, full(F1)), (F1_AGAIN, full(F1_AGAIN))).rebuild(stage)
+    check_lines(stage, 'a.db', 0)
+    change_row(stage, 'a.db', 'UPDATE step SET row = ?', (0,))
+    check_lines(stage, 'a.db', 1,
+                'wrong chain: not the latest one of the held rows; go back to a copy of the store, or make it anew')
+
+
+def test_two_tlds(stage):
+    """Deposits of two TLDs, whose Fulls follow one another: the later one is the chain."""
+    other = Header('F2', 'FULL', '2024-03-04T00:00:00Z')
+    release_of((F1, full(F1, tld='example')), (other, full(other, tld='EXAMPLE'))).rebuild(stage)
+    check_lines(stage, 'a.db', 0, end='2024-03-04T00:00:00Z FULL', tld='example')
+    release_of((F1, full(F1, tld='example')), (other, full(other, tld='other'))).rebuild(stage, 'b.db')
+    check_lines(stage, 'b.db', 1, 'wrong tld: example, other are named by the held deposits; make a store for each',
+                end='2024-03-04T00:00:00Z FULL')
+
+
+def test_a_held_body_that_is_gone(stage):
+    """The body of a revision that the chain goes past."""
+    release_of((F1, full(F1)), (F1_AGAIN, full(F1_AGAIN))).rebuild(stage)
+    change_row(stage, 'a.db', 'DELETE FROM held WHERE row = ?', (0,))
+    check_lines(stage, 'a.db', 1, 'wrong bodies: 1 held are gone or have another SHA-256 than listed, the first of row 1; go back to a '
+                'copy of the store, or make it anew')
+
+
+def test_a_body_of_the_chain_that_is_no_deposit(stage):
+    """A body before the last one is cut, and the row lists it as it is now."""
+    release_of((F1, full(F1)), (D2, body_of(D2, B, domain=2))).rebuild(stage)
+    check_lines(stage, 'a.db', 0, end='2024-03-04T00:00:00Z DIFF')
+    cut = full(F1)[:-1]
+    change_row(stage, 'a.db', 'UPDATE held SET body = ? WHERE row = 0', (cut,))
+    change_row(stage, 'a.db', 'UPDATE listed SET digest = ? WHERE row = 0', (hashlib.sha256(cut).digest(),))
+    tests = stage.end(stage.begin(['check', '--store', 'a.db'], 'handover'))
+    compare('status', '1', f'{tests.status}')
+    for line in ('wrong bodies: one of the chain is gone or is no deposit; go back to a copy of the store, or make it anew',
+                 'wrong tables: not those of the chain\'s deposits; go back to a copy of the store, or make it anew'):
+        if line not in tests.out.decode().splitlines():
+            raise Failed(f'no line {line!r}')
+
+
+def test_a_moment(stage):
+    """A moment is only told; --strict lets nothing be told."""
+    release_of((F1, full(F1)), (D2, body_of(D2, B, domain=2)), moment='2024-03-03T00:00:00Z').rebuild(stage)
+    check_lines(stage, 'a.db', 0, 'told moment: 2024-03-03T00:00:00Z is set, and what is later doesn\'t count; take it back by `restore '
+                'as-of` with `latest`', end='2024-03-03T00:00:00Z FULL, up to the moment 2024-03-03T00:00:00Z', strict=1)
+
+
+def test_notes(stage):
+    """What was told when a bundle was made is told again, each text on one line."""
+    release_of((F1, full(F1, notes=['unknown: eppParams 1', 'left\nout']))).rebuild(stage)
+    check_lines(stage, 'a.db', 0, "told notes: 2 in the chain's deposits, from when their bundles were made; each has a line below",
+                notes=('told note: unknown: eppParams 1', 'told note: left\\nout'), strict=1)
+
+
+def test_an_early_arrival(stage):
+    """Version 1 kept no body that no row listed."""
+    write_store(stage.at('a.db'), first_rows(manifest([(F1, full(F1))]), [('1', full(F1)), ('2', full(D2))]))
+    run(stage, 'migrate --store a.db')
+    check_lines(stage, 'a.db', 0, "told early: 1 arrivals of version 1 had no row, and their bodies weren't kept; take them again unless "
+                'they are held', strict=1)

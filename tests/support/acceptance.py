@@ -135,7 +135,8 @@ class Seen:
         self.objects = {kind: count_of(desk.objects, kind) for kind in KINDS}
         envelopes = [envelope_in(it) for it in filter(is_bundle, bodies)]
         self.tables = [it for envelope in envelopes for it in envelope.get('contents', [])]
-        self.tlds = list({it['tld'].lower(): it['tld'] for it in reversed(envelopes) if it.get('tld')}.values())[::-1]
+        named = [it['tld'] for it in (envelope_in(body) for _, body in sorted(desk.held.items()) if is_bundle(body)) if it.get('tld')]
+        self.tlds = [it for at, it in enumerate(named) if it.lower() not in map(str.lower, named[:at])]
         self.notes = [control_spelled(it) for envelope in envelopes for it in envelope.get('notes', [])]
         self.orphans = sum(it.orphans for it in deposits)
         self.spoiled = [at for at, body in sorted(desk.held.items()) if hashlib.sha256(body).hexdigest() != desk.listed[at][4]]
@@ -178,7 +179,7 @@ def tests_of(seen):
     fields = [it for it in GUIDES if seen.objects[it[0]] and (it[2] != 'idnTableId' or seen.objects['idn'])]
     declared = [it for it in fields if any(is_table_of(it, table) and it[2] in table['fields'] for table in seen.tables)]
     undeclared = [it for it in fields if it not in declared or not all(has_guide(it, kind, of) for (kind, _), of in seen.made.items())]
-    yield 'tld', len(seen.tlds) < 2, ', '.join(map(control_spelled, seen.tlds)) or 'no deposit of the chain names one'
+    yield 'tld', len(seen.tlds) < 2, ', '.join(map(control_spelled, seen.tlds)) or 'no held deposit names one'
     yield 'end', *end_line(seen)
     for name, wrong in {
             'chain': '' if seen.is_latest else 'not the latest one',

@@ -72,10 +72,11 @@ class Table(NamedTuple):
                 'file': file}
 
 
-def deposit(header, contents=(), deletes=(), counts=None):
-    """The bundle of a deposit with these tables, which says how many objects of some kinds there are. The header may be its text."""
+def deposit(header, contents=(), deletes=(), counts=None, **besides):
+    """The bundle of a deposit with these tables, which says how many objects of some kinds there are, and has these members besides.
+    The header may be its text."""
     name, kind, watermark, prev, resend = str(header).split(',')
-    told = {'id': name, 'type': kind, 'watermark': watermark, 'prevId': prev, 'resend': int(resend or 0), 'counts': counts or {}}
+    told = {'id': name, 'type': kind, 'watermark': watermark, 'prevId': prev, 'resend': int(resend or 0), 'counts': counts or {}, **besides}
     files = []
     for member, tables in (('deletes', deletes), ('contents', contents)):
         named = [(f'{member[0]}{at}', it) for at, it in enumerate(tables)]
