@@ -181,8 +181,10 @@ def check_page(stage, release, store='a.db'):
     if body != read(stage.at(f'{store}-again')) or read(stage.at(store)) != before:
         raise Failed('two pages differ, or the store is changed')
     page, seen = read_page(body), Seen(desk)
-    compare('title', f'Registry as of {moment_text(seen.end[0])}' if seen.end else 'Registry that is not rebuilt yet: there is no chain',
-            page.one('h1').text())
+    verdict = 'May be taken over' if is_accepted(list(tests_of(seen))) else 'Not to be taken over'
+    registry = ' '.join(['registry', *map(control_spelled, seen.tlds)])
+    told = f'{registry} as of {moment_text(seen.end[0])}' if seen.end else 'no registry, since there is no chain'
+    compare('title', f'{verdict}: {told}', page.one('h1').text())
     for check in (check_tests, check_facts, check_release, check_objects):
         check(page, seen)
     check_lists(page, seen, desk)

@@ -1,2 +1,4 @@
 pub mod AxisOrder
+pub mod EachRule
 pub mod Restoring
+pub mod Titled

@@ -1,3 +1,5 @@
 pub mod FullBundle
+pub mod PageRules
 pub mod Picture
 pub mod Restored
+pub mod Titles

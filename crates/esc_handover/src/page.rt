@@ -2,6 +2,8 @@
 
 ghost use Rattle.std.specs.Prelude.{IfOk};
 ghost use Rattle.esc_html.specs.Markup.{IsHtmlPage};
+ghost use Rattle.esc_acceptance.specs.Acceptance.{is_accepted};
+ghost use Rattle.esc_handover.specs.Titles.{HasTitle, TellsVerdict};
 
 mod axis;
 mod findings;
@@ -14,6 +16,7 @@ mod release;
 mod share;
 mod style;
 mod summary;
+mod title;
 mod way;
 
 use crate::page::findings::findings_section;
@@ -23,25 +26,27 @@ use crate::page::receipts::{parked_section, receipts_section};
 use crate::page::release::release_section;
 use crate::page::style::STYLE;
 use crate::page::summary::{page_head, tests_section};
-use esc_acceptance::{Seen, lines_of, moment_words};
+use crate::page::title::title_of;
+use esc_acceptance::{Seen, lines_of};
 use esc_bundle::NoMemory;
-use esc_envelope::Place;
 use esc_events::ParkedBody;
 use esc_html::{Html, Tag};
 use esc_store::Reply;
 use std::alloc::Global;
 
 /// A page of HTML that shows what was seen of a store, with its receipts in order and its parked
-/// bodies. It loads nothing and runs nothing, and each text of a deposit is escaped.
+/// bodies. Its title begins with whether the registry may be taken over. It loads nothing and runs
+/// nothing, and each text of a deposit is escaped.
 pub fn page_of(
     alloc: Global,
     seen: &Seen<'_>,
     receipts: &[Reply],
     parked: &[ParkedBody],
 ) -> Result<Vec<u8>, NoMemory>
-    ensures { IfOk result (λ page. IsHtmlPage page.items) }
+    ensures markup { IfOk result (λ page. IsHtmlPage page.items) }
+    ensures verdict { IfOk result (λ page. TellsVerdict (is_accepted seen.now) page.items) }
 {
-    let title = title_of(alloc, seen.end)?;
+    let title = title_of(alloc, seen)?;
     let lines = lines_of(alloc, seen)?;
     let sections = tests_section(alloc, &lines)
         .add(release_section(alloc, seen)?)
@@ -55,17 +60,17 @@ pub fn page_of(
         Tag::Paragraph,
         "Made by handover page. It loads nothing and runs nothing.",
     );
-    Html::new(alloc)
+    let body = Html::new(alloc)
         .element(Tag::Header, &[], head)
         .element(Tag::Main, &[], sections)
-        .element(Tag::Footer, &[], foot)
-        .into_page(title.as_str(), STYLE)
+        .element(Tag::Footer, &[], foot);
+    titled(body, title.as_str())
 }
 
-fn title_of(alloc: Global, end: Option<Place>) -> Result<String, NoMemory> {
-    let Some(end) = end else {
-        return Ok(String::from_str(alloc, "Registry that is not rebuilt yet: there is no chain")?);
-    };
-    let moment = moment_words(alloc, end.watermark)?;
-    Ok(format!(in alloc; "Registry as of {moment}")?)
+// The page with this title and this body.
+fn titled(body: Html, title: &str) -> Result<Vec<u8>, NoMemory>
+    ensures markup { IfOk result (λ page. IsHtmlPage page.items) }
+    ensures title { IfOk result (λ page. HasTitle title.now page.items) }
+{
+    body.into_page(title, STYLE)
 }

@@ -1,5 +1,8 @@
 //! The findings, by their rules.
 
+ghost use Rattle.std.specs.Prelude.{◌≡◌};
+ghost use Rattle.esc_handover.specs.PageRules.{page_rules, HasEachRule};
+
 use crate::page::part::{Cell, MOST_SHOWN, counted_table, leaf, row, section};
 use esc_check::{Finding, Rule};
 use esc_html::{Html, Tag};
@@ -20,10 +23,25 @@ fn meaning(rule: Rule) -> &'static str {
     }
 }
 
+#[tactic(auto, unfolding(crate::specs::PageRules::page_rules))]
+fn listed_rules() -> [Rule; 7]
+    ensures { result ≡ page_rules }
+{
+    Rule::ALL
+}
+
+// The rules that have a heading, which are all.
+#[tactic(auto, using(crate::proofs::EachRule::each_rule))]
+fn all_rules() -> [Rule; 7]
+    ensures { HasEachRule result }
+{
+    listed_rules()
+}
+
 /// The section of the findings.
 pub(crate) fn findings_section(alloc: Global, findings: &[Finding]) -> Html {
     let mut inside = Html::new(alloc);
-    for rule in Rule::ALL {
+    for rule in all_rules() {
         inside = inside.add(findings_of(alloc, findings, rule));
     }
     if findings.is_empty() {
