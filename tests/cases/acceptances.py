@@ -161,7 +161,7 @@ def release_of(*deposits, moment=None):
 
 def lines_but(*others, end='2024-03-03T00:00:00Z FULL', tld='no held deposit names one', notes=()):
     """The lines where all tests pass, but for those that are given, and then those of notes."""
-    passed = {f'{it}': f'ok {it}' for it in ('tld', 'end', 'chain', 'resends', 'gaps', 'moment', 'parked', 'early', 'findings', 'orphans',
+    passed = {f'{it}': f'ok {it}' for it in ('tld', 'end', 'chain', 'resends', 'gaps', 'moment', 'parked', 'early', 'findings', 'registrars', 'nndns', 'orphans',
                                              'counts', 'fields', 'names', 'bodies', 'tables', 'notes')}
     passed |= {'tld': f'ok tld: {tld}', 'end': f'ok end: {end}'} | {it.split()[1].rstrip(':'): it for it in others}
     return ''.join(f'{it}\n' for it in (*passed.values(), *notes))
@@ -229,6 +229,23 @@ def test_a_body_of_the_chain_that_is_no_deposit(stage):
                  'wrong tables: not those of the chain\'s deposits; go back to a copy of the store, or make it anew'):
         if line not in tests.out.decode().splitlines():
             raise Failed(f'no line {line!r}')
+
+
+def test_a_registrar_that_is_not_there(stage):
+    """A domain was created by a registrar that is not there, and another asked for its transfer."""
+    made = domains(f'a.example,R1,,{DATES},R9', fields=(*FIELDS, 'crRr'))
+    moving = Table('domainTransfer', 'domain', 'child', ('name', 'reRr', 'acRr'), b'b.example,R8,R1\n')
+    release_of((F1, body_of(F1, REGISTRARS, made, *CHILDREN)), (D2, body_of(D2, B, moving, domain=2))).rebuild(stage)
+    check_lines(stage, 'a.db', 1, "wrong registrars: 2 name a registrar that isn't there, by crRr, upRr, reRr or acRr; ask the agent for "
+                'it: domain a.example, domain b.example', end='2024-03-04T00:00:00Z DIFF')
+
+
+def test_a_name_of_a_domain_and_an_nndn(stage):
+    """An NNDN has a domain's name, in other letters."""
+    nndns = Table('nndn', 'nndn', 'parent', ('aName', 'idnTableId'), b'A.example,\n')
+    counts = dict.fromkeys(KINDS, 0) | {'registrar': 1, 'domain': 1, 'nndn': 1}
+    release_of((F1, deposit(F1, (REGISTRARS, A, *CHILDREN, nndns), counts=counts))).rebuild(stage)
+    check_lines(stage, 'a.db', 1, "wrong nndns: 1 have a domain's name; ask the agent which the name is: nndn A.example")
 
 
 def test_a_moment(stage):

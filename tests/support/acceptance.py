@@ -118,6 +118,12 @@ def has_guide(guide, kind, record):
     return kind != guide[0] or all(guide[2] in dict(cells) for _, cells in rows)
 
 
+def names_stranger(record, objects):
+    """Whether a row of an object names a registrar that is not there."""
+    return any(text and ('registrar', text.encode()) not in objects for _, cells in read_record(record)
+               for text in map(dict(reversed(cells)).get, ('crRr', 'upRr', 'reRr', 'acRr')))
+
+
 class Seen:
     """What is seen of a store where the body of the chain's last deposit is a bundle. (One that went bad may have rows of which no
     deposit is read. It still declares tables.)"""
@@ -142,6 +148,9 @@ class Seen:
         self.spoiled = [at for at, body in sorted(desk.held.items()) if hashlib.sha256(body).hexdigest() != desk.listed[at][4]]
         self.are_read, self.made = deposits == read, made_by(deposits)
         self.is_rebuilt = self.are_read and self.made == desk.objects
+        keys = sorted(self.made, key=lambda it: (KINDS.index(it[0]), it[1]))
+        self.registrars = [it for it in keys if names_stranger(self.made[it], self.made)]
+        self.nndns = [it for it in keys if it[0] == 'nndn' and ('domain', it[1].lower()) in self.made]
 
 
 # ---- the lines
@@ -190,6 +199,8 @@ def tests_of(seen):
             'early': f'{seen.early} arrivals of version 1' if seen.early else '',
             'findings': counted(seen.findings, lambda it: ', the first ' + ' '.join(
                 filter(None, (f'V{it[0]}', it[1], control_spelled(it[2]), it[3])))),
+            'registrars': f"{len(seen.registrars)} name a registrar that isn't there" if seen.registrars else '',
+            'nndns': f"{len(seen.nndns)} have a domain's name" if seen.nndns else '',
             'orphans': f'{seen.orphans} child rows' if seen.orphans else '',
             'counts': named([it for it in KINDS if it not in seen.counts], 'not declared'),
             'fields': named(map(guide_text, undeclared), 'declared by no deposit of the chain, or not for each object'),

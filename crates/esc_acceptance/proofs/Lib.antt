@@ -1,4 +1,3 @@
 pub mod Applied
 pub mod MoreBodies
-pub mod Cells
 pub mod Places

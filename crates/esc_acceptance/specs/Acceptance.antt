@@ -18,8 +18,8 @@ use Rattle.esc_acceptance.specs.Guides.{guides, is_wanted, is_there, is_disguise
 
 -- what was seen of a store: how many TLDs the held deposits name; the moment that is set, the
 -- chain's end, whether the chain is the latest one, the line of each listed place; how many bodies
--- are parked, how many arrivals are early ones without a body, how many findings there are; the
--- objects and the declared numbers by kind, the tables that the chain's deposits declare, what they
+-- are parked, how many arrivals are early ones without a body, how many findings there are, how many
+-- objects name no registrar and how many NNDNs have a domain's name; the objects and the declared numbers by kind, the tables that the chain's deposits declare, what they
 -- make, how many orphans they have, how many held bodies aren't what their rows list, whether those
 -- of the chain are deposits, and whether the tables are what they make; and the notes in them
 pub record SeenValue : Type 0 where
@@ -31,6 +31,8 @@ pub record SeenValue : Type 0 where
   pub parked : ℕ
   pub early : ℕ
   pub findings : ℕ
+  pub registrars : ℕ
+  pub nndns : ℕ
   pub objects : List (Kind × ℕ)
   pub counts : List (Kind × ℕ)
   pub tables : List TableValue
@@ -97,6 +99,8 @@ passes test.Moment s = not (is_some s.moment)
 passes test.Parked s = s.parked == 0
 passes test.Early s = s.early == 0
 passes test.Findings s = s.findings == 0
+passes test.Registrars s = s.registrars == 0
+passes test.Nndns s = s.nndns == 0
 passes test.Orphans s = s.orphans == 0
 passes test.Counts s = list_all (is_counted s.counts) kinds
 passes test.Fields s =
@@ -110,8 +114,8 @@ passes test.Notes s = length s.notes == 0
 unfoldable pub tests : List Test
 tests =
     test.Tld ∷ test.End ∷ test.Chain ∷ test.Resends ∷ test.Gaps ∷ test.Moment ∷ test.Parked ∷
-    test.Early ∷ test.Findings ∷ test.Orphans ∷ test.Counts ∷ test.Fields ∷ test.Names ∷
-    test.Bodies ∷ test.Tables ∷ test.Notes ∷ []
+    test.Early ∷ test.Findings ∷ test.Registrars ∷ test.Nndns ∷ test.Orphans ∷ test.Counts ∷
+    test.Fields ∷ test.Names ∷ test.Bodies ∷ test.Tables ∷ test.Notes ∷ []
 
 -- whether a registry may be taken over where a test fails: then it is only told
 abbrev pub is_told_alone : Test → Bool
@@ -124,6 +128,8 @@ is_told_alone test.Moment = true
 is_told_alone test.Parked = false
 is_told_alone test.Early = true
 is_told_alone test.Findings = false
+is_told_alone test.Registrars = false
+is_told_alone test.Nndns = false
 is_told_alone test.Orphans = false
 is_told_alone test.Counts = false
 is_told_alone test.Fields = false
@@ -153,6 +159,8 @@ test_name test.Moment = codes "moment"
 test_name test.Parked = codes "parked"
 test_name test.Early = codes "early"
 test_name test.Findings = codes "findings"
+test_name test.Registrars = codes "registrars"
+test_name test.Nndns = codes "nndns"
 test_name test.Orphans = codes "orphans"
 test_name test.Counts = codes "counts"
 test_name test.Fields = codes "fields"

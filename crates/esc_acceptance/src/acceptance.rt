@@ -166,6 +166,8 @@ pub fn passes(test: Test, seen: &Seen<'_>) -> bool
         Test::Parked => seen.parked == 0,
         Test::Early => seen.early == 0,
         Test::Findings => seen.findings.len() == 0,
+        Test::Registrars => seen.registrars.len() == 0,
+        Test::Nndns => seen.nndns.len() == 0,
         Test::Orphans => seen.orphans == 0,
         Test::Counts => are_counted(seen.counts),
         Test::Fields => are_fields_there(seen.objects, seen.tables, seen.made),
@@ -177,7 +179,7 @@ pub fn passes(test: Test, seen: &Seen<'_>) -> bool
 }
 
 #[tactic(auto, unfolding(crate::specs::Acceptance::tests))]
-pub(crate) fn all_tests() -> [Test; 16]
+pub(crate) fn all_tests() -> [Test; 18]
     ensures { result ≡ tests }
 {
     Test::ALL

@@ -9,6 +9,7 @@ use crate::words::{moment_words, one_line, place_words};
 use esc_bundle::NoMemory;
 use esc_chain::GapLine;
 use esc_envelope::{Kind, Place};
+use esc_tables::Key;
 use std::alloc::Global;
 
 /// What a test found, and what to do: empty where it passed, but for the TLD and the end of the
@@ -24,6 +25,8 @@ pub(crate) fn detail_of(alloc: Global, test: Test, seen: &Seen<'_>) -> Result<St
         Test::Parked => parked_detail(alloc, seen.parked),
         Test::Early => early_detail(alloc, seen.early),
         Test::Findings => findings_detail(alloc, seen),
+        Test::Registrars => registrars_detail(alloc, seen.registrars),
+        Test::Nndns => nndns_detail(alloc, seen.nndns),
         Test::Orphans => orphans_detail(alloc, seen.orphans),
         Test::Counts => counts_detail(alloc, seen.counts),
         Test::Fields => fields_detail(alloc, seen),
@@ -156,6 +159,45 @@ fn findings_detail(alloc: Global, seen: &Seen<'_>) -> Result<String, NoMemory> {
     Ok(format!(in alloc;
         "{count}, the first {rule} {kind}{gap}{key} {field}; see `restore report links`"
     )?)
+}
+
+// How many objects a line names.
+const MOST_NAMED: usize = 20;
+
+// Appends the first of these objects: their kind and their key.
+fn push_objects(alloc: Global, text: &mut String, keys: &[Key]) -> Result<(), NoMemory> {
+    for key in keys.iter().take(MOST_NAMED) {
+        let name = one_line(alloc, key.text.as_str())?;
+        push_object(text, key.kind.name(), name.as_str())?;
+    }
+    Ok(())
+}
+
+fn push_object(text: &mut String, kind: &str, name: &str) -> Result<(), NoMemory> {
+    push_item(text, kind)?;
+    Ok(write!(text, " {name}")?)
+}
+
+fn registrars_detail(alloc: Global, keys: &[Key]) -> Result<String, NoMemory> {
+    let count = keys.len();
+    let mut text = String::new(alloc);
+    push_objects(alloc, &mut text, keys)?;
+    if count == 0 {
+        return Ok(text);
+    }
+    Ok(format!(in alloc;
+        "{count} name a registrar that isn't there, by crRr, upRr, reRr or acRr; ask the agent for it: {text}"
+    )?)
+}
+
+fn nndns_detail(alloc: Global, keys: &[Key]) -> Result<String, NoMemory> {
+    let count = keys.len();
+    let mut text = String::new(alloc);
+    push_objects(alloc, &mut text, keys)?;
+    if count == 0 {
+        return Ok(text);
+    }
+    Ok(format!(in alloc; "{count} have a domain's name; ask the agent which the name is: {text}")?)
 }
 
 fn orphans_detail(alloc: Global, orphans: u64) -> Result<String, NoMemory> {

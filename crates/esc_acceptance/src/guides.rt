@@ -12,7 +12,7 @@ ghost use Rattle.esc_acceptance.specs.Guides.{is_disguised_table, has_disguised_
 ghost use Rattle.esc_acceptance.specs.Guides.{stands_for_its_table, is_disguise};
 
 use crate::guide::Guide;
-use crate::row::text_in;
+use esc_conformity::text_in;
 use esc_envelope::{Kind, Table};
 use esc_tables::{Key, Object, Row};
 use std::collections::BTreeMap;

@@ -11,7 +11,8 @@
 //! What is seen is found by `gaps_of`, which has the line of each listed place, and by
 //! [`ChainFacts`], which takes one body of the chain after the other and makes its tables once more
 //! (`apply_deposit`). `are_listed` compares these with objects that come one at a time, as those of
-//! a desk's walk. Nothing here knows of a store.
+//! a desk's walk. (`esc_conformity` has the objects that fail a test by themselves.) Nothing here
+//! knows of a store.
 //!
 //! ```text
 //! let mut facts = ChainFacts::new(alloc);
@@ -45,7 +46,6 @@ mod line;
 mod rebuild;
 mod remarks;
 mod report;
-mod row;
 mod same;
 mod seen;
 mod test;

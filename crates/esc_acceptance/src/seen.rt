@@ -26,6 +26,10 @@ pub struct Seen<'a> {
     pub early: u64,
     /// The findings V1 to V7 in the tables.
     pub findings: &'a [Finding],
+    /// The keys of what names a registrar that isn't there ([`esc_conformity::Rule::Registrars`]).
+    pub registrars: &'a [Key],
+    /// The keys of NNDNs that have a domain's name ([`esc_conformity::Rule::Nndns`]).
+    pub nndns: &'a [Key],
     /// How many objects of each kind there are.
     pub objects: &'a [(Kind, u64)],
     /// How many objects of a kind the chain's last deposit declares, for the kinds that it does.
@@ -61,6 +65,8 @@ impl<'a> Model for Seen<'a> {
       parked = s.parked;
       early = s.early;
       findings = length s.findings.now;
+      registrars = length s.registrars.now;
+      nndns = length s.nndns.now;
       objects = s.objects.now;
       counts = s.counts.now;
       tables = s.tables.now;

@@ -24,6 +24,10 @@ pub enum Test {
     Early,
     /// There is no finding V1 to V7.
     Findings,
+    /// No object names a registrar that isn't there by whom it was created, updated or transferred.
+    Registrars,
+    /// No name is both a domain's and an NNDN's.
+    Nndns,
     /// No deposit of the chain has an orphan.
     Orphans,
     /// The chain's last deposit declares how many objects of each kind there are.
@@ -42,7 +46,7 @@ pub enum Test {
 
 impl Test {
     /// All tests, in the order in which they are told.
-    pub const ALL: [Test; 16] = [
+    pub const ALL: [Test; 18] = [
         Test::Tld,
         Test::End,
         Test::Chain,
@@ -52,6 +56,8 @@ impl Test {
         Test::Parked,
         Test::Early,
         Test::Findings,
+        Test::Registrars,
+        Test::Nndns,
         Test::Orphans,
         Test::Counts,
         Test::Fields,
@@ -75,6 +81,8 @@ impl Test {
             Test::Parked => "parked",
             Test::Early => "early",
             Test::Findings => "findings",
+            Test::Registrars => "registrars",
+            Test::Nndns => "nndns",
             Test::Orphans => "orphans",
             Test::Counts => "counts",
             Test::Fields => "fields",
@@ -97,6 +105,8 @@ impl Test {
             | Test::Resends
             | Test::Parked
             | Test::Findings
+            | Test::Registrars
+            | Test::Nndns
             | Test::Orphans
             | Test::Counts
             | Test::Fields

@@ -14,6 +14,7 @@ use esc_cli::DONE;
 use esc_envelope::{Kind, Place};
 use esc_events::ParkedBody;
 use esc_store::{Reply, Verdict};
+use esc_tables::Key;
 use std::alloc::Global;
 use std::collections::BTreeMap;
 
@@ -48,6 +49,10 @@ pub struct StoreFacts {
     pub counts: Vec<(Kind, u64)>,
     /// The findings in the tables.
     pub findings: Vec<Finding>,
+    /// The objects that name a registrar which isn't there.
+    pub registrars: Vec<Key>,
+    /// The NNDNs that have a domain's name.
+    pub nndns: Vec<Key>,
     /// The held rows.
     pub held: Vec<usize>,
     /// The line of each listed place.
@@ -73,6 +78,8 @@ impl StoreFacts {
             objects: Vec::new(alloc),
             counts: Vec::new(alloc),
             findings: Vec::new(alloc),
+            registrars: Vec::new(alloc),
+            nndns: Vec::new(alloc),
             held: Vec::new(alloc),
             gaps: Vec::new(alloc),
             parked: Vec::new(alloc),
@@ -96,6 +103,8 @@ impl StoreFacts {
             parked: self.parked.len(),
             early: early_in(&self.receipts),
             findings: &self.findings,
+            registrars: &self.registrars,
+            nndns: &self.nndns,
             objects: &self.objects,
             counts: &self.counts,
             tables: &declared.tables,

@@ -3,6 +3,7 @@
 use crate::bodies::read_bodies;
 use crate::walking::walk;
 use esc_acceptance::{gaps_of, is_latest};
+use esc_conformity::{Rule, flaws};
 use esc_desk::{Cause, Reads, StoreFault};
 use esc_handover::{
     Answer, Form, Progress, Stop, StoreFacts, answer_of, are_made_by, entries_of, read_findings,
@@ -30,6 +31,9 @@ fn see<R: Reads>(
 ) -> Result<(), Stop> {
     ask(alloc, reader, facts, progress)?;
     read_bodies(alloc, reader, facts, progress)?;
+    let made = &facts.chain.objects;
+    facts.registrars = flaws(alloc, Rule::Registrars, made)?;
+    facts.nndns = flaws(alloc, Rule::Nndns, made)?;
     compare(alloc, reader, facts, progress)
 }
 

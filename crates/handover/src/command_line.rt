@@ -49,22 +49,24 @@ const CHECK: &str = "\
 A line for each test: ok; told, where the registry may be taken over all the same; or wrong, with what
 is wrong and what to do. The status is 1 if one is wrong, with --strict also if one is told.
 
-tld       the bundles that are held name one TLD at most
-end       no place is listed after the chain's end, up to the moment that is set
-chain     the chain is the latest one of the bundles that are held
-resends   no place of the chain awaits a later resend
-gaps      no place before the end is missing or blocked (told)
-moment    no moment is set (told)
-parked    each bundle that was taken is listed
-early     version 1 has let go of no bundle, by verdict A2 (told)
-findings  links, counts, statuses and dates break no rule (V1 to V7)
-orphans   each child row in the chain's deposits has its parent row
-counts    the chain's last deposit declares how many objects of each kind there are
-fields    each field that has links, statuses or dates is in each object of its kind
-names     no declared table or field looks like one of these under another name, as fClID
-bodies    each bundle that is held has the SHA-256 that is listed, and can be read
-tables    the tables are those that the bundles of the chain make when they are applied again
-notes     the bundles of the chain have no notes; each is told on a line below (told)
+tld         the bundles that are held name one TLD at most
+end         no place is listed after the chain's end, up to the moment that is set
+chain       the chain is the latest one of the bundles that are held
+resends     no place of the chain awaits a later resend
+gaps        no place before the end is missing or blocked (told)
+moment      no moment is set (told)
+parked      each bundle that was taken is listed
+early       version 1 has let go of no bundle, by verdict A2 (told)
+findings    links, counts, statuses and dates break no rule (V1 to V7)
+registrars  who created, updated or transfers an object is a registrar (crRr, upRr, reRr, acRr)
+nndns       no name is both a domain's and an NNDN's
+orphans     each child row in the chain's deposits has its parent row
+counts      the chain's last deposit declares how many objects of each kind there are
+fields      each field that has links, statuses or dates is in each object of its kind
+names       no declared table or field looks like one of these under another name, as fClID
+bodies      each bundle that is held has the SHA-256 that is listed, and can be read
+tables      the tables are those that the bundles of the chain make when they are applied again
+notes       the bundles of the chain have no notes; each is told on a line below (told)
 
 All bundles are read again. Example:
 

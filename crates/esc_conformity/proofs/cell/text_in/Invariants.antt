@@ -1,6 +1,6 @@
 use Rattle.std.proofs.Common.{◌≡◌, drop}
-use Rattle.esc_acceptance.proofs.Cells.{text_among}
-use Rattle.esc_acceptance.proofs.row.text_in.Given as goal
+use Rattle.esc_conformity.proofs.Cells.{text_among}
+use Rattle.esc_conformity.proofs.cell.text_in.Given as goal
 
 -- the cells that are left decide
 abbrev pub invariant-loop-at : goal.invariant-loop-at

@@ -1,7 +1,7 @@
 use Rattle.std.proofs.Common.{sym, ◌∙◌}
-use Rattle.esc_acceptance.proofs.Cells.{Cell, text_there, text_further, no_cell}
-use Rattle.esc_acceptance.proofs.row.text_in.Goals.{in-Some+else-eq, in_default}
-use Rattle.esc_acceptance.proofs.row.text_in.Goals as goal
+use Rattle.esc_conformity.proofs.Cells.{Cell, text_there, text_further, no_cell}
+use Rattle.esc_conformity.proofs.cell.text_in.Goals.{in-Some+else-eq, in_default}
+use Rattle.esc_conformity.proofs.cell.text_in.Goals as goal
 
 pub returns-then-eq : goal.returns-then-eq
 returns-then-eq c =
