@@ -4,6 +4,7 @@ import random
 from collections import Counter
 from itertools import groupby
 
+from cases.acceptances import F1, full, release_of
 from cases.handovers import clear
 from support.acceptance import Seen, beginning, control_spelled, is_accepted, tests_of, word_of
 from support.bundles import Header, Table, deposit, manifest
@@ -185,6 +186,8 @@ def check_page(stage, release, store='a.db'):
     registry = ' '.join(['registry', *map(control_spelled, seen.tlds)])
     told = f'{registry} as of {moment_text(seen.end[0])}' if seen.end else 'no registry, since there is no chain'
     compare('title', f'{verdict}: {told}', page.one('h1').text())
+    notes = [it.text() for it in section(page, 'notes').all('li')] if seen.notes else []
+    compare_all('notes', seen.notes, notes)
     for check in (check_tests, check_facts, check_release, check_objects):
         check(page, seen)
     check_lists(page, seen, desk)
@@ -196,6 +199,11 @@ def test_random_releases(stage):
     for seed in SEEDS:
         with case(f'seed {seed}'):
             check_page(stage, draw_release(seed), f'{seed}.db')
+
+
+def test_told(stage):
+    """The page of a release with a TLD and notes."""
+    check_page(stage, release_of((F1, full(F1, tld='example', notes=['unknown: <eppParams> 1', 'left\nout']))))
 
 
 def test_samples(stage):

@@ -3,35 +3,44 @@
 //! # In and out
 //!
 //! `passes` says of each [`Test`] of the acceptance whether it passes, by what was seen of a store
-//! ([`Seen`]): the chain's end, the line of each listed place, parked bodies, findings, orphans,
-//! counts, the tables that the chain's deposits declare, whether the held bodies are as listed and
-//! whether the tables are those that they make. `lines_of` gives a [`Line`] for each test, with
-//! what was found and what to do, and `is_accepted` says whether the registry may be taken over.
+//! ([`Seen`]): the chain and its end, the line of each listed place, parked bodies, findings, what
+//! the chain's deposits declare and make, whether the held bodies are as listed, and so on.
+//! `lines_of` gives a [`Line`] for each test, with what was found and what to do. `is_accepted` says
+//! whether the registry may be taken over: each test passes, but for those that are only told.
+//! `report_of` gives the text of the lines, and the status.
 //!
-//! What is seen is found by `gaps_of`, which has the line of each listed place, and by
-//! [`ChainFacts`], which takes one body of the chain after the other and makes its tables once more
-//! (`apply_deposit`). `are_listed` compares these with objects that come one at a time, as those of
-//! a desk's walk. (`esc_conformity` has the objects that fail a test by themselves.) Nothing here
-//! knows of a store.
+//! What is seen is found by `gaps_of`, which has the line of each listed place, by `is_latest`, which
+//! compares a chain with the latest one, by `is_as_listed`, which compares a body with its row, by
+//! [`Tlds`], and by [`ChainFacts`], which takes one body of the chain after the other and makes its
+//! tables once more (`apply_deposit`). `are_listed` compares these with objects that come one at a
+//! time, as those of a desk's walk. (`esc_conformity` has the objects that fail a test by
+//! themselves.) Nothing here knows of a store.
 //!
 //! ```text
 //! let mut facts = ChainFacts::new(alloc);
-//! facts.add(alloc, &body)?;                                      // each body of the chain
+//! facts.add(alloc, Some(&body))?;                                // each body of the chain
 //! let is_rebuilt = are_listed(&facts.objects, &mut walk)?;
 //!
-//! for line in &lines_of(alloc, &seen)? {
-//!     // ok end: 2024-03-11T00:00:00Z DIFF
-//!     // wrong names: domain clID under another name, ..
-//! }
+//! let report = report_of(alloc, &seen, is_strict)?;
+//! // ok tld: example
+//! // ok end: 2024-03-11T00:00:00Z DIFF
+//! // ..
+//! // wrong names: domain clID under another name, ..              status 1
 //! ```
 //!
 //! # What the contracts mean
 //!
-//! `specs/Acceptance.antt` says what each test asks (`passes`), and `specs/Guides.antt` which
-//! fields have links, statuses and dates, and what looks like one of them under another name. What
-//! a line says beyond that has no contract. `specs/Rebuilt.antt` has the tables of deposits as
-//! entries: `apply_deposit` gives those of one deposit more, and `are_listed` is true only of a
-//! source that lists just these. `gaps_of` gives the lines of `esc_chain`.
+//! `specs/Acceptance.antt` says what each test asks (`passes`), and what the status is (`status_of`):
+//! 0 exactly where the registry is accepted. `specs/Lines.antt` says what the text is: a line for
+//! each test, in order, with `ok` exactly where it passes, then one for each note. What a line says
+//! after the test's name has no contract. `specs/Guides.antt` says which fields have links, statuses
+//! and dates, which objects have them, and what looks like one of them under another name.
+//!
+//! `specs/Chains.antt` says what the bodies of a chain make: at each `add` whether all of them are
+//! deposits, and then their tables, which `specs/Rebuilt.antt` has as entries. `are_listed` is true
+//! only of a source that lists just these. `specs/Listed.antt` says when a body is as listed.
+//! `gaps_of` and `is_latest` go by `esc_chain`. `specs/Remarks.antt` has the TLD of an envelope; that
+//! [`Tlds`] has those of all bodies, and which notes there are, is tested.
 #![tactic(auto)]
 
 mod acceptance;

@@ -25,7 +25,7 @@ use crate::page::part::leaf;
 use crate::page::receipts::{parked_section, receipts_section};
 use crate::page::release::release_section;
 use crate::page::style::STYLE;
-use crate::page::summary::{page_head, tests_section};
+use crate::page::summary::{notes_section, page_head, tests_section};
 use crate::page::title::title_of;
 use esc_acceptance::{Seen, lines_of};
 use esc_bundle::NoMemory;
@@ -49,6 +49,7 @@ pub fn page_of(
     let title = title_of(alloc, seen)?;
     let lines = lines_of(alloc, seen)?;
     let sections = tests_section(alloc, &lines)
+        .add(notes_section(alloc, seen.notes))
         .add(release_section(alloc, seen)?)
         .add(objects_section(alloc, seen))
         .add(findings_section(alloc, seen.findings))

@@ -83,6 +83,19 @@ pub(crate) fn tests_section(alloc: Global, lines: &[Line]) -> Html {
     section(alloc, "tests", "Tests", inside)
 }
 
+/// The section of the notes; nothing where there are none.
+pub(crate) fn notes_section(alloc: Global, notes: &[String]) -> Html {
+    if notes.is_empty() {
+        return Html::new(alloc);
+    }
+    let mut points = Html::new(alloc);
+    for note in notes {
+        points = points.add(leaf(alloc, Tag::Point, note.as_str()));
+    }
+    let inside = Html::new(alloc).element(Tag::Points, &[], points);
+    section(alloc, "notes", "Notes of the chain's deposits", inside)
+}
+
 fn test_cells(alloc: Global, line: &Line) -> Html {
     let scope = [(Attribute::Scope, Value::Text("row"))];
     let word = line.word();
