@@ -34,7 +34,9 @@
 //! alone, once it is held (`specs/Restored.antt`, over the definitions of `esc_events`).
 //!
 //! `page_of` gives a page whose body is markup of a fixed list of elements around escaped texts
-//! (`IsHtmlPage` of `esc_html`): it loads nothing and runs nothing. `specs/Picture.antt` says where
+//! (`IsHtmlPage` of `esc_html`): it loads nothing and runs nothing. Its title begins with whether the
+//! registry may be taken over (`specs/Titles.antt`), and it has a heading for the findings of each
+//! rule that there is (`specs/PageRules.antt`). `specs/Picture.antt` says where
 //! a moment stands on the time axis, that a later one stands no further left
 //! (`moments_stand_in_order`), and that each place is in one group of marks or rows (`groups_of`).
 //! What else a page shows has no contract, and is tested.

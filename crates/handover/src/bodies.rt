@@ -13,7 +13,8 @@ pub fn read_bodies<R: Reads>(
     facts: &mut StoreFacts,
     progress: &mut Progress<'_>,
 ) -> Result<(), StoreFault> {
-    for (count, row) in reader.held(alloc)?.iter().enumerate() {
+    let held = reader.held(alloc)?;
+    for (count, row) in held.iter().enumerate() {
         progress.tell_read("bodies", count as u64, "bodies");
         read_held(alloc, reader, *row, facts)?;
     }
