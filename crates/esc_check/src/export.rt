@@ -56,12 +56,7 @@ fn heading_text(alloc: Global) -> Result<Vec<u8>, NoMemory>
 }
 
 // The lines of an object, or none if it is of another kind.
-fn object_text(
-    alloc: Global,
-    key: &Key,
-    object: &Object,
-    kind: Kind,
-) -> Result<Vec<u8>, NoMemory>
+fn object_text(alloc: Global, key: &Key, object: &Object, kind: Kind) -> Result<Vec<u8>, NoMemory>
     ensures { IfOk result (λ text. text.items
         ≡ text_of (export_lines kind ((key.now, object.now) ∷ []))) }
 {

@@ -7,9 +7,8 @@ use esc_bundle::NoMemory;
 use esc_cli::OneLine;
 use std::alloc::{AllocError, AllocFailed, Global};
 use std::collections::BTreeMap;
-use std::fmt;
 use std::net::IpAddr;
-use std::str;
+use std::{fmt, str};
 
 /// The types of records that a signer makes (RFC 4034, RFC 5155, RFC 7344, RFC 8976).
 const SIGNERS: [&str; 8] = [
@@ -263,10 +262,7 @@ impl Apex {
         }
         let origin = origin.text();
         let why = "no zone begins so: one SOA, first; NS; no CNAME or DNAME at";
-        Err(refused(
-            Rule::Apex,
-            format!(in alloc; "{path}: {why} {origin}"),
-        ))
+        Err(refused(Rule::Apex, format!(in alloc; "{path}: {why} {origin}")))
     }
 
     /// Its lines.

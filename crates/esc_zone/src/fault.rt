@@ -3,8 +3,7 @@
 use esc_bundle::NoMemory;
 use esc_cli::OneLine;
 use std::alloc::{AllocError, AllocFailed};
-use std::fmt;
-use std::io;
+use std::{fmt, io};
 
 /// What makes a zone as a whole doubtful.
 #[derive(Clone, Copy, Debug, PartialEq, Eq)]

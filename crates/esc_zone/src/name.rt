@@ -67,7 +67,8 @@ pub(crate) fn is_label(label: &[u8]) -> bool
 fn are_labels(text: &[u8]) -> bool
     ensures { result ≡ are_labels text.now }
 {
-    text.split(|byte| *byte == b'.').all(|label| is_label(label))
+    text.split(|byte| *byte == b'.')
+        .all(|label| is_label(label))
 }
 
 /// Whether these bytes are a name.

@@ -41,7 +41,13 @@ impl Draft {
         let servers = servers_of(self.alloc, &object.children)?;
         let outcome = match kept_out(&object.children, &servers) {
             Some(outcome) => {
-                tell_kept(self.alloc, sheet, text.as_str(), outcome, (&object.parent, &servers))?;
+                tell_kept(
+                    self.alloc,
+                    sheet,
+                    text.as_str(),
+                    outcome,
+                    (&object.parent, &servers),
+                )?;
                 outcome
             }
             None => self.delegate_domain(text.as_str(), &servers, &object.children, sheet)?,
@@ -400,12 +406,7 @@ impl Draft {
     }
 
     // Refused by `Z3` where a server of the zone itself has no address.
-    fn check_own_server(
-        &self,
-        host: &Name,
-        user: &Name,
-        addresses: &[IpAddr],
-    ) -> Result<(), Halt> {
+    fn check_own_server(&self, host: &Name, user: &Name, addresses: &[IpAddr]) -> Result<(), Halt> {
         if *user != self.settings.origin || !addresses.is_empty() {
             return Ok(());
         }
@@ -482,12 +483,7 @@ fn note_user(server: &mut Server, user: Name) {
 }
 
 // Tells of a server's rows that have no address, or another than they say.
-fn tell_faults(
-    alloc: Global,
-    sheet: &mut Sheet,
-    host: &Name,
-    rows: &[Said],
-) -> Result<(), NoMemory>
+fn tell_faults(alloc: Global, sheet: &mut Sheet, host: &Name, rows: &[Said]) -> Result<(), NoMemory>
     ensures { sheet.new.records ≡ sheet.old.records }
 {
     for row in rows {
@@ -514,7 +510,11 @@ fn tell_version(
     if declared == is || declared.is_empty() && address.is_ipv4() {
         return Ok(());
     }
-    let declared = if declared.is_empty() { "v4 (none)" } else { declared };
+    let declared = if declared.is_empty() {
+        "v4 (none)"
+    } else {
+        declared
+    };
     let what = format!(in alloc; "is {is}, declared {}", OneLine(declared))?;
     sheet.tell_address(host, row.text.as_str(), what)
 }

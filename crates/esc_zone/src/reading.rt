@@ -134,19 +134,13 @@ pub fn read_origin(alloc: Global, text: &str) -> Result<Name, Halt> {
     let normal = normal(alloc, text)?;
     if normal.as_str() != text {
         let why = "not in small letters, or with a dot at its end";
-        return Err(refused(
-            Rule::Origin,
-            format!(in alloc; "{text}: {why}"),
-        ));
+        return Err(refused(Rule::Origin, format!(in alloc; "{text}: {why}")));
     }
     match name_in(alloc, text, false)? {
         Some(name) => Ok(name),
         None => {
             let why = fault_of(text, false);
-            Err(refused(
-                Rule::Origin,
-                format!(in alloc; "{text}: {why}"),
-            ))
+            Err(refused(Rule::Origin, format!(in alloc; "{text}: {why}")))
         }
     }
 }

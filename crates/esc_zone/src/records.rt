@@ -116,7 +116,8 @@ impl Records {
     fn add(&mut self, owner: &Name, said: &[u8]) -> Result<(), NoMemory>
         requires { IsSaid said.now }
         ensures { OnOk result (self.new ≡ record self.old {
-            text = self.old.text ++ line_text self.old.ttl owner.now said.now }) }
+          text = self.old.text ++ line_text self.old.ttl owner.now said.now;
+        }) }
     {
         let line = line_of(self.alloc, self.ttl, owner.as_bytes(), said)?;
         self.bytes.extend_from_slice(&line)?;
@@ -125,8 +126,10 @@ impl Records {
 
     /// Adds that a name has this name server.
     pub fn add_server(&mut self, owner: &Name, name: &Name) -> Result<(), NoMemory>
-        ensures { OnOk result (self.new ≡ record self.old { text = self.old.text
-            ++ record_text (record { owner = owner.now; ttl = self.old.ttl; said = server name.now }) }) }
+        ensures { OnOk result (self.new ≡ record self.old {
+          text = self.old.text
+              ++ record_text (record { owner = owner.now; ttl = self.old.ttl; said = server name.now });
+        }) }
     {
         let said = server_text(self.alloc, name.as_bytes())?;
         self.add(owner, &said)
@@ -134,8 +137,10 @@ impl Records {
 
     /// Adds a DS of a name.
     pub fn add_ds(&mut self, owner: &Name, ds: &Ds) -> Result<(), NoMemory>
-        ensures { OnOk result (self.new ≡ record self.old { text = self.old.text
-            ++ record_text (record { owner = owner.now; ttl = self.old.ttl; said = signer ds.now }) }) }
+        ensures { OnOk result (self.new ≡ record self.old {
+          text = self.old.text
+              ++ record_text (record { owner = owner.now; ttl = self.old.ttl; said = signer ds.now });
+        }) }
     {
         let said = ds_text(self.alloc, ds)?;
         self.add(owner, said.as_bytes())
@@ -143,8 +148,10 @@ impl Records {
 
     /// Adds an address of a server.
     pub fn add_address(&mut self, host: &Name, at: &IpAddr) -> Result<(), NoMemory>
-        ensures { OnOk result (self.new ≡ record self.old { text = self.old.text
-            ++ record_text (record { owner = host.now; ttl = self.old.ttl; said = address at.now }) }) }
+        ensures { OnOk result (self.new ≡ record self.old {
+          text = self.old.text
+              ++ record_text (record { owner = host.now; ttl = self.old.ttl; said = address at.now });
+        }) }
     {
         let said = address_text(self.alloc, at)?;
         self.add(host, said.as_bytes())

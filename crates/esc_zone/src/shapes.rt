@@ -156,10 +156,7 @@ fn check_there(alloc: Global, shape: &Shape<'_>, field: &str) -> Result<(), Halt
         return Ok(());
     }
     let name = shape.name;
-    Err(refused(
-        Rule::Fields,
-        format!(in alloc; "{name} lacks {field}"),
-    ))
+    Err(refused(Rule::Fields, format!(in alloc; "{name} lacks {field}")))
 }
 
 // Refuses DS and keys of which a part of the fields is there, or none.

@@ -28,7 +28,11 @@ impl Sheet {
     }
 
     /// Tells that a name is left out, and why.
-    pub(crate) fn leave_out<D: Display + Drop>(&mut self, name: &str, why: D) -> Result<(), NoMemory>
+    pub(crate) fn leave_out<D: Display + Drop>(
+        &mut self,
+        name: &str,
+        why: D,
+    ) -> Result<(), NoMemory>
         ensures { self.new.records ≡ self.old.records }
     {
         Ok(writeln!(self.told, "left out {} {why}", OneLine(name))?)
@@ -61,7 +65,11 @@ impl Sheet {
     }
 
     /// Tells that a DS is left out, and why.
-    pub(crate) fn leave_out_ds<D: Display + Drop>(&mut self, name: &Name, why: D) -> Result<(), NoMemory>
+    pub(crate) fn leave_out_ds<D: Display + Drop>(
+        &mut self,
+        name: &Name,
+        why: D,
+    ) -> Result<(), NoMemory>
         ensures { self.new.records ≡ self.old.records }
     {
         let name = name.text();
@@ -95,10 +103,7 @@ impl Sheet {
         ensures { self.new.records ≡ self.old.records }
     {
         let (host, user) = (host.text(), user.text());
-        Ok(writeln!(
-            self.told,
-            "glue {host} below no delegation; {user} uses it"
-        )?)
+        Ok(writeln!(self.told, "glue {host} below no delegation; {user} uses it")?)
     }
 
     /// Writes the records to the zone, and what is told as far as it can be written, and leaves

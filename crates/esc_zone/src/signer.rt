@@ -70,9 +70,7 @@ impl fmt::Display for DsFault<'_> {
                 f,
                 "no key of DNSSEC: protocol {protocol}, algorithm {algorithm}"
             ),
-            DsFault::Flags(flags) => {
-                write!(f, "no zone key, or a revoked one: flags {flags}")
-            }
+            DsFault::Flags(flags) => { write!(f, "no zone key, or a revoked one: flags {flags}") }
             DsFault::Key => f.write_str("a public key that is no base64"),
             DsFault::NoMemory => f.write_str("out of memory"),
         }

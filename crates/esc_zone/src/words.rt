@@ -56,8 +56,20 @@ pub(crate) fn tell_statuses(
 {
     for row in rows {
         if row.table() == "domainStatuses" {
-            tell_word(alloc, sheet, name, ("status", cell(row, "status")), &STATUSES)?;
-            tell_word(alloc, sheet, name, ("rgpStatus", cell(row, "rgpStatus")), &GRACE)?;
+            tell_word(
+                alloc,
+                sheet,
+                name,
+                ("status", cell(row, "status")),
+                &STATUSES,
+            )?;
+            tell_word(
+                alloc,
+                sheet,
+                name,
+                ("rgpStatus", cell(row, "rgpStatus")),
+                &GRACE,
+            )?;
         }
     }
     if is_held(rows) || is_pending_delete_of_epp(rows) {
@@ -89,12 +101,7 @@ fn tell_word(
     }
 }
 
-fn tell_recovery(
-    alloc: Global,
-    sheet: &mut Sheet,
-    name: &str,
-    rows: &[Row],
-) -> Result<(), NoMemory>
+fn tell_recovery(alloc: Global, sheet: &mut Sheet, name: &str, rows: &[Row]) -> Result<(), NoMemory>
     ensures { sheet.new.records ≡ sheet.old.records }
 {
     let mut told = String::new(alloc);

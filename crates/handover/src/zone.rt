@@ -4,7 +4,9 @@ use crate::walking::walk;
 use esc_cli::{DONE, Links, OneLine, read_whole};
 use esc_desk::{Reads, StoreFault};
 use esc_envelope::Kind;
-use esc_handover::{Answer, Layout, Progress, REFUSED, Stop, or_stop, read_layouts, read_table_names};
+use esc_handover::{
+    Answer, Layout, Progress, REFUSED, Stop, or_stop, read_layouts, read_table_names,
+};
 use esc_zone::{
     Draft, Halt, Refusal, Rule, Settings, Shape, ZoneFault, check_shapes, read_apex, read_origin,
     read_serial,
@@ -32,6 +34,7 @@ pub struct Zoning<'a> {
 /// The TTL of the records of delegations, in seconds: at first, and once it is known that they are
 /// right.
 const HOUR: u32 = 3_600;
+
 const DAY: u32 = 86_400;
 
 /// The most bytes of the operator's file.
@@ -255,8 +258,7 @@ fn fill_file<R: Reads>(
 // Tells what a zone without signatures needs before it is published.
 fn tell_unsigned(words: Zoning<'_>) {
     let origin = OneLine(words.origin);
-    let line = format!(
-        in words.rt.alloc();
+    let line = format!(in words.rt.alloc();
         "unsigned {origin} while the root has its old DS, validating resolvers refuse this zone, \
          also newly signed: have the DS replaced or removed, and wait its TTL, before the NS \
          change\n"

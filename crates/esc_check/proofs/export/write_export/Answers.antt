@@ -13,11 +13,15 @@ loop-heading-init g c =
     let wrote = c.deref.ensures.value ∙ c.in_ok-heading.ensures in
     record {
       follows = g.met.O.Objects.stays _;
-      written = λ honest es lists. (es, lists, (
-        c.deref.result.now,
-        c.in_ok-write_all.ensures.bytes,
-        ap (λ (h : List ℕ). h ++ text_of (export_lines c.args.kind es)) wrote,
-      ));
+      written = λ honest es lists. (
+        es,
+        lists,
+        (
+          c.deref.result.now,
+          c.in_ok-write_all.ensures.bytes,
+          ap (λ (h : List ℕ). h ++ text_of (export_lines c.args.kind es)) wrote,
+        ),
+      );
     }
 
 pub loop-heading-preserved : goal.loop-heading-preserved
