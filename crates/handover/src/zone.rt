@@ -4,9 +4,8 @@ use crate::walking::walk;
 use esc_cli::{DONE, Links, OneLine, read_whole};
 use esc_desk::{Reads, StoreFault};
 use esc_envelope::Kind;
-use esc_handover::{
-    Answer, Layout, Progress, REFUSED, Stop, or_stop, read_layouts, read_table_names,
-};
+use esc_handover::{Answer, Progress, REFUSED, Stop, or_stop, read_layouts};
+use esc_table_files::Layout;
 use esc_zone::{
     Draft, Halt, Refusal, Rule, Settings, Shape, ZoneFault, check_shapes, read_apex, read_origin,
     read_serial,
@@ -153,10 +152,8 @@ fn check_tables<R: Reads>(
     let alloc = words.rt.alloc();
     let mut layouts = Vec::new(alloc);
     for kind in [Kind::Host, Kind::Domain, Kind::Nndn] {
-        let tables = read_table_names(alloc, walk(alloc, reader, Some(kind))?, kind, progress);
-        let tables = tables.map_err(Stop::from)?;
         let walk = walk(alloc, reader, Some(kind))?;
-        let read = read_layouts(alloc, walk, kind, tables, progress);
+        let read = read_layouts(alloc, walk, kind, progress);
         layouts.append(&mut read.map_err(Stop::from)?)?;
     }
     check_layouts(words, &layouts)
