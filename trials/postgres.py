@@ -24,7 +24,8 @@ import tempfile
 
 sys.path.append(f'{sys.path[0]}/../tests')
 from cases.loading import LINKS
-from support import arguments_of, built
+from support import arguments_of
+from support import built
 from support.flawed import some_release
 from support.releases import SAMPLES
 from support.stage import Stage
