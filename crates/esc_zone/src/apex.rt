@@ -236,11 +236,12 @@ impl Apex {
         self.text.extend_from_slice(name.as_bytes())?;
         self.text.extend_from_slice(b".")?;
         let serial = format!(in alloc; "{serial}")?;
+        let is_soa = words.get(3).is_some_and(|kind| *kind == "SOA");
         for (at, word) in words.iter().enumerate() {
             if at == 0 {
                 continue;
             }
-            let is_serial = words[3] == "SOA" && at == 6;
+            let is_serial = is_soa && at == 6;
             let word = if is_serial { serial.as_str() } else { word };
             self.text.extend_from_slice(b" ")?;
             self.text.extend_from_slice(word.as_bytes())?;

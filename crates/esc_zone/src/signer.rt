@@ -1,13 +1,12 @@
 //! DS records: those that a row has, and those that are made of its key.
 
 ghost use Rattle.std.specs.Prelude.{◌≡◌, ◌≢◌, ◌≤◌, ◌<◌, ◌+◌, ◌++◌, ◌∷◌, ◌^◌, IfOk, IfSome, OnOk, Ok, length, true};
-ghost use Rattle.std.specs.List.{list_all, position};
+ghost use Rattle.std.specs.List.{list_all};
 ghost use Rattle.std.specs.Char.{is_ascii_digit};
 ghost use Rattle.hex.specs.Hex.{decode_of};
 ghost use Rattle.sha2.specs.Sha256.{sha256};
 ghost use Rattle.esc_zone.specs.Signers.{IsNumber, IsGivenDs, IsKeyDs, digest_length};
 ghost use Rattle.esc_zone.specs.Signers.{key_data, key_tag, tag_sum};
-ghost use Rattle.esc_zone.specs.Names.{is_dot};
 
 use crate::field::cell;
 use crate::name::Name;
@@ -184,20 +183,11 @@ pub(crate) fn given_ds<'a>(
 // A name on the wire (RFC 1035, section 3.1).
 fn wire_name(alloc: Global, name: &Name) -> Result<Vec<u8>, NoMemory> {
     let mut wire = Vec::new(alloc);
-    let mut rest = name.as_bytes();
-    while let Some(at) = dot_in(rest) {
-        push_label(&mut wire, &rest[..at])?;
-        rest = &rest[at + 1..];
+    for label in name.text().split('.') {
+        push_label(&mut wire, label.as_bytes())?;
     }
-    push_label(&mut wire, rest)?;
     wire.push(0)?;
     Ok(wire)
-}
-
-fn dot_in(bytes: &[u8]) -> Option<usize>
-    ensures { result ≡ position is_dot bytes.now }
-{
-    bytes.iter().position(|byte| *byte == b'.')
 }
 
 // Adds a label of 255 bytes at most: its length and its bytes.

@@ -1,8 +1,8 @@
 use Rattle.esc_zone.proofs.Lines.{no_lines, then_lines}
 use Rattle.esc_zone.proofs.draft.Draft.write_domains.Goals as goal
 
-pub loop-key-init : goal.loop-key-init
-loop-key-init g c = no_lines _
+pub loop-sheet-init : goal.loop-sheet-init
+loop-sheet-init g c = no_lines _
 
-pub loop-key-preserved : goal.loop-key-preserved
-loop-key-preserved g c = then_lines _ _ _ c.loop-key.invariant c.in_ok-send.ensures
+pub loop-sheet-preserved : goal.loop-sheet-preserved
+loop-sheet-preserved g c = then_lines _ _ _ c.loop-sheet.invariant c.in_ok-send.ensures
