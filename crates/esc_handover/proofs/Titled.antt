@@ -10,6 +10,7 @@ or_other other None = other
 or_other other (Some x) = x
 
 some_is : (x y : List ℕ) → Some x ≡ Some y → x ≡ y
+unfolding or_other
 some_is x y is = ap (or_other x) is
 
 -- what a body is made into has the title

@@ -65,13 +65,13 @@ pub fn page_of(
         .element(Tag::Header, &[], head)
         .element(Tag::Main, &[], sections)
         .element(Tag::Footer, &[], foot);
-    titled(body, title.as_str())
+    titled(body, title.as_str(), STYLE)
 }
 
-// The page with this title and this body.
-fn titled(body: Html, title: &str) -> Result<Vec<u8>, NoMemory>
+// The page with this title, style and body.
+fn titled(body: Html, title: &str, style: &str) -> Result<Vec<u8>, NoMemory>
     ensures markup { IfOk result (λ page. IsHtmlPage page.items) }
     ensures title { IfOk result (λ page. HasTitle title.now page.items) }
 {
-    body.into_page(title, STYLE)
+    body.into_page(title, style)
 }
