@@ -60,7 +60,7 @@ def check_made(stage: Stage, records: list[str], told: list[str], origin: str = 
     names, before = {*names_in(stage.room.name), 'a.db-wal', out}, read(stage.at('a.db'))
     got = stage.end(stage.begin(line.replace('example', origin).split(), 'handover'))
     *lines, last = got.err.decode().splitlines() or ['']
-    compare_all('standard error', sorted(told), sorted(lines))
+    compare_all('standard error', told, lines)
     compare('the last line of it', unsigned_line(origin), last)
     compare('status', '0', f'{got.status}')
     compare_all('the zone', records, read(stage.at(out)).decode().split('\n')[:-1])

@@ -151,14 +151,14 @@ WORKED = (
            zone=f'a-b NS {OUT1}\na NS {OUT1}\na1 NS {OUT1}\nb NS {OUT1}'),
     worked('a domain that is not below the TLD, or is the TLD',
            domain('other.org.', OUT1), domain('example.', OUT1), domain('badexample.', OUT1),
-           told="""left out badexample: not below example
-           left out example: it is the zone itself
-           left out other.org: not below example"""),
+           told="""left out badexample not below example
+           left out example it is the zone itself
+           left out other.org not below example"""),
     worked('a domain below another one that is delegated', domain('x.a', OUT1), domain('a', OUT1),
            domain('y.x.a', OUT1), domain('third.level', OUT1),
            zone=f'a NS {OUT1}\nthird.level NS {OUT1}',
-           told="""left out x.a.example: below a.example, which is delegated
-           left out y.x.a.example: below a.example, which is delegated"""),
+           told="""left out x.a.example below a.example, which is delegated
+           left out y.x.a.example below a.example, which is delegated"""),
     worked('a domain below another one that is held', HELD, domain('x.held', OUT1),
            zone=f'x.held NS {OUT1}'),
     worked('labels that are none of a host name',
@@ -167,31 +167,31 @@ WORKED = (
            domain('a"b', OUT1), domain(f'{LONG}l', OUT1), domain(LONG, OUT1),
            domain('bücher', OUT1), domain('xn--bcher-kva', OUT1),
            zone=f'{LONG} NS {OUT1}\nxn--bcher-kva NS {OUT1}',
-           told=f"""left out $ttl.example: no label of letters, digits and hyphens: $ttl
-           left out *.example: a wildcard
-           left out -a.example: no label of letters, digits and hyphens: -a
-           left out @.example: no label of letters, digits and hyphens: @
-           left out _srv.example: no label of letters, digits and hyphens: _srv
-           left out a"b.example: no label of letters, digits and hyphens: a"b
-           left out a-.example: no label of letters, digits and hyphens: a-
-           left out a..b.example: an empty label
-           left out a;b.example: no label of letters, digits and hyphens: a;b
-           left out bücher.example: not ASCII: a U-label?
-           left out {LONG}l.example: a label over 63 bytes"""),
+           told=f"""left out $ttl.example no label of letters, digits and hyphens: $ttl
+           left out *.example a wildcard
+           left out -a.example no label of letters, digits and hyphens: -a
+           left out @.example no label of letters, digits and hyphens: @
+           left out _srv.example no label of letters, digits and hyphens: _srv
+           left out a"b.example no label of letters, digits and hyphens: a"b
+           left out a-.example no label of letters, digits and hyphens: a-
+           left out a..b.example an empty label
+           left out a;b.example no label of letters, digits and hyphens: a;b
+           left out bücher.example not ASCII: a U-label?
+           left out {LONG}l.example a label over 63 bytes"""),
     worked('the longest name, and one that is longer',
            domain('.'.join([LONG, LONG, LONG, 'l' * 53]), OUT1),
            domain('.'.join([LONG, LONG, LONG, 'l' * 54]), OUT1),
            zone=f'{LONG}.{LONG}.{LONG}.{"l" * 53} NS {OUT1}',
-           told=f'left out {LONG}.{LONG}.{LONG}.{"l" * 54}.example: over 255 bytes on the wire'),
+           told=f'left out {LONG}.{LONG}.{LONG}.{"l" * 54}.example over 255 bytes on the wire'),
     worked('servers whose names are none', domain('b', '*.b.net'),
            domain('a', 'ns-.b.net', '192.0.2.1', 'bücher.net', OUT1), zone=f'a NS {OUT1}',
            told="""server a.example 192.0.2.1: left out: it is an address
            server a.example bücher.net: left out: not ASCII: a U-label?
            server a.example ns-.b.net: left out: no label of letters, digits and hyphens: ns-
            server b.example *.b.net: left out: a wildcard
-           left out b.example: no server is left"""),
+           left out b.example no server is left"""),
     worked('a name with a line end in it', domain('a\nb', OUT1),
-           told='left out a\\nb.example: no label of letters, digits and hyphens: a\\nb'),
+           told='left out a\\nb.example no label of letters, digits and hyphens: a\\nb'),
     # ---- statuses
     worked('held domains', HELD, domain('a', OUT1, status='ok clientHold'),
            domain('b', OUT1, status='inactive serverHold'),
@@ -205,7 +205,7 @@ WORKED = (
            domain('g', status='ok'), domain('h', OUT1, status='inactive'),
            domain('i', OUT1, status='ok', rgp='addPeriod'),
            domain('j', OUT1, status='ok', exDate='2020-01-01T00:00:00Z'),
-           zone=f'i NS {OUT1}\nj NS {OUT1}', told='left out h.example: inactive, and has servers'),
+           zone=f'i NS {OUT1}\nj NS {OUT1}', told='left out h.example inactive, and has servers'),
     worked('a grace period that its status does not go with',
            domain('a', OUT1, status='ok', rgp='redemptionPeriod'),
            domain('b', OUT1, status='clientHold', rgp='pendingRestore'),
@@ -214,15 +214,15 @@ WORKED = (
            domain('a', OUT1, status='clienthold'), domain('b', OUT1, status='ok strange'),
            domain('c', OUT1, status='pendingdelete', rgp='RedemptionPeriod'),
            zone=f'b NS {OUT1}',
-           told="""status a.example status clienthold: taken for clientHold
-           status b.example status strange: is not known
-           status c.example status pendingdelete: taken for pendingDelete
-           status c.example rgpStatus RedemptionPeriod: taken for redemptionPeriod"""),
+           told="""status a.example status clienthold taken for clientHold
+           status b.example status strange is not known
+           status c.example status pendingdelete taken for pendingDelete
+           status c.example rgpStatus RedemptionPeriod taken for redemptionPeriod"""),
     worked('a variant without servers', domain('a', OUT1),
            domain('b', originalName='a.example', status='inactive'),
            domain('c', OUT1, originalName='a.example'),
            zone=f'a NS {OUT1}\nc NS {OUT1}',
-           told='left out b.example: a variant of a.example without servers of its own'),
+           told='left out b.example a variant of a.example without servers of its own'),
     # ---- servers in the zone, and glue
     worked('the addresses of servers in the zone, and of no others',
            domain('a', 'ns1.a.example', OUT1), domain('b', 'ns1.a.example'),
@@ -238,7 +238,7 @@ WORKED = (
            zone=f'a NS {OUT1}\nc NS {OUT1}',
            told="""server a.example ns1.a.example: left out: in the zone, and has no address
            server b.example ns1.b.example: left out: in the zone, and has no address
-           left out b.example: no server is left
+           left out b.example no server is left
            server c.example ns1.none.example: left out: in the zone, and has no address"""),
     worked('a server below another domain is left to that, where it is delegated',
            domain('a', OUT1), domain('b', 'ns1.a.example'),
@@ -249,7 +249,7 @@ WORKED = (
     worked('the addresses of a server below a held domain', HELD, HELD_HOST,
            domain('a', 'ns1.held.example'),
            zone='a NS ns1.held.example\nns1.held A 192.0.2.7',
-           told='glue ns1.held.example: below no delegation; a.example uses it'),
+           told='glue ns1.held.example below no delegation; a.example uses it'),
     worked('the addresses of a server of held domains alone are left out', HELD, HELD_HOST),
     worked('the addresses of a server that is no object are those of its own domain',
            domain('a', more=attribute('ns1.a.example', '192.0.2.1', '2001:db8::1')),
@@ -257,9 +257,9 @@ WORKED = (
            domain('c', more=attribute('ns1.c.example') + attribute(OUT1)),
            zone=f"""a NS ns1.a.example\nb NS ns1.a.example\nb NS {OUT1}\nc NS {OUT1}
            ns1.a A 192.0.2.1\nns1.a AAAA 2001:db8::1""",
-           told="""server c.example ns1.c.example: left out: in the zone, and has no address
+           told="""
            address ns1.a.example 192.0.2.6: b.example says it, which is not the domain that it is in
-           """),
+           server c.example ns1.c.example: left out: in the zone, and has no address"""),
     worked('the addresses of an object are its own', host('ns1.a', '192.0.2.1'),
            domain('a', more=attribute('ns1.a.example', '192.0.2.66')),
            zone='a NS ns1.a.example\nns1.a A 192.0.2.1'),
@@ -267,9 +267,9 @@ WORKED = (
            domain('a', more=attribute('n.b.a.example', '192.0.2.6') + attribute(OUT1)),
            domain('b.a', more=attribute('n.b.a.example', '192.0.2.1')),
            zone=f'a NS n.b.a.example\na NS {OUT1}\nn.b.a A 192.0.2.1',
-           told="""left out b.a.example: below a.example, which is delegated
+           told="""
            address n.b.a.example 192.0.2.6: a.example says it, which is not the domain that it is in
-           """),
+           left out b.a.example below a.example, which is delegated"""),
     worked('texts that are no addresses of servers', domain('a', 'ns1.a.example'),
            host('ns1.a', '192.000.002.001', '127.0.0.1', '0.0.0.0', '169.254.0.1', '224.0.0.1',
                 '::', '::1', 'fe80::1', 'fe80::1%eth0', 'ff02::1', '::ffff:192.0.2.1', '192.0.2',
@@ -309,16 +309,16 @@ WORKED = (
                   + ds(f'65536 13 2 {DIGEST}') + ds(f'5 13 2 {"x" * 64}')
                   + ds(f'5 256 2 {DIGEST}')),
            zone=f'a NS {OUT1}',
-           told=f"""DS a.example: left out: no digest of 32 bytes: 0011
-           DS a.example: left out: algorithm 0, digest type 2
-           DS a.example: left out: algorithm 13, digest type 3
-           DS a.example: left out: no number up to 65535: keyTag 65536
-           DS a.example: left out: no digest of 32 bytes: {"x" * 64}
-           DS a.example: left out: no number up to 255: dsAlg 256"""),
+           told=f"""DS a.example left out: no digest of 32 bytes: 0011
+           DS a.example left out: algorithm 0, digest type 2
+           DS a.example left out: algorithm 13, digest type 3
+           DS a.example left out: no number up to 65535: 65536
+           DS a.example left out: no digest of 32 bytes: {"x" * 64}
+           DS a.example left out: no number up to 255: 256"""),
     worked('DS stand where NS do', domain('a', OUT1, status='clientHold', more=ds(RFC_DS)),
            domain('b', more=ds(RFC_DS)), domain('c', 'ns1.c.example', more=ds(RFC_DS)),
            told="""server c.example ns1.c.example: left out: in the zone, and has no address
-           left out c.example: no server is left"""),
+           left out c.example no server is left"""),
     alone('the DS of a key is computed', domain('dskey.example.com.', OUT1, more=key()),
           zone=f'dskey NS {OUT1}\ndskey DS {RFC_DS_256}', origin='example.com',
           apex=SOA.replace('example.', 'example.com.', 1) + f'example.com. 60 IN NS {OUT1}.\n'),
@@ -329,12 +329,12 @@ WORKED = (
            domain('a', OUT1, more=key(flags='0') + key(flags='384') + key(protocol='2')
                   + key(keyAlg='0') + key(pubKey='%') + key(flags='x')),
            zone=f'a NS {OUT1}',
-           told="""DS a.example: left out: no zone key, or a revoked one: flags 0
-           DS a.example: left out: no zone key, or a revoked one: flags 384
-           DS a.example: left out: no key of DNSSEC: protocol 2, algorithm 5
-           DS a.example: left out: no key of DNSSEC: protocol 3, algorithm 0
-           DS a.example: left out: a public key that is no base64
-           DS a.example: left out: no number up to 65535: flags x"""),
+           told="""DS a.example left out: no zone key, or a revoked one: flags 0
+           DS a.example left out: no zone key, or a revoked one: flags 384
+           DS a.example left out: no key of DNSSEC: protocol 2, algorithm 5
+           DS a.example left out: no key of DNSSEC: protocol 3, algorithm 0
+           DS a.example left out: a public key that is no base64
+           DS a.example left out: no number up to 65535: x"""),
     # ---- names that are no domains
     worked('mirrored names have the servers of their original, and no DS',
            domain('a', OUT1, 'ns1.a.example', more=ds(RFC_DS)), host('ns1.a', '192.0.2.1'),
@@ -349,21 +349,21 @@ WORKED = (
            mirrored('h', 'a.example', nameState='blocked'),
            mirrored('i', 'a.example', nameState='withheld'),
            zone=f'a NS {OUT1}',
-           told="""left out _f.example: no label of letters, digits and hyphens: _f
-           left out a.example: it is a domain too
-           left out b.example: mirrored in another way than by name servers: mirroringNS is false
-           left out c.example: mirrored without originalName
-           left out d.example: its original none.example is no domain
-           left out g.org: not below example
-           left out x.a.example: below a.example, which is delegated"""),
+           told="""left out _f.example no label of letters, digits and hyphens: _f
+           left out a.example it is a domain too
+           left out b.example mirrored in another way than by name servers: mirroringNS is false
+           left out c.example mirrored without originalName
+           left out d.example its original none.example is no domain
+           left out g.org not below example
+           left out x.a.example below a.example, which is delegated"""),
     # ---- the operator's file
     worked("the operator's records stand first, as they are", domain('a', OUT1),
            zone=f'a NS {OUT1}',
-           apex=f'; own\n\n{SOA}{NS}example. 300 IN TXT one\nwww.example. 60 IN A 192.0.2.80\n'),
+           apex=f'; own\n\n{SOA}{NS}example. 300 IN TXT "one two"\nw.example. 60 IN A 192.0.2.8\n'),
     worked("the operator's servers in the zone have the file's addresses, or the host's",
            host('a.nic', '192.0.2.1'), host('b.nic', '192.0.2.2'), domain('nic', 'a.nic.example'),
            zone='nic NS a.nic.example\nb.nic A 192.0.2.2',
-           told="address a.nic.example: the operator's file has others, which are taken",
+           told="address a.nic.example the operator's file has others, which are taken",
            apex=f"""{SOA}{NS}example. 3600 IN NS a.nic.example.
 example. 3600 IN NS b.nic.example.
 a.nic.example. 3600 IN A 192.0.2.53
@@ -373,46 +373,48 @@ a.nic.example. 3600 IN A 192.0.2.53
            zone='a NS ns1.a.example\nns1.a A 192.0.2.1', flags='--day'),
     worked('servers with underscores', domain('a', 'ns_1.b.net', '_a.b-_.net', '-a.net'),
            domain('_b', OUT1), zone='a NS _a.b-_.net\na NS ns_1.b.net', flags='--underscores',
-           told="""left out _b.example: no label of letters, digits and hyphens: _b
+           told="""left out _b.example no label of letters, digits and hyphens: _b
            server a.example -a.net: left out: no label of letters, digits and hyphens: -a"""),
     worked('no addresses below no delegation', HELD, HELD_HOST,
            domain('a', 'ns1.held.example', OUT1), domain('b', 'ns1.held.example'),
            zone=f'a NS {OUT1}', flags='--no-orphan-glue',
            told="""server a.example ns1.held.example: left out: in the zone, and has no address
            server b.example ns1.held.example: left out: in the zone, and has no address
-           left out b.example: no server is left"""),
+           left out b.example no server is left"""),
     # ---- refusals
     worked('an origin that is none', origin='e_x',
            refusal='Z1 e_x: no label of letters, digits and hyphens: e_x'),
     worked('an origin in other letters', origin='Example',
            refusal='Z1 Example: not in small letters, or with a dot at its end'),
     worked('no record', apex=f'{SOA}{NS}example. 3600 NS x.\n',
-           refusal='Z3 line 3: not NAME. TTL IN TYPE DATA on one line'),
-    worked('no TTL', apex=f'{SOA}{NS}example. 1h IN TXT x\n', refusal='Z3 line 3: no TTL'),
+           refusal='Z3 apex line 3: not NAME. TTL IN TYPE DATA on one line'),
+    worked('no TTL', apex=f'{SOA}{NS}example. 1h IN TXT x\n', refusal='Z3 apex line 3: no TTL: 1h'),
     worked('a name of another zone', apex=f'{SOA}{NS}\nother. 60 IN TXT x\n',
-           refusal='Z3 line 4: not in example'),
+           refusal='Z3 apex line 4: not in example'),
     worked('a wildcard', apex=f'{SOA}{NS}*.example. 60 IN TXT x\n',
-           refusal='Z3 line 3: a wildcard'),
+           refusal='Z3 apex line 3: a wildcard'),
     worked('a record of the signer', apex=f'{SOA}{NS}example. 60 IN DNSKEY 257 3 13 AwEA\n',
-           refusal='Z3 line 3: DNSKEY: it is for the signer'),
+           refusal='Z3 apex line 3: DNSKEY: it is for the signer'),
     worked('a type in small letters', apex=f'{SOA}{NS}example. 60 IN txt x\n',
-           refusal='Z3 line 3: a type in small letters, parentheses, quotes or a backslash'),
+           refusal='Z3 apex line 3: a type in small letters, parentheses or a backslash'),
+    worked('a file in other letters than ASCII', apex=f'{SOA}{NS}example. 60 IN TXT é\n',
+           refusal='Z3 apex: not ASCII'),
     worked('a server without a dot', apex=f'{SOA}{NS}example. 60 IN NS a\n',
-           refusal='Z3 line 3: a name without a dot at its end'),
+           refusal='Z3 apex line 3: a name without a dot at its end'),
     worked('an SOA with a serial', apex=SOA.replace('SERIAL', '7') + NS,
-           refusal='Z3 line 1: no SOA with SERIAL in the place of its serial'),
+           refusal='Z3 apex line 1: no SOA with SERIAL in the place of its serial'),
     worked('an address that is none', apex=f'{SOA}{NS}www.example. 60 IN A 192.0.2\n',
-           refusal='Z3 line 3: no address'),
+           refusal='Z3 apex line 3: no address: 192.0.2'),
     worked('an SOA that is not first', apex=NS + SOA,
-           refusal='Z3 line 2: no SOA with SERIAL in the place of its serial'),
+           refusal='Z3 apex line 2: no SOA with SERIAL in the place of its serial'),
     worked('two SOA', apex=SOA + SOA + NS,
-           refusal='Z3 line 2: no SOA with SERIAL in the place of its serial'),
+           refusal='Z3 apex line 2: no SOA with SERIAL in the place of its serial'),
     worked('no SOA', apex=NS,
-           refusal='Z3 no zone begins so: one SOA, first; NS; no CNAME or DNAME at example'),
+           refusal='Z3 apex: no zone begins so: one SOA, first; NS; no CNAME or DNAME at example'),
     worked('no NS', apex=SOA,
-           refusal='Z3 no zone begins so: one SOA, first; NS; no CNAME or DNAME at example'),
+           refusal='Z3 apex: no zone begins so: one SOA, first; NS; no CNAME or DNAME at example'),
     worked('a DNAME at the apex', apex=f'{SOA}{NS}example. 60 IN DNAME other.\n',
-           refusal='Z3 no zone begins so: one SOA, first; NS; no CNAME or DNAME at example'),
+           refusal='Z3 apex: no zone begins so: one SOA, first; NS; no CNAME or DNAME at example'),
     worked('an own server without an address', apex=f'{SOA}example. 60 IN NS a.nic.example.\n',
            refusal="Z3 the zone's own server a.nic.example has no address"),
     worked('a table under another name', [*domain('a', OUT1), ('dnssec', dict(ds(RFC_DS)[0][1]))],
@@ -420,6 +422,11 @@ a.nic.example. 3600 IN A 192.0.2.53
     worked('a field under another name', domain('a', OUT1, more=(('secDNS', {
         'fKeyTag': '1', 'dsAlg': '13', 'digestType': '2', 'digest': DIGEST}),)),
            refusal='Z4 secDNS fKeyTag looks like keyTag'),
+    worked('a DS of which a part is missing',
+           domain('a', OUT1, more=(('secDNS', {'keyTag': '1', 'dsAlg': '8', 'digest': 'AB'}),)),
+           refusal='Z4 secDNS lacks digestType'),
+    worked('neither DS nor keys', domain('a', OUT1, more=(('secDNS', {'maxSigLife': '1'}),)),
+           refusal='Z4 secDNS lacks keyTag and pubKey'),
     worked('a field that is missing', [*host('ns1.a'), ('hostAddresses', {'address': '192.0.2.1'})],
            refusal='Z4 hostAddresses lacks addr'),
     worked('two hosts with one name', domain('a', 'ns1.a.example'), host('ns1.a', '192.0.2.1'),

@@ -124,7 +124,7 @@ def fault_of(name: str, underscores: bool = False) -> str | None:
 def number(row: dict[str, str], field: str, most: int) -> int:
     text = row.get(field, '')
     if not re.fullmatch('[0-9]{1,10}', text) or int(text) > most:
-        raise ValueError(f'no number up to {most}: {field} {text}')
+        raise ValueError(f'no number up to {most}: {text}')
     return int(text)
 
 
@@ -235,9 +235,10 @@ def check_fields(tables: dict[str, Table]) -> None:
                 raise Refused(f'Z4 {table} lacks {it}')
     secured = tables.get('secDNS')
     if secured and secured.rows:
-        groups = [[it in secured.fields for it in group] for group in (DS_FIELDS, KEY_FIELDS)]
-        if not any(map(all, groups)) or any(any(it) and not all(it) for it in groups):
-            raise Refused('Z4 secDNS has neither all fields of DS nor all of keys')
+        groups = [it for it in (DS_FIELDS, KEY_FIELDS) if {*it} & {*secured.fields}]
+        missing = [it for group in groups for it in group if it not in secured.fields]
+        if missing or not groups:
+            raise Refused(f'Z4 secDNS lacks {missing[0] if missing else "keyTag and pubKey"}')
 
 
 def check_once(kind: str, name: str, rows: list[dict[str, str]]) -> None:
@@ -280,21 +281,23 @@ class Registry:
 class Operator:
     """The operator's own records: SOA, NS and others, one a line, as `NAME. TTL IN TYPE DATA`."""
 
-    def __init__(self, text: str, origin: str, serial: int) -> None:
+    def __init__(self, path: str, text: str, origin: str, serial: int) -> None:
         self.origin, self.serial = origin, serial
         self.records: list[str] = []
         self.types: dict[str, Counter[str]] = {}
         self.addresses: dict[str, set[Address]] = {}
         self.servers: list[str] = []
+        if not text.isascii():
+            raise Refused(f'Z3 {path}: not ASCII')
         for at, line in enumerate(text.split('\n'), 1):
             if line.strip() and not line.startswith(';'):
                 try:
                     self.take(line.split())
                 except ValueError as error:
-                    raise Refused(f'Z3 line {at}: {error}') from None
+                    raise Refused(f'Z3 {path} line {at}: {error}') from None
         top = self.types.get(origin, Counter())
         if not top['SOA'] or not top['NS'] or top['CNAME'] + top['DNAME']:
-            raise Refused('Z3 no zone begins so: one SOA, first; NS; no CNAME or DNAME at '
+            raise Refused(f'Z3 {path}: no zone begins so: one SOA, first; NS; no CNAME or DNAME at '
                           f'{origin}')
 
     def take(self, words: list[str]) -> None:
@@ -314,14 +317,14 @@ class Operator:
     def check(self, ttl: str, name: str, kind: str, data: list[str]) -> None:
         """What is wrong with a record: the first of these."""
         if not re.fullmatch('[0-9]{1,10}', ttl) or int(ttl) >= 1 << 31:
-            raise ValueError('no TTL')
+            raise ValueError(f'no TTL: {ttl}')
         # (The operator's own names may have labels such as `_dmarc`.)
         if fault := fault_of(name, underscores=True):
             raise ValueError(fault)
         if not is_below(name, self.origin):
             raise ValueError(f'not in {self.origin}')
-        if not re.fullmatch('[A-Z][A-Z0-9]*', kind) or re.search(r'[()"\\]', ' '.join(data)):
-            raise ValueError('a type in small letters, parentheses, quotes or a backslash')
+        if not re.fullmatch('[A-Z][A-Z0-9]*', kind) or re.search(r'[()\\]', ' '.join(data)):
+            raise ValueError('a type in small letters, parentheses or a backslash')
         if kind in SIGNERS_TYPES:
             raise ValueError(f'{kind}: it is for the signer')
         if kind in ('NS', 'CNAME', 'DNAME', 'MX') and not data[-1].endswith('.'):
@@ -330,8 +333,8 @@ class Operator:
         is_soa = is_first and len(data) == 7 and data[2] == 'SERIAL'
         if kind == 'SOA' and not (is_soa and data[0].endswith('.') and data[1].endswith('.')):
             raise ValueError('no SOA with SERIAL in the place of its serial')
-        if kind in ('A', 'AAAA') and not is_address(data, 4 if kind == 'A' else 6):
-            raise ValueError('no address')
+        if kind in ('A', 'AAAA') and not is_address(data[0], 4 if kind == 'A' else 6):
+            raise ValueError(f'no address: {data[0]}')
 
     def check_cut(self, name: str) -> None:
         """Z6: the file has a delegation at or above this one, or more than addresses below it."""
@@ -344,9 +347,9 @@ class Operator:
                     raise Refused(f"Z6 {name}: the operator's file has {other} at {its}")
 
 
-def is_address(words: list[str], version: int) -> bool:
+def is_address(text: str, version: int) -> bool:
     try:
-        return len(words) == 1 and ipaddress.ip_address(words[0]).version == version
+        return ipaddress.ip_address(text).version == version
     except ValueError:
         return False
 
@@ -375,7 +378,7 @@ class Zone:
                  settings: Settings = Settings()) -> None:
         check_origin(origin, serial)
         self.origin, self.settings = origin, settings
-        self.operator = Operator(text, origin, serial)
+        self.operator = Operator('apex', text, origin, serial)
         self.registry = Registry(tables)
         self.told: list[str] = []
         self.counts = Counter({it: 0 for it in COUNTED})
@@ -444,17 +447,6 @@ class Zone:
             return self.registry.rows('hostAddresses', host)
         rows = self.registry.rows('domainHostAttr', self.domain_of(host) or '')
         return [it for it in rows if name_of(it.get('hostName', '')) == host and it.get('addr')]
-
-    @cached_property
-    def said_elsewhere(self) -> dict[str, list[tuple[str, str]]]:
-        """The addresses of hosts that other domains say: each domain and text."""
-        found: dict[str, list[tuple[str, str]]] = {}
-        for name, rows in sorted(self.registry.children['domainHostAttr'].items()):
-            for row in rows:
-                host = name_of(row.get('hostName', ''))
-                if 'addr' in row and self.domain_of(host) != name:
-                    found.setdefault(host, []).append((name, row['addr']))
-        return found
 
     @cache
     def addresses(self, host: str) -> list[Address]:
@@ -537,14 +529,14 @@ class Zone:
                     found.add(ds_of_key(name, row))
                     self.counts['DS made of keys'] += 1
             except ValueError as error:
-                self.tell(f'DS {name}: left out: {error}')
+                self.tell(f'DS {name} left out: {error}')
         return sorted(found)
 
     def tell_statuses(self, name: str) -> None:
         for field, text, meant in self.meanings(name):
             if text != meant:
                 said = f'taken for {meant}' if meant else 'is not known'
-                self.tell(f'status {name} {field} {text}: {said}')
+                self.tell(f'status {name} {field} {text} {said}')
         out = {'pendingDelete', 'pendingRestore', 'redemptionPeriod'}
         odd = sorted({it for field, _, it in self.meanings(name) if field == 'rgpStatus'} & out)
         is_pending = ('status', 'pendingDelete') in [(it[0], it[2]) for it in self.meanings(name)]
@@ -558,22 +550,30 @@ class Zone:
         original = self.registry.domains[name].get('originalName')
         kept = kept or (None if servers else 'without servers')
         if kept == 'inactive' and servers:
-            self.tell(f'left out {name}: inactive, and has servers')
+            self.tell(f'left out {name} inactive, and has servers')
         if kept in ('inactive', 'without servers') and original and not servers:
-            self.tell(f'left out {name}: a variant of {name_of(original)} without servers of its '
-                      'own')
+            self.tell(f'left out {name} a variant of {original} without servers of its own')
         if kept is None and (fault := self.fault(name)):
             kept = 'no name of the zone'
-            self.tell(f'left out {name}: {fault}')
+            self.tell(f'left out {name} {fault}')
         if kept is None:
             servers = [it for it in servers if self.is_usable(name, it)]
             if not servers:
                 kept = 'no server left'
-                self.tell(f'left out {name}: no server is left')
-        self.counts[kept or 'delegated'] += 1
+                self.tell(f'left out {name} no server is left')
         if kept is None:
             self.operator.check_cut(name)
             self.delegations[name], self.secured[name] = servers, self.secure(name)
+        self.counts[kept or 'delegated'] += 1
+        self.tell_foreign(name)
+
+    def tell_foreign(self, name: str) -> None:
+        """Tells of addresses that a domain says of servers in another one."""
+        for row in self.registry.rows('domainHostAttr', name):
+            host = name_of(row.get('hostName', ''))
+            if 'addr' in row and host in self.noted and self.domain_of(host) != name:
+                self.tell(f'address {host} {row["addr"]}: {name} says it, which is not the domain '
+                          'that it is in')
 
     def mirror(self, name: str) -> None:
         """Takes a name that is mirrored: it has the servers of its original."""
@@ -592,7 +592,7 @@ class Zone:
         else:
             fault = self.fault(name)
         if fault:
-            self.tell(f'left out {name}: {fault}')
+            self.tell(f'left out {name} {fault}')
         elif original in self.delegations:
             self.counts['mirrored and delegated'] += 1
             self.operator.check_cut(name)
@@ -611,9 +611,6 @@ class Zone:
                 if version != (declared or 'v4'):
                     self.tell(f'address {host} {text}: is {version}, declared '
                               f'{declared or "v4 (none)"}')
-        for name, text in self.said_elsewhere.get(host, ()):
-            self.tell(f'address {host} {text}: {name} says it, which is not the domain that it is '
-                      'in')
 
     def glue_of(self, host: str) -> list[Address]:
         """Takes a server in the zone: the addresses that are written, if it is in use."""
@@ -623,10 +620,10 @@ class Zone:
         addresses, own = self.addresses(host), self.operator.addresses.get(host)
         if own is not None:
             if host in self.registry.hosts and set(addresses) != own:
-                self.tell(f"address {host}: the operator's file has others, which are taken")
+                self.tell(f"address {host} the operator's file has others, which are taken")
             return []
         if addresses and self.cut(host) is None:
-            self.tell(f'glue {host}: below no delegation; {self.used[host]} uses it')
+            self.tell(f'glue {host} below no delegation; {self.used[host]} uses it')
             self.counts['orphan glue hosts'] += 1
         self.counts['addresses'] += len(addresses)
         return addresses
@@ -676,6 +673,6 @@ def check_origin(origin: str, serial: int) -> None:
 
 def unsigned_line(origin: str) -> str:
     """What is told last of each zone, which has no signatures (RFC 4035 4.3)."""
-    return (f'unsigned {origin}: while the root has its old DS, validating resolvers take no zone '
-            'that is not signed by that key: have the DS replaced or removed, and wait its TTL, '
-            'before the NS change')
+    return (f'unsigned {origin} while the root has its old DS, validating resolvers refuse this '
+            'zone, also newly signed: have the DS replaced or removed, and wait its TTL, before '
+            'the NS change')
