@@ -233,7 +233,7 @@ def test_hostile_texts(stage):
     text = check_page(stage, Release(manifest([(F1, body)]), numbered([body])))
     if b'<script' in text or b'<img' in text or has_controls(text, 2):
         raise Failed('a text of a deposit stands in the page as it is')
-    if has_controls(run(stage, 'check --store a.db', 'handover', (1,)), 11):
+    if has_controls(run(stage, 'check --store a.db', 'handover', (1,)), 18):
         raise Failed('a text of a deposit stands in the lines of check as it is')
 
 
