@@ -1,5 +1,7 @@
 -- The tables of one more deposit.
-use Rattle.std.proofs.Common.{◌≡◌, ℕ, ◌+◌, ◌<◌, Bool, true, false, cond, ◌||◌, List, [], ◌∷◌, ◌++◌, reverse, take, get_or, length, Option, None, Some, refl, sym, ap, ◌∙◌, is_some}
+use Rattle.std.proofs.Common.{◌≡◌, ℕ, ◌+◌, ◌<◌, Bool, true, false, cond, ◌||◌, List, []}
+use Rattle.std.proofs.Common.{◌∷◌, ◌++◌, reverse, take, get_or, length, Option, None, Some, refl, sym}
+use Rattle.std.proofs.Common.{ap, ◌∙◌, is_some}
 use Rattle.std.specs.List.{list_any, find}
 use Rattle.std.specs.Map.{lookup, keys_of}
 use Rattle.std.specs.Option.{option_or, option_and_then}
@@ -36,7 +38,8 @@ pub contents_over_deletes : (d : DepositValue) (q : KeyName) (before : Option Ob
     ≡ cond (mentions q d) (says q d) before
 contents_over_deletes d q before =
     by_content (lookup (key_eq q) d.contents) (is_some-lookup (key_eq q) d.contents)
-    ∙ ap (λ b. cond b (lookup (key_eq q) d.contents) before) (sym (list_any-append (key_eq q) (deletes_of d) (keys_of d.contents)))
+    ∙ ap (λ b. cond b (lookup (key_eq q) d.contents) before)
+    (sym (list_any-append (key_eq q) (deletes_of d) (keys_of d.contents)))
   where
     by_content : (o : Option ObjectValue) → is_some o ≡ list_any (key_eq q) (keys_of d.contents)
         → option_or o (cond (list_any (key_eq q) (deletes_of d)) None before)
@@ -62,7 +65,8 @@ one_removed_more keys i key old mid new lt is before removed q =
     ∙ both (list_any (key_eq q) (take i keys)) (key_eq key q)
     ∙ ap (λ b. cond b None (lookup (key_eq q) old)) (sym parts)
   where
-    both : (a b : Bool) → cond b None (cond a None (lookup (key_eq q) old)) ≡ cond (a || b) None (lookup (key_eq q) old)
+    both : (a b : Bool) → cond b None (cond a None (lookup (key_eq q) old))
+        ≡ cond (a || b) None (lookup (key_eq q) old)
     both true true = refl
     both true false = refl
     both false true = refl
@@ -76,22 +80,30 @@ one_removed_more keys i key old mid new lt is before removed q =
     parts =
         ap (list_any (key_eq q)) (take_more keys i key lt)
         ∙ list_any-append (key_eq q) (take i keys) (get_or keys i key ∷ [])
-        ∙ ap (λ b. list_any (key_eq q) (take i keys) || b) (alone (key_eq q (get_or keys i key)) ∙ keys_alike.symm q (get_or keys i key) ∙ ap (λ k. key_eq k q) (sym is))
+        ∙ ap (λ b. list_any (key_eq q) (take i keys) || b) (alone (key_eq q (get_or keys i key))
+        ∙ keys_alike.symm q (get_or keys i key) ∙ ap (λ k. key_eq k q) (sym is))
 
 -- a deposit is applied: its deletes are removed, and its contents put
-pub applied : (ds : List DepositValue) (d : DepositValue) (kind : DepositType) (keys : List KeyName) (contents old : List Entry)
-    (m n : BTreeMap KeyName ObjectValue) → kind ≡ d.header.place.kind → keys ≡ d.deletes → contents ≡ d.contents
-    → AreWithout (deletes_by kind keys) old m.entries → IsStrictlySortedBy key_cmp (keys_of contents) → InsertsAll key_cmp m contents n
+pub applied : (ds : List DepositValue)
+    (d : DepositValue) (kind : DepositType) (keys : List KeyName) (contents old : List Entry)
+    (m n : BTreeMap KeyName ObjectValue)
+    → kind ≡ d.header.place.kind → keys ≡ d.deletes → contents ≡ d.contents
+    → AreWithout (deletes_by kind keys) old m.entries
+    → IsStrictlySortedBy key_cmp (keys_of contents) → InsertsAll key_cmp m contents n
     → AreTablesOf ds old → AreTablesOf (ds ++ d ∷ []) n.entries
 applied ds d kind keys contents old m n same_kind same_keys same_contents without sorted put had q =
     let before = tables ds q in
     let left : lookup (key_eq q) m.entries ≡ cond (list_any (key_eq q) (deletes_by kind keys)) None before =
     without q ∙ ap (λ (o : Option ObjectValue). cond (list_any (key_eq q) (deletes_by kind keys)) None o) (had q) in
     put.0 q
-    ∙ update_all_distinct keys_alike key_eq (λ x y. refl) (get key_cmp m) contents q (IsDistinct-from_sorted key_cmp (keys_of contents) sorted)
+    ∙ update_all_distinct keys_alike key_eq (λ x y. refl)
+    (get key_cmp m) contents q (IsDistinct-from_sorted key_cmp (keys_of contents) sorted)
     ∙ ap (λ (o : Option ObjectValue). option_or (lookup (key_eq q) contents) o) left
-    ∙ ap (λ (es : List Entry). option_or (lookup (key_eq q) es) (cond (list_any (key_eq q) (deletes_by kind keys)) None before)) same_contents
-    ∙ ap (λ (k : DepositType). option_or (lookup (key_eq q) d.contents) (cond (list_any (key_eq q) (deletes_by k keys)) None before)) same_kind
-    ∙ ap (λ (ks : List KeyName). option_or (lookup (key_eq q) d.contents) (cond (list_any (key_eq q) (deletes_by d.header.place.kind ks)) None before)) same_keys
+    ∙ ap (λ (es : List Entry). option_or (lookup (key_eq q) es)
+    (cond (list_any (key_eq q) (deletes_by kind keys)) None before)) same_contents
+    ∙ ap (λ (k : DepositType). option_or (lookup (key_eq q) d.contents)
+    (cond (list_any (key_eq q) (deletes_by k keys)) None before)) same_kind
+    ∙ ap (λ (ks : List KeyName). option_or (lookup (key_eq q) d.contents)
+    (cond (list_any (key_eq q) (deletes_by d.header.place.kind ks)) None before)) same_keys
     ∙ contents_over_deletes d q before
     ∙ sym (one_deposit_more ds d q)

@@ -1,5 +1,6 @@
 -- One body of a chain more.
-use Rattle.std.proofs.Common.{◌≡◌, ℕ, Bool, true, false, List, [], ◌∷◌, ◌++◌, Option, Some, Ok, refl, sym, ap, subst, ◌∙◌, true≢false}
+use Rattle.std.proofs.Common.{◌≡◌, ℕ, Bool, true, false, List, [], ◌∷◌, ◌++◌, Option, Some, Ok}
+use Rattle.std.proofs.Common.{refl, sym, ap, subst, ◌∙◌, true≢false}
 use Rattle.std.specs.Prelude.{◌&&◌}
 use Rattle.std.specs.List.{list_all, flat_map}
 use Rattle.std.proofs.lemmas.List.Folds.{list_all-append}
@@ -22,26 +23,32 @@ same true = refl
 same false = refl
 
 -- it isn't there, or is no deposit
-pub unread_body : (bodies : List (Option (List ℕ))) (b : Option (List ℕ)) (old new : ChainFacts) → is_one (deposit_in b) ≡ false
+pub unread_body : (bodies : List (Option (List ℕ))) (b : Option (List ℕ)) (old new : ChainFacts)
+    → is_one (deposit_in b) ≡ false
     → new.are_read ≡ false → AreFactsOf bodies old → AreFactsOf (bodies ++ b ∷ []) new
 unread_body bodies b old new none unread had = record {
   read = unread
-      ∙ sym (list_all-append is_read bodies (b ∷ []) ∙ ap (λ x. list_all is_read bodies && (x && true)) none ∙ never (list_all is_read bodies));
+      ∙ sym (list_all-append is_read bodies (b ∷ [])
+      ∙ ap (λ x. list_all is_read bodies && (x && true)) none ∙ never (list_all is_read bodies));
   made = λ is. absurd (true≢false (sym is ∙ unread));
 }
 
 -- it is a deposit
-pub read_body : (bodies : List (Option (List ℕ))) (body : List ℕ) (d : DepositValue) (old new : ChainFacts) → reading body ≡ Ok d
+pub read_body : (bodies : List (Option (List ℕ)))
+    (body : List ℕ) (d : DepositValue) (old new : ChainFacts) → reading body ≡ Ok d
     → new.are_read ≡ old.are_read
-    → ((c : List DepositValue) → AreTablesOf c old.objects.entries → AreTablesOf (c ++ d ∷ []) new.objects.entries)
+    → ((c : List DepositValue)
+    → AreTablesOf c old.objects.entries → AreTablesOf (c ++ d ∷ []) new.objects.entries)
     → AreFactsOf bodies old → AreFactsOf (bodies ++ Some body ∷ []) new
 read_body bodies body d old new is stays more had =
     let one : deposit_in (Some body) ≡ d ∷ [] = ap read_deposits is in
     record {
       read = stays ∙ had.read
-          ∙ sym (list_all-append is_read bodies (Some body ∷ []) ∙ ap (λ ds. list_all is_read bodies && (is_one ds && true)) one ∙ same (list_all is_read bodies));
+          ∙ sym (list_all-append is_read bodies (Some body ∷ []) ∙ ap (λ ds. list_all
+          is_read bodies && (is_one ds && true)) one ∙ same (list_all is_read bodies));
       made = λ read.
           subst (λ ds. AreTablesOf ds new.objects.entries)
-          (sym (flat_map-append deposit_in (bodies) (Some body ∷ []) ∙ ap (λ ds. flat_map deposit_in bodies ++ (ds ++ [])) one))
+          (sym (flat_map-append deposit_in (bodies) (Some body ∷ [])
+          ∙ ap (λ ds. flat_map deposit_in bodies ++ (ds ++ [])) one))
           (more (flat_map deposit_in bodies) (had.made (sym stays ∙ read)));
     }

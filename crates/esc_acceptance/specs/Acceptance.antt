@@ -1,5 +1,6 @@
 -- What the acceptance of a rebuilt registry asks (this project's profile).
-use Rattle.std.specs.Prelude.{ℕ, ℤ, List, [], ◌∷◌, Bool, true, false, not, ◌&&◌, ◌||◌, ◌==◌, nat_lt}
+use Rattle.std.specs.Prelude.{ℕ, ℤ, List, [], ◌∷◌, Bool, true, false, not, ◌&&◌, ◌||◌, ◌==◌}
+use Rattle.std.specs.Prelude.{nat_lt}
 use Rattle.std.specs.Prelude.{int_lt, Option, Some, None, is_some, length, if◌then◌else◌, codes}
 use Rattle.std.specs.List.{list_all, list_any}
 use Rattle.std.specs.Ordering.{int_eq}
@@ -19,7 +20,8 @@ use Rattle.esc_acceptance.specs.Guides.{guides, is_wanted, is_there, is_disguise
 -- what was seen of a store: how many TLDs the held deposits name; the moment that is set, the
 -- chain's end, whether the chain is the latest one, the line of each listed place; how many bodies
 -- are parked, how many arrivals are early ones without a body, how many findings there are, how many
--- objects name no registrar and how many NNDNs have a domain's name; the objects and the declared numbers by kind, the tables that the chain's deposits declare, what they
+-- objects name no registrar and how many NNDNs have a domain's name; the objects and the declared
+-- numbers by kind, the tables that the chain's deposits declare, what they
 -- make, how many orphans they have, how many held bodies aren't what their rows list, whether those
 -- of the chain are deposits, and whether the tables are what they make; and the notes in them
 pub record SeenValue : Type 0 where

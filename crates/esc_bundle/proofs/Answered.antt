@@ -14,15 +14,19 @@ pub record Answered {X Y : Type 0} (view : X → Y) (result : Result X Fault) (t
   pub value_given : (y : Y) → told ≡ Ok y → MatchResult result (λ x. view x ≡ y) (λ e. e ≡ NoMemory)
   pub fault_told : (n : Refusal) → told ≡ Err n → IsErrAnd result (λ e. (e ≡ Refused n) ⊎ (e ≡ NoMemory))
 
-value_or_no_memory : {Y : Type 0} (told : Result Y Refusal) (y : Y) (e : Fault) → ((n : Refusal) → e ≡ Refused n → told ≡ Err n) → told ≡ Ok y → e ≡ NoMemory
+value_or_no_memory : {Y : Type 0} (told : Result Y Refusal) (y : Y) (e : Fault)
+    → ((n : Refusal) → e ≡ Refused n → told ≡ Err n) → told ≡ Ok y → e ≡ NoMemory
 value_or_no_memory told y (Refused n) refused is = absurd (done_or_fault y n (sym is ∙ refused n refl))
 value_or_no_memory told y NoMemory refused is = refl
 
-fault_or_no_memory : {Y : Type 0} (told : Result Y Refusal) (n : Refusal) (e : Fault) → ((m : Refusal) → e ≡ Refused m → told ≡ Err m) → told ≡ Err n → (e ≡ Refused n) ⊎ (e ≡ NoMemory)
-fault_or_no_memory {Y} told n (Refused m) refused is = let same : ◌≡◌ {A = Result Y Refusal} (Err m) (Err n) = sym (refused m refl) ∙ is in inl (cc)
+fault_or_no_memory : {Y : Type 0} (told : Result Y Refusal) (n : Refusal) (e : Fault) → ((m : Refusal)
+    → e ≡ Refused m → told ≡ Err m) → told ≡ Err n → (e ≡ Refused n) ⊎ (e ≡ NoMemory)
+fault_or_no_memory {Y} told n (Refused m) refused is =
+    let same : ◌≡◌ {A = Result Y Refusal} (Err m) (Err n) = sym (refused m refl) ∙ is in inl (cc)
 fault_or_no_memory told n NoMemory refused is = inr refl
 
-pub answered : {X Y : Type 0} (view : X → Y) (result : Result X Fault) (told : Result Y Refusal) → GivesOrNoMemory view result told → Answered view result told
+pub answered : {X Y : Type 0} (view : X → Y) (result : Result X Fault) (told : Result Y Refusal)
+    → GivesOrNoMemory view result told → Answered view result told
 answered view (Ok x) told is = record {
   given = is;
   refused = tt;

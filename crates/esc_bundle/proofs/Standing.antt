@@ -1,5 +1,6 @@
 -- Where a section may be.
-use Rattle.std.proofs.Common.{◌≡◌, ℕ, ◌<◌, ◌≤◌, Bool, true, false, List, length, Ok, refl, subst, arith, inl, inr}
+use Rattle.std.proofs.Common.{◌≡◌, ℕ, ◌<◌, ◌≤◌, Bool, true, false, List, length, Ok, refl, subst}
+use Rattle.std.proofs.Common.{arith, inl, inr}
 use Rattle.std.specs.Prelude.{nat_lt, nat_le, not, ◌&&◌, ◌||◌, ◌==◌}
 use Rattle.std.specs.List.{list_any}
 use Rattle.std.specs.Str.{bytes_eq}
@@ -26,7 +27,8 @@ pub record MayStand (before : List Named) (name : List ℕ) (size : ℕ) : Type 
 abbrev is_in_order : List Named → List ℕ → Bool
 is_in_order before name = not (length before == 0) || bytes_eq name envelope_name
 
-pub stands_takes : (before : List Named) (name : List ℕ) (size : ℕ) (u : Unit {0}) → stands_at before name size ≡ Ok u → MayStand before name size
+pub stands_takes : (before : List Named) (name : List ℕ) (size : ℕ) (u : Unit {0})
+    → stands_at before name size ≡ Ok u → MayStand before name size
 unfolding stands_at
 stands_takes before name size u e =
     let name_passed = check_done (is_name name) WrongName _ u e in
@@ -45,7 +47,8 @@ stands_takes before name size u e =
       ];
     }
 
-pub stands_again : (before : List Named) (name : List ℕ) (size : ℕ) → MayStand before name size → stands_at before name size ≡ Ok tt
+pub stands_again : (before : List Named) (name : List ℕ) (size : ℕ)
+    → MayStand before name size → stands_at before name size ≡ Ok tt
 unfolding stands_at
 stands_again before name size may =
     let below = may.room in
@@ -53,13 +56,15 @@ stands_again before name size may =
     let room : nat_lt (length before) 64 ≡ true = grind (arith, nat_tests) in
     let fits : nat_le size limit ≡ true = grind (arith, nat_tests) in
     let order : is_in_order before name ≡ true = elim (cases_Bool (length before == 0)) [
-      | inl none ↦ let same : bytes_eq name envelope_name ≡ true = (bytes_eq-Decides _ _).1 (may.first (eqb-true _ _ none)) in rw (none, same) refl
+      | inl none ↦ let same : bytes_eq name envelope_name ≡ true =
+          (bytes_eq-Decides _ _).1 (may.first (eqb-true _ _ none)) in rw (none, same) refl
       | inr some ↦ rw some refl
     ] in
     rw (may.named, may.new, room, fits, order) refl
 
 -- of a length over the limit only that counts
-pub stands_capped : (before : List Named) (name : List ℕ) (a b : ℕ) → (a ≤ limit → a ≡ b) → (limit < a → limit < b) → stands_at before name a ≡ stands_at before name b
+pub stands_capped : (before : List Named) (name : List ℕ) (a b : ℕ) → (a ≤ limit → a ≡ b)
+    → (limit < a → limit < b) → stands_at before name a ≡ stands_at before name b
 unfolding stands_at
 stands_capped before name a b exact over = elim (cases_lt limit a) [
   | inl lt ↦
@@ -78,13 +83,15 @@ pub record Capped (size : List ℕ) (value : ℕ) : Type 0 where
   pub exact : value ≤ limit → value ≡ digits_value 10 size
   pub over : limit < value → limit < digits_value 10 size
 
-pub length_told : (before : List Named) (name size : List ℕ) (value : ℕ) (u : Unit {0}) → Capped size value → stands_at before name value ≡ Ok u → length_at before name size ≡ Ok value
+pub length_told : (before : List Named) (name size : List ℕ) (value : ℕ) (u : Unit {0})
+    → Capped size value → stands_at before name value ≡ Ok u → length_at before name size ≡ Ok value
 unfolding length_at
 length_told before name size value u cap stands =
     let same = cap.exact (stands_takes before name value u stands).small in
     rw (cap.form, ← same, stands) refl
 
-pub length_refused : (before : List Named) (name size : List ℕ) (value : ℕ) (e : Fault) → Capped size value → Refuses e (stands_at before name value) → Refuses e (length_at before name size)
+pub length_refused : (before : List Named) (name size : List ℕ) (value : ℕ) (e : Fault) → Capped
+    size value → Refuses e (stands_at before name value) → Refuses e (length_at before name size)
 unfolding length_at
 length_refused before name size value e cap refused =
     let capped = stands_capped before name value (digits_value 10 size) cap.exact cap.over in

@@ -16,7 +16,8 @@ pub done_or_fault : {A : Type 0} (x : A) (n : Refusal) → done x ≡ Err n → 
 done_or_fault x n e = cc
 
 -- the test passed, and the next step was done
-pub check_done : {B : Type 0} (b : Bool) (n : Refusal) (next : Unit {0} → Result B Refusal) (y : B) → (check b n >>= next) ≡ Ok y → (b ≡ true) × (next tt ≡ Ok y)
+pub check_done : {B : Type 0} (b : Bool) (n : Refusal) (next : Unit {0} → Result B Refusal) (y : B)
+    → (check b n >>= next) ≡ Ok y → (b ≡ true) × (next tt ≡ Ok y)
 check_done true n next y e = (refl, e)
 check_done false n next y e = absurd cc
 
@@ -26,6 +27,7 @@ value_there n None x e = absurd cc
 value_there n (Some y) x e = cc
 
 -- a refusal of the first step is one of both
-pub refused_first : {A B : Type 0} (e : Fault) (r : Result A Refusal) (next : A → Result B Refusal) → Refuses e r → Refuses e (r >>= next)
+pub refused_first : {A B : Type 0} (e : Fault) (r : Result A Refusal) (next : A → Result B Refusal)
+    → Refuses e r → Refuses e (r >>= next)
 refused_first {A} (Refused n) r next same = ap (λ (t : Result A Refusal). t >>= next) same
 refused_first NoMemory r next none = none

@@ -1,5 +1,7 @@
 -- The words of a section's line.
-use Rattle.std.proofs.Common.{◌≡◌, ℕ, suc, ◌+◌, ◌^◌, ◌<◌, Bool, true, false, cond, ltb, eqb, List, [], ◌∷◌, length, take, drop, Option, Some, None, Err, refl, ap, subst, ◌∙◌, arith, inl, inr}
+use Rattle.std.proofs.Common.{◌≡◌, ℕ, suc, ◌+◌, ◌^◌, ◌<◌, Bool, true, false, cond, ltb, eqb, List}
+use Rattle.std.proofs.Common.{[], ◌∷◌, length, take, drop, Option, Some, None, Err, refl, ap, subst}
+use Rattle.std.proofs.Common.{◌∙◌, arith, inl, inr}
 use Rattle.std.specs.Prelude.{option_map, not}
 use Rattle.std.specs.List.{list_all, list_any, position_or_len}
 use Rattle.std.specs.Char.{is_ascii_digit}
@@ -29,29 +31,38 @@ parts_at-suc b p bs =
     let after_p : p + 1 ≡ suc p = omega arith in
     let after_suc : suc p + 1 ≡ suc (suc p) = omega arith in
     elim (cases_lt p (length bs)) [
-      | inl lt ↦ let here : ltb p (length bs) ≡ true = grind (arith, nat_tests) in let there : ltb (suc p) (suc (length bs)) ≡ true = grind (arith, nat_tests) in rw (here, there, after_p, after_suc) refl
-      | inr le ↦ let here : ltb p (length bs) ≡ false = grind (arith, nat_tests) in let there : ltb (suc p) (suc (length bs)) ≡ false = grind (arith, nat_tests) in rw (here, there) refl
+      | inl lt ↦ let here : ltb p (length bs) ≡ true = grind (arith, nat_tests) in
+          let there : ltb (suc p) (suc (length bs)) ≡ true = grind (arith, nat_tests) in
+          rw (here, there, after_p, after_suc) refl
+      | inr le ↦ let here : ltb p (length bs) ≡ false = grind (arith, nat_tests) in let there : ltb
+          (suc p) (suc (length bs)) ≡ false = grind (arith, nat_tests) in rw (here, there) refl
     ]
 
 parts_at-zero : (b : ℕ) (bs : List ℕ) → Some ([], bs) ≡ parts_at 0 (b ∷ bs)
 parts_at-zero b bs = let here : ltb 0 (suc (length bs)) ≡ true = grind (arith, nat_tests) in rw here refl
 
-by_head : (is_c : Bool) (b p : ℕ) (bs : List ℕ) → cond is_c (Some ([], bs)) (option_map (with_byte b) (parts_at p bs)) ≡ parts_at (cond (not is_c) (1 + p) 0) (b ∷ bs)
+by_head : (is_c : Bool) (b p : ℕ) (bs : List ℕ) → cond is_c (Some ([], bs))
+    (option_map (with_byte b) (parts_at p bs)) ≡ parts_at (cond (not is_c) (1 + p) 0) (b ∷ bs)
 by_head true b p bs = parts_at-zero b bs
 by_head false b p bs = let next : 1 + p ≡ suc p = omega arith in rw next (parts_at-suc b p bs)
 
 -- the parts round the first c are those round its place
 parted_at : (c : ℕ) (bs : List ℕ) → parted c bs ≡ parts_at (position_or_len (λ b. eqb b c) bs) bs
 parted_at c [] = refl
-parted_at c (b ∷ bs) = ap (λ (o : Option (List ℕ × List ℕ)). cond (eqb b c) (Some ([], bs)) (option_map (with_byte b) o)) (parted_at c bs) ∙ by_head (eqb b c) b (position_or_len (λ x. eqb x c) bs) bs
+parted_at c (b ∷ bs) =
+    ap (λ (o : Option (List ℕ × List ℕ)). cond (eqb b c) (Some ([], bs)) (option_map (with_byte b) o))
+    (parted_at c bs) ∙ by_head (eqb b c) b (position_or_len (λ x. eqb x c) bs) bs
 
 -- what a search for c found
 abbrev Found : ℕ → List ℕ → Option ℕ → Type 0
-Found c bs o = o ≡ cond (ltb (position_or_len (λ b. eqb b c) bs) (length bs)) (Some (position_or_len (λ b. eqb b c) bs)) None
+Found c bs o = o ≡ cond (ltb (position_or_len (λ b. eqb b c) bs) (length bs))
+    (Some (position_or_len (λ b. eqb b c) bs)) None
 
-pub parted-found : (c : ℕ) (bs : List ℕ) (i : ℕ) → Found c bs (Some i) → parted c bs ≡ Some (take i bs, drop (i + 1) bs)
+pub parted-found : (c : ℕ) (bs : List ℕ) (i : ℕ)
+    → Found c bs (Some i) → parted c bs ≡ Some (take i bs, drop (i + 1) bs)
 parted-found c bs i h = elim (cases_Bool (ltb (position_or_len (λ b. eqb b c) bs) (length bs))) [
-  | inl within ↦ let e : i ≡ position_or_len (λ b. eqb b c) bs = cc (rw within at h) in rw (parted_at c bs, within, e) refl
+  | inl within ↦ let e : i ≡ position_or_len (λ b. eqb b c) bs = cc (rw within at h) in
+      rw (parted_at c bs, within, e) refl
   | inr past ↦ absurd (cc (rw past at h))
 ]
 
@@ -63,7 +74,8 @@ parted-not_found c bs h = elim (cases_Bool (ltb (position_or_len (λ b. eqb b c)
 
 -- ---- names
 
-pub list_any-views : (name : List ℕ) (ss : List Section) → list_any (λ s. bytes_eq s.name.now name) ss ≡ list_any (λ s. bytes_eq s.name name) (views ss)
+pub list_any-views : (name : List ℕ) (ss : List Section)
+    → list_any (λ s. bytes_eq s.name.now name) ss ≡ list_any (λ s. bytes_eq s.name name) (views ss)
 list_any-views name [] = refl
 list_any-views name (s ∷ ss) = rw (list_any-views name ss) refl
 
@@ -77,9 +89,11 @@ IsAscii-name (b ∷ bs) h = let p = and_parts _ _ h in IsAscii-cons b bs (name_b
 -- ---- lengths
 
 -- digits that 64 bits don't hold are above the limit
-pub unparsed_over_limit : {E : Type 0} (text ds : List ℕ) (e : E) → ParsesUnsigned 64 10 text (Err e) → text ≡ ds → 0 < length ds → list_all is_ascii_digit ds ≡ true → limit < digits_value 10 ds
+pub unparsed_over_limit : {E : Type 0} (text ds : List ℕ) (e : E) → ParsesUnsigned 64 10 text (Err e)
+    → text ≡ ds → 0 < length ds → list_all is_ascii_digit ds ≡ true → limit < digits_value 10 ds
 unparsed_over_limit {E} text ds e h same some all =
-    let at_ds : ParsesUnsigned {E = E} 64 10 ds (Err e) = subst (λ (x : List ℕ). ParsesUnsigned {E = E} 64 10 x (Err e)) same h in
+    let at_ds : ParsesUnsigned {E = E} 64 10 ds (Err e) =
+    subst (λ (x : List ℕ). ParsesUnsigned {E = E} 64 10 x (Err e)) same h in
     let not_small = parse_digits digits_model 64 ds (Err e) at_ds all in
     elim (cases_lt (digits_value 10 ds) (2 ^ 64)) [
       | inl lt ↦ absurd (not_small (some, lt))

@@ -1,5 +1,6 @@
 -- Laws of the refusals' numbers.
-use Rattle.std.proofs.Common.{◌≡◌, ◌∙◌, ℕ, ◌≤◌, ◌-◌, List, [], ◌∷◌, get_or, refl, sym, ap, arith}
+use Rattle.std.proofs.Common.{◌≡◌, ◌∙◌, ℕ, ◌≤◌, ◌-◌, List, [], ◌∷◌, get_or, refl, sym}
+use Rattle.std.proofs.Common.{ap, arith}
 use Rattle.esc_bundle.specs.declared.refusal.Refusal.{Refusal}
 use Rattle.esc_bundle.specs.declared.refusal.Refusal.TheVariants.{BrokenFrame, WrongName}
 use Rattle.esc_bundle.specs.declared.refusal.Refusal.TheVariants.{RepeatedName, OverLimit, NotJson}

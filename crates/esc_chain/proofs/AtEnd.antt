@@ -1,5 +1,6 @@
 -- A row that comes after all others, and builds on the end of their latest chain, goes at its end.
-use Rattle.std.proofs.Common.{◌≡◌, inl, inr, ℕ, ℤ, ◌<◌, ◌≤◌, List, [], ◌∷◌, length, reverse, Option, refl, sym, ap, subst, ◌∙◌, arith}
+use Rattle.std.proofs.Common.{◌≡◌, inl, inr, ℕ, ℤ, ◌<◌, ◌≤◌, List, [], ◌∷◌, length, reverse}
+use Rattle.std.proofs.Common.{Option, refl, sym, ap, subst, ◌∙◌, arith}
 use Rattle.std.specs.Prelude.{slice_index}
 use Rattle.std.specs.List.{Contains}
 use Rattle.std.specs.FinSet as set
@@ -27,28 +28,35 @@ not_itself a b before same = let itself = subst (IsBefore a) (sym same) before i
 
 -- the rows of a list, as a set
 in_list : (rows : List ℕ) (q : ℕ) → IsHeld (set.from_list rows) q → Contains rows q
-in_list rows q held = Contains-from_any (tells_apart exact_unsigned) q rows (sym (set.contains-from_list nat_cmp_total rows q) ∙ held)
+in_list rows q held = Contains-from_any (tells_apart exact_unsigned)
+    q rows (sym (set.contains-from_list nat_cmp_total rows q) ∙ held)
 
 in_set : (rows : List ℕ) (q : ℕ) → Contains rows q → IsHeld (set.from_list rows) q
-in_set rows q there = set.contains-from_list nat_cmp_total rows q ∙ list_any-from_Contains (eq_by_cmp_equiv nat_cmp_total) q rows there
+in_set rows q there = set.contains-from_list nat_cmp_total rows q
+    ∙ list_any-from_Contains (eq_by_cmp_equiv nat_cmp_total) q rows there
 
 -- what holds of each element holds at each place, and conversely
-pub at_each : (P : ℕ → Type 0) (rows : List ℕ) → ((k : ℕ) → k < length rows → P (slice_index rows k)) → (q : ℕ) → Contains rows q → P q
+pub at_each : (P : ℕ → Type 0) (rows : List ℕ)
+    → ((k : ℕ) → k < length rows → P (slice_index rows k)) → (q : ℕ) → Contains rows q → P q
 at_each P rows all q there = subst P (get_or_default rows there.0 0 q there.1 ∙ there.2) (all there.0 there.1)
 
-pub each_at : (P : ℕ → Type 0) (rows : List ℕ) → ((q : ℕ) → Contains rows q → P q) → (k : ℕ) → k < length rows → P (slice_index rows k)
+pub each_at : (P : ℕ → Type 0) (rows : List ℕ)
+    → ((q : ℕ) → Contains rows q → P q) → (k : ℕ) → k < length rows → P (slice_index rows k)
 each_at P rows all k within = all (slice_index rows k) (k, within, get_or_default rows k (slice_index rows k) 0 within)
 
 -- a row has one base
-pub only_base : (m : List MRow) → IsAccepted m → (r : ℕ) (b : Base) (p : Place) → IsBase m r b → IsBase m r (At p) → b ≡ At p
+pub only_base : (m : List MRow)
+    → IsAccepted m → (r : ℕ) (b : Base) (p : Place) → IsBase m r b → IsBase m r (At p) → b ≡ At p
 only_base m ok r Whole p is at = absurd (base_not_full m r p at (whole_is_full m r is))
 only_base m ok r (At q) p is at = ap At (base_same m ok r q p is at)
 only_base m ok r Unlisted p is at = absurd (unlisted_not_at m r p is at)
 
-pub last_in_range : (m : List MRow) (rows : List ℕ) (t : Option ℤ) (r : ℕ) → ComesLast m rows t r → InRange m (set.from_list rows)
+pub last_in_range : (m : List MRow) (rows : List ℕ) (t : Option ℤ) (r : ℕ)
+    → ComesLast m rows t r → InRange m (set.from_list rows)
 last_in_range m rows t r last q held = (last.last q (in_list rows q held)).0
 
-module _ (m : List MRow) (rows : List ℕ) (t : Option ℤ) (r : ℕ) (last : ComesLast m rows t r) (h : Rows) (more : HasOneMore h rows r) where
+module _ (m : List MRow) (rows : List ℕ)
+    (t : Option ℤ) (r : ℕ) (last : ComesLast m rows t r) (h : Rows) (more : HasOneMore h rows r) where
   abbrev all : Rows
   all = set.from_list rows
 
@@ -60,12 +68,14 @@ module _ (m : List MRow) (rows : List ℕ) (t : Option ℤ) (r : ℕ) (last : Co
 
   -- another row of its place is no other row
   is_last : (q : ℕ) → IsHeld all q → place_at m q ≡ place_at m r → q ≡ r
-  is_last q held same = elim (last.last q (in_list rows q held)).1 [ inl is ↦ is | inr before ↦ absurd (not_itself _ _ before same) ]
+  is_last q held same = elim (last.last q (in_list rows q held)).1
+      [ inl is ↦ is | inr before ↦ absurd (not_itself _ _ before same) ]
 
   used_last : IsUsed m all r
   used_last = record {
     held = last_held;
-    greatest = λ q held same. let is = is_last q held same in subst (λ (x : ℕ). resend_at m x ≤ resend_at m r) (sym is) (omega arith);
+    greatest = λ q held same. let is = is_last q held same in
+        subst (λ (x : ℕ). resend_at m x ≤ resend_at m r) (sym is) (omega arith);
   }
 
   used_still : (q : ℕ) → IsUsed m h q → IsUsed m all q
@@ -84,14 +94,21 @@ module _ (m : List MRow) (rows : List ℕ) (t : Option ℤ) (r : ℕ) (last : Co
   leads_still q (s ∷ rest) leads = (leads.0, used_still s leads.1, leads_still s rest leads.2)
 
   none_later : (q : ℕ) → IsHeld all q → IsUpTo (place_at m q) (place_at m r)
-  none_later q held = elim (last.last q (in_list rows q held)).1 [ inl is ↦ inr (ap (place_at m) is) | inr before ↦ inl before ]
+  none_later q held = elim (last.last q (in_list rows q held)).1
+      [ inl is ↦ inr (ap (place_at m) is) | inr before ↦ inl before ]
 
-  lengthened : (s : ℕ) (rest : List ℕ) → IsBase m r (At (place_at m s)) → IsLatestBackAt m h t (s ∷ rest) → IsLatestBackAt m all t (r ∷ s ∷ rest)
-  lengthened s rest base latest =
-      ((used_last, (base, used_still s latest.0.0, leads_still s rest latest.0.1)), last.by, λ q other chain by. none_later q chain.0.held)
+  lengthened : (s : ℕ) (rest : List ℕ) → IsBase m r (At (place_at m s))
+      → IsLatestBackAt m h t (s ∷ rest) → IsLatestBackAt m all t (r ∷ s ∷ rest)
+  lengthened s rest base latest = (
+    (used_last, (base, used_still s latest.0.0, leads_still s rest latest.0.1)),
+    last.by,
+    λ q other chain by. none_later q chain.0.held,
+  )
 
-pub lengthens : (m : List MRow) (rows : List ℕ) (t : Option ℤ) (p : Place) (r : ℕ) → GoesAtEnd m rows t p r → LengthensLatest m rows t p r
+pub lengthens : (m : List MRow) (rows : List ℕ) (t : Option ℤ) (p : Place) (r : ℕ)
+    → GoesAtEnd m rows t p r → LengthensLatest m rows t p r
 lengthens m rows t p r goes h c s more at latest =
     let base = subst (λ (x : Place). IsBase m r (At x)) (sym at) goes.1 in
     let back = subst (IsLatestBackAt m h t) (reverse-append c (s ∷ [])) latest in
-    subst (IsLatestBackAt m (set.from_list rows) t) (sym (reverse-append c (s ∷ r ∷ []))) (lengthened m rows t r goes.0 h more s (reverse c) base back)
+    subst (IsLatestBackAt m (set.from_list rows) t) (sym (reverse-append c (s ∷ r ∷ [])))
+    (lengthened m rows t r goes.0 h more s (reverse c) base back)

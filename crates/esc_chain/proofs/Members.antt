@@ -1,5 +1,7 @@
 -- What the rows of a chain are.
-use Rattle.std.proofs.Common.{◌≢◌, ℕ, zero, suc, ◌-◌, ◌<◌, ◌≤◌, ℤ, pos, ◌+ℤ◌, ◌<ℤ◌, cond, List, [], ◌∷◌, length, reverse, Option, None, sym, subst, ◌∙◌, arith}
+use Rattle.std.proofs.Common.{◌≢◌, ℕ, zero, suc, ◌-◌, ◌<◌, ◌≤◌, ℤ, pos, ◌+ℤ◌}
+use Rattle.std.proofs.Common.{◌<ℤ◌, cond, List, [], ◌∷◌, length, reverse, Option, None, sym, subst}
+use Rattle.std.proofs.Common.{◌∙◌, arith}
 use Rattle.std.specs.Prelude.{slice_index}
 use lib.Signed.{lt_z}
 use Rattle.std.proofs.lemmas.Int.{ints}
@@ -7,7 +9,8 @@ use Rattle.std.proofs.lemmas.List.{get_or-reverse, length-reverse, reverse-rever
 use Rattle.esc_manifest.specs.declared.row.MRow.{MRow}
 use Rattle.esc_manifest.specs.ManifestRows.{place_at, watermark_at}
 use Rattle.esc_manifest.specs.Accepted.{IsAccepted}
-use Rattle.esc_chain.specs.Chain.{Rows, IsHeld, InRange, IsUsed, LeadsBack, IsLatestChain, IsLatestBackAt, IsLatestChainAt, AreHeldRows}
+use Rattle.esc_chain.specs.Chain.{Rows, IsHeld, InRange, IsUsed, LeadsBack, IsLatestChain}
+use Rattle.esc_chain.specs.Chain.{IsLatestBackAt, IsLatestChainAt, AreHeldRows}
 use Rattle.esc_chain.proofs.Chains.{earlier, earlier_falls, base_earlier}
 
 -- at most all rows are earlier
@@ -21,7 +24,11 @@ earlier_few w (x ∷ m) =
 earlier_below : (m : List MRow) (r : ℕ) → r < length m → earlier (watermark_at m r) m < length m
 earlier_below m r within =
     let next : watermark_at m r <ℤ (watermark_at m r +ℤ pos 1) = omega (arith, ints) in
-    omega (arith, earlier_falls (watermark_at m r +ℤ pos 1) m r within next, earlier_few (watermark_at m r +ℤ pos 1) m)
+    omega (
+      arith,
+      earlier_falls (watermark_at m r +ℤ pos 1) m r within next,
+      earlier_few (watermark_at m r +ℤ pos 1) m,
+    )
 
 -- a used row, at which a chain ends
 abbrev pub IsEnd : List MRow → Rows → ℕ → Type 0
@@ -53,7 +60,8 @@ turned m h back are = record {
 
 module _ (m : List MRow) (h : Rows) (ok : IsAccepted m) (range : InRange m h) where
   -- before a row in a chain there are at most as many rows as are earlier
-  leads_few : (r : ℕ) (c : List ℕ) → r < length m → LeadsBack m h r c → length c ≤ earlier (watermark_at m r) m
+  leads_few : (r : ℕ) (c : List ℕ)
+      → r < length m → LeadsBack m h r c → length c ≤ earlier (watermark_at m r) m
   leads_few r [] within leads = omega arith
   leads_few r (s ∷ c) within leads =
       let inside = range s leads.1.held in
@@ -78,7 +86,8 @@ module _ (m : List MRow) (h : Rows) (ok : IsAccepted m) (range : InRange m h) wh
   apart r c within leads zero zero lt below = absurd (omega arith)
   apart r c within leads zero (suc k) lt below = λ same.
       let earlier_row = behind_earlier r c within leads k (omega arith) in
-      let itself : watermark_at m r <ℤ watermark_at m r = subst (λ (q : ℕ). watermark_at m q <ℤ watermark_at m r) (sym same) earlier_row in
+      let itself : watermark_at m r <ℤ watermark_at m r =
+      subst (λ (q : ℕ). watermark_at m q <ℤ watermark_at m r) (sym same) earlier_row in
       omega (arith, ints)
   apart r c within leads (suc j) zero lt below = absurd (omega arith)
   apart r [] within leads (suc j) (suc k) lt below = absurd (omega arith)
@@ -108,7 +117,8 @@ module _ (m : List MRow) (h : Rows) (ok : IsAccepted m) (range : InRange m h) wh
 pub latest_at_is_held : (m : List MRow) (h : Rows) (t : Option ℤ) (c : List ℕ) → IsAccepted m → InRange m h
     → IsLatestChainAt m h t c → AreHeldRows m h c
 latest_at_is_held m h t c ok range latest =
-    subst (AreHeldRows m h) (reverse-reverse c) (turned m h (reverse c) (back_is_held m h ok range t (reverse c) latest))
+    subst (AreHeldRows m h) (reverse-reverse c)
+    (turned m h (reverse c) (back_is_held m h ok range t (reverse c) latest))
 
 pub latest_is_held : (m : List MRow) (h : Rows) (c : List ℕ) → IsAccepted m → InRange m h
     → IsLatestChain m h c → AreHeldRows m h c

@@ -1,5 +1,7 @@
 -- The latest chain up to a moment is the latest chain of the held rows that are not later.
-use Rattle.std.proofs.Common.{◌≡◌, ◌⊎◌, inl, inr, ◌↔◌, ℕ, ◌+◌, ◌<◌, true, ◌||◌, ℤ, ◌<ℤ◌, List, [], ◌∷◌, length, reverse, Option, Some, None, sym, ap, subst, ◌∙◌, arith}
+use Rattle.std.proofs.Common.{◌≡◌, ◌⊎◌, inl, inr, ◌↔◌, ℕ, ◌+◌, ◌<◌, true, ◌||◌, ℤ}
+use Rattle.std.proofs.Common.{◌<ℤ◌, List, [], ◌∷◌, length, reverse, Option, Some, None, sym, ap, subst}
+use Rattle.std.proofs.Common.{◌∙◌, arith}
 use Rattle.std.specs.FinSet as set
 use Rattle.std.specs.Cmp.{nat_cmp_total}
 use Rattle.std.specs.Ordering.{nat_cmp, eq_by_cmp}
@@ -13,7 +15,8 @@ use Rattle.esc_envelope.specs.declared.place.Place.{Place}
 use Rattle.esc_manifest.specs.declared.row.MRow.{MRow}
 use Rattle.esc_manifest.specs.ManifestRows.{place_at, watermark_at}
 use Rattle.esc_manifest.specs.Accepted.{IsAccepted}
-use Rattle.esc_chain.specs.Chain.{Rows, IsHeld, InRange, IsUsed, LeadsBack, IsChainBack, IsLatestChain, IsBy, IsLatestBackAt, IsLatestChainAt, AreUntil}
+use Rattle.esc_chain.specs.Chain.{Rows, IsHeld, InRange, IsUsed, LeadsBack, IsChainBack, IsLatestChain}
+use Rattle.esc_chain.specs.Chain.{IsBy, IsLatestBackAt, IsLatestChainAt, AreUntil}
 use Rattle.esc_chain.proofs.Chains.{base_earlier}
 use Rattle.esc_chain.proofs.HeldRows.{none_in_range, one_more_in_range}
 use Rattle.esc_chain.proofs.Rows.{at_more}
@@ -23,7 +26,8 @@ earlier_by : (t : Option ℤ) (v w : ℤ) → v <ℤ w → IsBy t w → IsBy t v
 earlier_by None v w lt by = tt
 earlier_by (Some t) v w lt by = omega (arith, ints, lt, by)
 
-module _ (m : List MRow) (h g : Rows) (t : Option ℤ) (ok : IsAccepted m) (range : InRange m h) (are : AreUntil m h t g) where
+module _ (m : List MRow)
+    (h g : Rows) (t : Option ℤ) (ok : IsAccepted m) (range : InRange m h) (are : AreUntil m h t g) where
   -- the used rows up to the moment are those of the rows up to it
   used_in : (r : ℕ) → IsUsed m h r → IsBy t (watermark_at m r) → IsUsed m g r
   used_in r row by = record {
@@ -46,7 +50,8 @@ module _ (m : List MRow) (h g : Rows) (t : Option ℤ) (ok : IsAccepted m) (rang
   leads_out r [] full = full
   leads_out r (s ∷ c) leads = (leads.0, used_out s leads.1, leads_out s c leads.2)
 
-  leads_in : (r : ℕ) (c : List ℕ) → r < length m → IsBy t (watermark_at m r) → LeadsBack m h r c → LeadsBack m g r c
+  leads_in : (r : ℕ) (c : List ℕ)
+      → r < length m → IsBy t (watermark_at m r) → LeadsBack m h r c → LeadsBack m g r c
   leads_in r [] within by full = full
   leads_in r (s ∷ c) within by leads =
       let lt : watermark_at m s <ℤ watermark_at m r = base_earlier m ok r (place_at m s) within leads.0 in
@@ -79,7 +84,8 @@ pub until_none : (m : List MRow) (h : Rows) (t : Option ℤ) (g : Rows) → g �
 until_none m h t g is = record {
   in_range = none_in_range m g is;
   each = λ r. (
-    λ there. absurd (false≢true (sym (ap (λ (x : Rows). set.contains x r) is ∙ set.contains-empty nat_cmp r) ∙ there)),
+    λ there. absurd (false≢true
+        (sym (ap (λ (x : Rows). set.contains x r) is ∙ set.contains-empty nat_cmp r) ∙ there)),
     λ at. absurd (let lt = at.0 in omega (arith, lt)),
   );
 }
@@ -96,7 +102,8 @@ until_skip m h t n g not_here known = record {
 }
 
 pub until_more : (m : List MRow) (h : Rows) (t : Option ℤ) (n : ℕ) (g : Rows) → n < length m
-    → (IsHeld h n × IsBy t (watermark_at m n)) → IsUntilBelow m h t n g → IsUntilBelow m h t (n + 1) (set.insert g n)
+    → (IsHeld h n × IsBy t (watermark_at m n))
+    → IsUntilBelow m h t n g → IsUntilBelow m h t (n + 1) (set.insert g n)
 until_more m h t n g within here known = record {
   in_range = one_more_in_range m g n within known.in_range;
   each = λ r. (
@@ -121,9 +128,11 @@ until_more m h t n g within here known = record {
 
     stays : (q : ℕ) → IsHeld g q → IsHeld (set.insert g n) q
     stays q is =
-        set.contains-insert nat_cmp_total g n q ∙ ap (λ b. eq_by_cmp nat_cmp q n || b) is ∙ or-true (eq_by_cmp nat_cmp q n)
+        set.contains-insert nat_cmp_total g n q
+        ∙ ap (λ b. eq_by_cmp nat_cmp q n || b) is ∙ or-true (eq_by_cmp nat_cmp q n)
 
-pub until_all : (m : List MRow) (h : Rows) (t : Option ℤ) (g : Rows) → InRange m h → IsUntilBelow m h t (length m) g
+pub until_all : (m : List MRow) (h : Rows) (t : Option ℤ) (g : Rows)
+    → InRange m h → IsUntilBelow m h t (length m) g
     → AreUntil m h t g
 until_all m h t g range known r = (
   λ there. let at = (known.each r).0 there in (at.1, at.2),

@@ -1,5 +1,6 @@
 -- From a row there is one way back, and there is one latest chain.
-use Rattle.std.proofs.Common.{◌≡◌, ◌↔◌, ℕ, ℤ, List, [], ◌∷◌, reverse, Option, refl, sym, ap, subst, ◌∙◌}
+use Rattle.std.proofs.Common.{◌≡◌, ◌↔◌, ℕ, ℤ, List, [], ◌∷◌, reverse, Option, refl, sym, ap}
+use Rattle.std.proofs.Common.{subst, ◌∙◌}
 use Rattle.std.specs.Bool.{one_answer}
 use Rattle.std.specs.FinSet as set
 use Rattle.std.specs.Cmp.{nat_cmp_total}
@@ -34,7 +35,8 @@ module _ (m : List MRow) (h : Rows) (ok : IsAccepted m) (range : InRange m h) wh
 
 -- sets of the same rows are one
 pub same_rows : (h g : Rows) → ((r : ℕ) → IsHeld h r ↔ IsHeld g r) → h ≡ g
-same_rows h g same = set.same_set nat_cmp_total set.nat_cmp-IsAntisymmetric h g (λ r. one_answer (set.contains h r) (set.contains g r) (same r) (λ held. held, λ held. held))
+same_rows h g same = set.same_set nat_cmp_total set.nat_cmp-IsAntisymmetric
+    h g (λ r. one_answer (set.contains h r) (set.contains g r) (same r) (λ held. held, λ held. held))
 
 -- there is one latest chain, by the rows that are held
 pub latest_at_is_one : (m : List MRow) (h g : Rows) (t : Option ℤ) (c d : List ℕ) → IsAccepted m → InRange m h

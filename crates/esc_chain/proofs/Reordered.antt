@@ -1,5 +1,7 @@
 -- Manifests that list the same rows, in whatever order, have latest chains of the same rows.
-use Rattle.std.proofs.Common.{◌≡◌, ℕ, ◌<◌, ◌≤◌, ℤ, ◌<ℤ◌, ◌≤ℤ◌, List, [], ◌∷◌, ◌++◌, length, reverse, Contains, Option, Some, None, refl, sym, ap, ap₂, subst, subst₂, ◌∙◌}
+use Rattle.std.proofs.Common.{◌≡◌, ℕ, ◌<◌, ◌≤◌, ℤ, ◌<ℤ◌, ◌≤ℤ◌, List, [], ◌∷◌}
+use Rattle.std.proofs.Common.{◌++◌, length, reverse, Contains, Option, Some, None, refl, sym, ap, ap₂}
+use Rattle.std.proofs.Common.{subst, subst₂, ◌∙◌}
 use Rattle.std.proofs.lemmas.List.{get_or_default, map-append, reverse-append, reverse-reverse}
 use Rattle.esc_envelope.specs.declared.place.DepositType.{DepositType}
 use Rattle.esc_envelope.specs.declared.place.DepositType.TheVariants.{Diff, Incr, Full}
@@ -28,7 +30,8 @@ HeldAlso m h n g = (x : MRow) → HoldsRow m h x → HoldsRow n g x
 
 -- ---- bases are of rows
 
-full_also : (m n : List MRow) (w : ℤ) (r s : ℕ) → s < length n → row_at n s ≡ row_at m r → IsFullBefore m w r
+full_also : (m n : List MRow) (w : ℤ) (r s : ℕ)
+    → s < length n → row_at n s ≡ row_at m r → IsFullBefore m w r
     → IsFullBefore n w s
 full_also m n w r s within is full = (
   within,
@@ -43,7 +46,8 @@ module _ (m n : List MRow) (also : AreAlso m n) (back : AreAlso n m) where
         (x.0, full_also m n w last.0.0 x.0 x.1 x.2 last.0.1, ap (λ (y : MRow). y.header.place) x.2 ∙ last.0.2),
         λ s full.
             let y = back s full.0 in
-            subst (λ (z : MRow). z.header.place.watermark ≤ℤ p.watermark) y.2 (last.1 y.0 (full_also n m w s y.0 y.1 y.2 full)),
+            subst (λ (z : MRow). z.header.place.watermark ≤ℤ p.watermark)
+            y.2 (last.1 y.0 (full_also n m w s y.0 y.1 y.2 full)),
       )
 
   named_also : (prev : Option (List ℕ)) (p : Place) → IsNamedBy m prev (At p) → IsNamedBy n prev (At p)
@@ -73,7 +77,8 @@ module _ (m n : List MRow) (also : AreAlso m n) (back : AreAlso n m) where
     used_also : (r : ℕ) → IsUsed m h r → (s : ℕ) × IsUsed n g s × (row_at n s ≡ row_at m r)
     used_also r used =
         let x = held_also (row_at m r) (r, used.held, refl) in
-        let greatest : (q : ℕ) → IsHeld g q → place_at n q ≡ place_at n x.0 → resend_at n q ≤ resend_at n x.0 = λ q held same.
+        let greatest : (q : ℕ) → IsHeld g q
+        → place_at n q ≡ place_at n x.0 → resend_at n q ≤ resend_at n x.0 = λ q held same.
         let y = held_back (row_at n q) (q, held, refl) in
         let there = ap (λ (z : MRow). z.header.place) y.2 ∙ same ∙ ap (λ (z : MRow). z.header.place) x.2 in
         let le : resend_at m y.0 ≤ resend_at m r = used.greatest y.0 y.1 there in
@@ -93,7 +98,8 @@ module _ (m n : List MRow) (also : AreAlso m n) (back : AreAlso n m) where
 
     -- and so is a chain
     chain_also : (r : ℕ) (c : List ℕ) → IsChainBack m h (r ∷ c)
-        → (s : ℕ) × (d : List ℕ) × IsChainBack n g (s ∷ d) × (row_at n s ≡ row_at m r) × (rows_along n d ≡ rows_along m c)
+        → (s : ℕ) × (d : List ℕ)
+        × IsChainBack n g (s ∷ d) × (row_at n s ≡ row_at m r) × (rows_along n d ≡ rows_along m c)
     chain_also r c chain =
         let x = used_also r chain.0 in
         let rest = leads_also r x.0 c x.2 chain.1 in
@@ -113,19 +119,24 @@ module _ (m n : List MRow) (also : AreAlso m n) (back : AreAlso n m)
   )
   latest_also t (s ∷ d) latest =
       let x = chain_also n m back also g h held_back held_also s d latest.0 in
-      let by : IsBy t (watermark_at m x.0) = subst (λ (y : MRow). IsBy t y.header.place.watermark) (sym x.3) latest.1 in
+      let by : IsBy t (watermark_at m x.0) =
+      subst (λ (y : MRow). IsBy t y.header.place.watermark) (sym x.3) latest.1 in
       let greatest : (q : ℕ) (other : List ℕ) → IsChainBack m h (q ∷ other) → IsBy t (watermark_at m q)
       → IsUpTo (place_at m q) (place_at m x.0) = λ q other chain until.
       let y = chain_also m n also back h g held_also held_back q other chain in
-      let until_there : IsBy t (watermark_at n y.0) = subst (λ (z : MRow). IsBy t z.header.place.watermark) (sym y.3) until in
-      subst₂ (λ (a b : MRow). IsUpTo a.header.place b.header.place) y.3 (sym x.3) (latest.2 y.0 y.1 y.2 until_there) in
+      let until_there : IsBy t (watermark_at n y.0) =
+      subst (λ (z : MRow). IsBy t z.header.place.watermark) (sym y.3) until in
+      subst₂ (λ (a b : MRow). IsUpTo a.header.place b.header.place) y.3 (sym x.3)
+      (latest.2 y.0 y.1 y.2 until_there) in
       (x.0 ∷ x.1, (x.2, by, greatest), ap₂ (λ (y : MRow) (ys : List MRow). y ∷ ys) x.3 x.4)
 
 -- the rows of a chain from its end back
 along_reverse : (m : List MRow) (c : List ℕ) → rows_along m (reverse c) ≡ reverse (rows_along m c)
 along_reverse m [] = refl
-along_reverse m (r ∷ c) = ap (rows_along m) (reverse-append (r ∷ []) c) ∙ map-append (row_at m) (reverse c) (r ∷ [])
-    ∙ ap (λ (xs : List MRow). xs ++ row_at m r ∷ []) (along_reverse m c) ∙ sym (reverse-append (row_at m r ∷ []) (rows_along m c))
+along_reverse m (r ∷ c) =
+    ap (rows_along m) (reverse-append (r ∷ []) c) ∙ map-append (row_at m) (reverse c) (r ∷ [])
+    ∙ ap (λ (xs : List MRow). xs ++ row_at m r ∷ []) (along_reverse m c)
+    ∙ sym (reverse-append (row_at m r ∷ []) (rows_along m c))
 
 -- latest chains are of the same rows
 pub chains_are_of : ChainsAreOfRows
@@ -133,7 +144,8 @@ chains_are_of m n h g t c d ok range listed held a b =
     let also = are_also m n (λ x. (listed x).0) in
     let back = are_also n m (λ x. (listed x).1) in
     let x = latest_also m n also back h g (λ y. (held y).0) (λ y. (held y).1) t (reverse d) b in
-    let turned : rows_along m (reverse c) ≡ rows_along n (reverse d) = ap (rows_along m) (latest_same m h ok range t (reverse c) x.0 a x.1) ∙ x.2 in
+    let turned : rows_along m (reverse c) ≡ rows_along n (reverse d) =
+    ap (rows_along m) (latest_same m h ok range t (reverse c) x.0 a x.1) ∙ x.2 in
     sym (reverse-reverse (rows_along m c))
     ∙ ap reverse (sym (along_reverse m c) ∙ turned ∙ along_reverse n d)
     ∙ reverse-reverse (rows_along n d)

@@ -1,6 +1,7 @@
 -- The used rows, and chains of them (this project's profile; the types are those of RFC 8909,
 -- section 2).
-use Rattle.std.specs.Prelude.{◌≡◌, ◌≢◌, ◌↔◌, ℕ, ◌<◌, ◌≤◌, ℤ, ◌≤ℤ◌, List, [], ◌∷◌, length, reverse}
+use Rattle.std.specs.Prelude.{◌≡◌, ◌≢◌, ◌↔◌, ℕ, ◌<◌, ◌≤◌, ℤ, ◌≤ℤ◌, List, []}
+use Rattle.std.specs.Prelude.{◌∷◌, length, reverse}
 use Rattle.std.specs.Prelude.{slice_index, Option, Some, None, IsTrue}
 use Rattle.std.specs.FinSet as set
 use Rattle.std.specs.Ordering.{nat_cmp}

@@ -17,7 +17,8 @@ listing_total =
     then_total (on_total (λ (f : FindingValue). f.code) nat_cmp_total)
     (then_total (on_total (λ (f : FindingValue). kind_rank f.kind) nat_cmp_total)
     (then_total (on_total (λ (f : FindingValue). f.key) nat_list_cmp_total)
-    (then_total (on_total (λ (f : FindingValue). f.field) nat_list_cmp_total) (on_total (λ (f : FindingValue). f.value) nat_list_cmp_total))))
+    (then_total (on_total (λ (f : FindingValue). f.field) nat_list_cmp_total)
+    (on_total (λ (f : FindingValue). f.value) nat_list_cmp_total))))
 
 regrouped : (a b c : Ordering) → ordering_then a (ordering_then b c) ≡ ordering_then (ordering_then a b) c
 regrouped Less b c = refl
@@ -25,7 +26,9 @@ regrouped Equal b c = refl
 regrouped Greater b c = refl
 
 -- five orders, and then the sixth
-fivefold : (a b c d e f : Ordering) → ordering_then a (ordering_then b (ordering_then c (ordering_then d (ordering_then e f)))) ≡ ordering_then (ordering_then a (ordering_then b (ordering_then c (ordering_then d e)))) f
+fivefold : (a b c d e f : Ordering)
+    → ordering_then a (ordering_then b (ordering_then c (ordering_then d (ordering_then e f))))
+    ≡ ordering_then (ordering_then a (ordering_then b (ordering_then c (ordering_then d e)))) f
 fivefold a b c d e f =
     let fourth = regrouped d e f in
     let third = ap (ordering_then c) fourth ∙ regrouped c (ordering_then d e) f in
@@ -39,21 +42,27 @@ not_above Greater f h = absurd cc
 
 not_before : (f g : FindingValue) → finding_cmp f g ≡ Less → is_lt (listing_cmp g f) ≡ false
 not_before f g less =
-    let five = fivefold (nat_cmp f.code g.code) (nat_cmp (kind_rank f.kind) (kind_rank g.kind)) (slice_cmp nat_cmp f.key g.key) (slice_cmp nat_cmp f.field g.field)
+    let five = fivefold (nat_cmp f.code g.code) (nat_cmp (kind_rank f.kind) (kind_rank g.kind))
+    (slice_cmp nat_cmp f.key g.key) (slice_cmp nat_cmp f.field g.field)
     (slice_cmp nat_cmp f.value g.value) (slice_cmp nat_cmp f.other g.other) in
-    ap is_lt (listing_total.antisymm g f) ∙ not_above (listing_cmp f g) (slice_cmp nat_cmp f.other g.other) (sym five ∙ less)
+    ap is_lt (listing_total.antisymm g f)
+    ∙ not_above (listing_cmp f g) (slice_cmp nat_cmp f.other g.other) (sym five ∙ less)
 
 pub listing_sorted : (fs : List FindingValue) → IsStrictlySortedBy finding_cmp fs → IsSorted listing_cmp fs
-listing_sorted fs strict = λ k d low high. not_before (get_or fs k d) (get_or fs (k + 1) d) (Less-from_sorted finding_cmp fs k (k + 1) d strict (omega arith) high)
+listing_sorted fs strict = λ k d low high. not_before (get_or fs k d)
+    (get_or fs (k + 1) d) (Less-from_sorted finding_cmp fs k (k + 1) d strict (omega arith) high)
 
-none_alike : (f : FindingValue) (fs : List FindingValue) → IsStrictlySortedBy listing_cmp (f ∷ fs) → dedup_from (eq_by_cmp listing_cmp) f fs ≡ f ∷ fs
+none_alike : (f : FindingValue) (fs : List FindingValue)
+    → IsStrictlySortedBy listing_cmp (f ∷ fs) → dedup_from (eq_by_cmp listing_cmp) f fs ≡ f ∷ fs
 unfolding IsStrictlySortedBy
 none_alike f [] h = refl
 none_alike f (g ∷ gs) h =
-    let apart : eq_by_cmp listing_cmp g f ≡ false = ap is_eq (listing_total.antisymm g f ∙ ap ordering_reverse h.0.0) in
+    let apart : eq_by_cmp listing_cmp g f ≡ false =
+    ap is_eq (listing_total.antisymm g f ∙ ap ordering_reverse h.0.0) in
     rw apart (ap (λ (l : List FindingValue). f ∷ l) (none_alike g gs h.1))
 
 -- findings that are listed in strict order stay
-pub dedup_none : (fs : List FindingValue) → IsStrictlySortedBy listing_cmp fs → dedup (eq_by_cmp listing_cmp) fs ≡ fs
+pub dedup_none : (fs : List FindingValue)
+    → IsStrictlySortedBy listing_cmp fs → dedup (eq_by_cmp listing_cmp) fs ≡ fs
 dedup_none [] h = refl
 dedup_none (f ∷ fs) h = none_alike f fs h

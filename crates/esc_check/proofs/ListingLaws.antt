@@ -1,5 +1,6 @@
 -- No two findings differ in nothing but what else they report, so they are in strict order.
-use Rattle.std.proofs.Common.{◌≡◌, inl, inr, ℕ, ℤ, ◌+◌, cond, List, [], ◌∷◌, get_or, Option, Some, refl, sym, ap, subst, ◌∙◌, arith}
+use Rattle.std.proofs.Common.{◌≡◌, inl, inr, ℕ, ℤ, ◌+◌, cond, List, [], ◌∷◌, get_or, Option, Some}
+use Rattle.std.proofs.Common.{refl, sym, ap, subst, ◌∙◌, arith}
 use Rattle.std.specs.Prelude.{◌↔◌, ◌==◌}
 use Rattle.std.specs.Cmp.Lexicographic.{slice_cmp}
 use Rattle.std.specs.Fmt.{decimal}
@@ -37,7 +38,8 @@ use Rattle.esc_envelope.specs.KindLaws.{one_kind}
 
 -- orders
 
-step : (a s f : Ordering) → ordering_then a s ≡ Less → (a ≡ Equal → s ≡ Less → f ≡ Less) → ordering_then a f ≡ Less
+step : (a s f : Ordering)
+    → ordering_then a s ≡ Less → (a ≡ Equal → s ≡ Less → f ≡ Less) → ordering_then a f ≡ Less
 step Less s f less further = refl
 step Equal s f less further = further refl less
 step Greater s f less further = absurd cc
@@ -48,31 +50,44 @@ last Equal s less never = absurd (never refl less)
 last Greater s less never = absurd cc
 
 not_below : (xs ys : List ℕ) → xs ≡ ys → slice_cmp nat_cmp xs ys ≡ Less → ⊥
-not_below xs ys same less = let apart : Equal ≡ Less = sym (subst (λ (zs : List ℕ). slice_cmp nat_cmp xs zs ≡ Equal) same (tied_itself nat_list_cmp_total xs)) ∙ less in cc
+not_below xs ys same less = let apart : Equal ≡ Less = sym (subst (λ (zs : List ℕ). slice_cmp
+    nat_cmp xs zs ≡ Equal) same (tied_itself nat_list_cmp_total xs)) ∙ less in cc
 
 -- below by six orders in turn, and not by the sixth alone: below by five
-below_by_five : (a b c d e f : Ordering) → ordering_then a (ordering_then b (ordering_then c (ordering_then d (ordering_then e f)))) ≡ Less
-    → (a ≡ Equal → b ≡ Equal → c ≡ Equal → d ≡ Equal → f ≡ Less → ⊥) → ordering_then a (ordering_then b (ordering_then c (ordering_then d e))) ≡ Less
+below_by_five : (a b c d e f : Ordering)
+    → ordering_then a (ordering_then b (ordering_then c (ordering_then d (ordering_then e f)))) ≡ Less
+    → (a ≡ Equal → b ≡ Equal → c ≡ Equal → d ≡ Equal → f ≡ Less → ⊥)
+    → ordering_then a (ordering_then b (ordering_then c (ordering_then d e))) ≡ Less
 below_by_five a b c d e f less never =
-    step a (ordering_then b (ordering_then c (ordering_then d (ordering_then e f)))) (ordering_then b (ordering_then c (ordering_then d e))) less (λ one less_b.
-    step b (ordering_then c (ordering_then d (ordering_then e f))) (ordering_then c (ordering_then d e)) less_b (λ two less_c.
+    step a (ordering_then b (ordering_then c (ordering_then d (ordering_then e f))))
+    (ordering_then b (ordering_then c (ordering_then d e))) less (λ one less_b.
+    step b (ordering_then c (ordering_then d (ordering_then e f)))
+    (ordering_then c (ordering_then d e)) less_b (λ two less_c.
     step c (ordering_then d (ordering_then e f)) (ordering_then d e) less_c (λ three less_d.
-    step d (ordering_then e f) e less_d (λ four less_e. last e f less_e (λ five below. never one two three four below)))))
+    step d (ordering_then e f)
+    e less_d (λ four less_e. last e f less_e (λ five below. never one two three four below)))))
 
-in_listing : (f g : FindingValue) → (f.code ≡ g.code → f.kind ≡ g.kind → f.key ≡ g.key → f.field ≡ g.field → f.other ≡ g.other) → finding_cmp f g ≡ Less → listing_cmp f g ≡ Less
+in_listing : (f g : FindingValue) → (f.code ≡ g.code → f.kind ≡ g.kind → f.key ≡ g.key
+    → f.field ≡ g.field → f.other ≡ g.other) → finding_cmp f g ≡ Less → listing_cmp f g ≡ Less
 in_listing f g tell less =
-    below_by_five (nat_cmp f.code g.code) (nat_cmp (kind_rank f.kind) (kind_rank g.kind)) (slice_cmp nat_cmp f.key g.key) (slice_cmp nat_cmp f.field g.field)
-    (slice_cmp nat_cmp f.value g.value) (slice_cmp nat_cmp f.other g.other) less (λ codes_tie kinds_tie keys_tie fields_tie below.
+    below_by_five (nat_cmp f.code g.code) (nat_cmp (kind_rank f.kind) (kind_rank g.kind))
+    (slice_cmp nat_cmp f.key g.key) (slice_cmp nat_cmp f.field g.field)
+    (slice_cmp nat_cmp f.value g.value)
+    (slice_cmp nat_cmp f.other g.other) less (λ codes_tie kinds_tie keys_tie fields_tie below.
     not_below f.other g.other
-    (tell (exact_unsigned f.code g.code codes_tie) (one_kind f.kind g.kind (exact_unsigned (kind_rank f.kind) (kind_rank g.kind) kinds_tie)) (exact_bytes f.key g.key keys_tie) (exact_bytes f.field g.field fields_tie))
+    (tell (exact_unsigned f.code g.code codes_tie)
+    (one_kind f.kind g.kind (exact_unsigned (kind_rank f.kind) (kind_rank g.kind) kinds_tie))
+    (exact_bytes f.key g.key keys_tie) (exact_bytes f.field g.field fields_tie))
     below)
 
-listed : (fs : List FindingValue) → ((f g : FindingValue) → Contains fs f → Contains fs g → finding_cmp f g ≡ Less → listing_cmp f g ≡ Less) → IsStrictlySortedBy finding_cmp fs
+listed : (fs : List FindingValue) → ((f g : FindingValue) → Contains fs f → Contains fs g
+    → finding_cmp f g ≡ Less → listing_cmp f g ≡ Less) → IsStrictlySortedBy finding_cmp fs
     → IsStrictlySortedBy listing_cmp fs
 unfolding IsStrictlySortedBy
 listed [] each h = tt
 listed (f ∷ fs) each h = sorted_from_all_adjacent listing_total (f ∷ fs) f (λ k below.
-    each (get_or (f ∷ fs) k f) (get_or (f ∷ fs) (k + 1) f) (Contains-get_or (f ∷ fs) k f (omega arith)) (Contains-get_or (f ∷ fs) (k + 1) f below)
+    each (get_or (f ∷ fs) k f) (get_or (f ∷ fs) (k + 1) f)
+    (Contains-get_or (f ∷ fs) k f (omega arith)) (Contains-get_or (f ∷ fs) (k + 1) f below)
     (Less-from_sorted finding_cmp (f ∷ fs) k (k + 1) f h (omega arith) below))
 
 -- what else a finding reports follows from its code, kind, key and field
@@ -105,13 +120,15 @@ tells es w f =
 
 leads_to : (k : KeyName) (o : ObjectValue) (l : LinkValue) → IsLinkOf k o l → l.to.kind ≡ field_target l.field
 leads_to k o l (inl (g, has, by)) = subst (λ (m : LinkValue). m.to.kind ≡ field_target m.field) (sym by.1) refl
-leads_to k o l (inr (r, g, has, table, by)) = subst (λ (m : LinkValue). m.to.kind ≡ field_target m.field) (sym by.1) refl
+leads_to k o l (inr (r, g, has, table, by)) =
+    subst (λ (m : LinkValue). m.to.kind ≡ field_target m.field) (sym by.1) refl
 
 module _ (es : List Entry) (w : ℤ) where
   abbrev Tells : FindingValue → Type 0
   Tells f = f.other ≡ tells es w f
 
-  own_told : (k : KeyName) (o : ObjectValue) (f : FindingValue) → content_of_entries es k ≡ Some o → IsOwn w k o f → Tells f
+  own_told : (k : KeyName) (o : ObjectValue) (f : FindingValue)
+      → content_of_entries es k ≡ Some o → IsOwn w k o f → Tells f
   own_told k o f at (inl (inl (s, has, other, is))) = subst Tells (sym is) refl
   own_told k o f at (inl (inr (domain, ok, more, is))) = subst Tells (sym is) refl
   own_told k o f at (inr (inl (inl (d, creation, past, is)))) = subst Tells (sym is) refl
@@ -120,18 +137,32 @@ module _ (es : List Entry) (w : ℤ) where
   own_told k o f at (inr (inr (inl (some, none, is)))) = subst Tells (sym is) refl
   own_told k o f at (inr (inr (inr (some, none, is)))) = subst Tells (sym is) refl
 
-  told : (counts : List (Kind × ℕ)) → IsDistinct key_eq (keys_of es) → (f : FindingValue) → IsFinding (content_of_entries es) w counts f → Tells f
-  told counts apart f (inl (l, (o, at, link), absent, is)) = subst Tells (sym is) (ap kind_name (leads_to l.from o l link) ∙ sym (target_is l.field))
-  told counts apart f (inr (inl (kind, declared, n, has, many, other, is))) = subst Tells (sym is) (ap decimal (count_is es kind n apart many))
+  told : (counts : List (Kind × ℕ)) → IsDistinct key_eq (keys_of es)
+      → (f : FindingValue) → IsFinding (content_of_entries es) w counts f → Tells f
+  told counts apart f (inl (l, (o, at, link), absent, is)) =
+      subst Tells (sym is) (ap kind_name (leads_to l.from o l link) ∙ sym (target_is l.field))
+  told counts apart f (inr (inl (kind, declared, n, has, many, other, is))) =
+      subst Tells (sym is) (ap decimal (count_is es kind n apart many))
   told counts apart f (inr (inr (k, o, at, own))) = own_told k o f at own
 
-  same_told : (f g : FindingValue) → Tells f → Tells g → f.code ≡ g.code → f.kind ≡ g.kind → f.key ≡ g.key → f.field ≡ g.field → f.other ≡ g.other
+  same_told : (f g : FindingValue) → Tells f → Tells g
+      → f.code ≡ g.code → f.kind ≡ g.kind → f.key ≡ g.key → f.field ≡ g.field → f.other ≡ g.other
   same_told f g one other codes_are kinds_are keys_are fields_are =
-      one ∙ (λ i. tells es w (record { code = codes_are i; kind = kinds_are i; key = keys_are i; field = fields_are i; value = f.value; other = f.other })) ∙ sym other
+      one ∙ (λ i. tells es w (record {
+        code = codes_are i;
+        kind = kinds_are i;
+        key = keys_are i;
+        field = fields_are i;
+        value = f.value;
+        other = f.other;
+      })) ∙ sym other
 
 -- findings in strict order are listed in strict order
-pub in_order : (es : List Entry) (w : ℤ) (counts : List (Kind × ℕ)) (v : List FindingValue) → IsStrictlySortedBy key_cmp (keys_of es)
-    → ((f : FindingValue) → Contains v f ↔ IsFinding (content_of_entries es) w counts f) → IsStrictlySortedBy finding_cmp v → IsStrictlySortedBy listing_cmp v
+pub in_order : (es : List Entry) (w : ℤ) (counts : List (Kind × ℕ)) (v : List FindingValue)
+    → IsStrictlySortedBy key_cmp (keys_of es)
+    → ((f : FindingValue) → Contains v f ↔ IsFinding (content_of_entries es) w counts f)
+    → IsStrictlySortedBy finding_cmp v → IsStrictlySortedBy listing_cmp v
 in_order es w counts v sorted each strict =
     let apart = IsDistinct-from_sorted key_cmp (keys_of es) sorted in
-    listed v (λ f g has too. in_listing f g (same_told es w f g (told es w counts apart f ((each f).0 has)) (told es w counts apart g ((each g).0 too)))) strict
+    listed v (λ f g has too. in_listing f g (same_told es w f g
+    (told es w counts apart f ((each f).0 has)) (told es w counts apart g ((each g).0 too)))) strict

@@ -7,6 +7,7 @@ value_or (Ok x) d = x
 value_or (Err e) d = d
 
 -- what holds of a result holds of what came through where its fault was changed
-pub came : {A E F : Type 0} (P : A → Type 0) (Q : E → F → Type 0) (r : Result A E) (s : Result A F) (x : A) → MatchResult r (λ y. s ≡ Ok y) (λ e. IsErrAnd s (Q e)) → s ≡ Ok x → IfOk r P → P x
+pub came : {A E F : Type 0} (P : A → Type 0) (Q : E → F → Type 0) (r : Result A E) (s : Result A F)
+    (x : A) → MatchResult r (λ y. s ≡ Ok y) (λ e. IsErrAnd s (Q e)) → s ≡ Ok x → IfOk r P → P x
 came P Q (Ok y) s x is at holds = subst P (λ i. value_or ((sym is ∙ at) i) y) holds
 came P Q (Err e) s x is at holds = absurd (subst (λ t. IsErrAnd t (Q e)) at is)

@@ -1,5 +1,6 @@
 -- What a walk over objects gathers is what is found of them.
-use Rattle.std.proofs.Common.{◌≡◌, ◌⊎◌, inl, inr, ℕ, ℤ, Bool, true, false, cond, not, ◌||◌, List, [], ◌∷◌, ◌++◌, map, filter, refl, sym, ap, subst, ◌∙◌, append-nil}
+use Rattle.std.proofs.Common.{◌≡◌, ◌⊎◌, inl, inr, ℕ, ℤ, Bool, true, false, cond, not, ◌||◌, List}
+use Rattle.std.proofs.Common.{[], ◌∷◌, ◌++◌, map, filter, refl, sym, ap, subst, ◌∙◌, append-nil}
 use Rattle.std.specs.Prelude.{◌↔◌}
 use Rattle.std.specs.BTreeSet as sorted
 use Rattle.std.specs.BTreeSet.{insert_key}
@@ -10,7 +11,8 @@ use Rattle.std.specs.Ordering.{match_ordering, ordering_reverse}
 use Rattle.std.specs.declared.cmp.Ordering.{Ordering}
 use Rattle.std.specs.declared.cmp.Ordering.TheVariants.{Less}
 use Rattle.std.proofs.lemmas.List.{map-append}
-use Rattle.std.proofs.lemmas.List.Elements.{filter-append, Contains-append_left, Contains-append_right, Contains-append_cases}
+use Rattle.std.proofs.lemmas.List.Elements.{filter-append, Contains-append_left, Contains-append_right}
+use Rattle.std.proofs.lemmas.List.Elements.{Contains-append_cases}
 use Rattle.std.proofs.lemmas.List.Folds.{list_any-append}
 use Rattle.std.proofs.lemmas.Map.Keys.{IsDistinct-from_sorted}
 use Rattle.std.proofs.lemmas.Map.Made.{is_some-lookup}
@@ -22,7 +24,8 @@ use Rattle.esc_tables.specs.ObjectValue.{ObjectValue}
 use Rattle.esc_check.specs.declared.walk.Gathering.{Gathering}
 use Rattle.esc_check.specs.FindingValue.{FindingValue}
 use Rattle.esc_check.specs.Findings.{IsFinding, missing_target}
-use Rattle.esc_check.specs.Gathered.{links_of, is_present, link_findings, count_findings, own_findings, object_findings, all_links, Leads}
+use Rattle.esc_check.specs.Gathered.{links_of, is_present, link_findings, count_findings, own_findings}
+use Rattle.esc_check.specs.Gathered.{object_findings, all_links, Leads}
 use Rattle.esc_check.specs.LinkValue.{LinkValue}
 use Rattle.esc_check.specs.TableMap.{content_of_entries}
 use Rattle.esc_check.proofs.FindingLaws.{to_findings, from_findings}
@@ -32,30 +35,36 @@ use Rattle.esc_check.specs.WritingLaws.{front_added}
 
 -- keys that come in order are put after the others
 
-in_the_middle : (P : KeyName → Type 0) (xs ys : List KeyName) (k : KeyName) → AllByRecursion P (xs ++ k ∷ ys) → P k
+in_the_middle : (P : KeyName → Type 0) (xs ys : List KeyName) (k : KeyName)
+    → AllByRecursion P (xs ++ k ∷ ys) → P k
 in_the_middle P [] ys k h = h.0
 in_the_middle P (x ∷ xs) ys k h = in_the_middle P xs ys k h.1
 
-put_last : (xs ys : List KeyName) (k : KeyName) → IsStrictlySortedBy key_cmp (xs ++ k ∷ ys) → insert_key key_cmp xs k ≡ xs ++ k ∷ []
+put_last : (xs ys : List KeyName) (k : KeyName)
+    → IsStrictlySortedBy key_cmp (xs ++ k ∷ ys) → insert_key key_cmp xs k ≡ xs ++ k ∷ []
 unfolding IsStrictlySortedBy
 put_last [] ys k h = refl
 put_last (x ∷ xs) ys k h =
     let below = in_the_middle (λ y. key_cmp x y ≡ Less) xs ys k h.0 in
-    ap (λ (o : Ordering). match_ordering o (k ∷ x ∷ xs) (x ∷ xs) (x ∷ insert_key key_cmp xs k)) (keys_total.antisymm k x ∙ ap ordering_reverse below)
+    ap (λ (o : Ordering). match_ordering o (k ∷ x ∷ xs) (x ∷ xs) (x ∷ insert_key key_cmp xs k))
+    (keys_total.antisymm k x ∙ ap ordering_reverse below)
     ∙ ap (λ (l : List KeyName). x ∷ l) (put_last xs ys k h.1)
 
 -- what was met stays met
 
-still_any : {X : Type 0} (test : X → Bool) (xs ys : List X) → list_any test xs ≡ true → list_any test (xs ++ ys) ≡ true
+still_any : {X : Type 0} (test : X → Bool) (xs ys : List X)
+    → list_any test xs ≡ true → list_any test (xs ++ ys) ≡ true
 still_any test xs ys h = list_any-append test xs ys ∙ ap (λ (b : Bool). b || list_any test ys) h
 
 -- what is let go at once would be let go later
 
-chosen_twice : {X : Type 0} (p q : X → Bool) (xs : List X) → ((x : X) → q x ≡ false → p x ≡ false) → filter p (filter q xs) ≡ filter p xs
+chosen_twice : {X : Type 0} (p q : X → Bool) (xs : List X)
+    → ((x : X) → q x ≡ false → p x ≡ false) → filter p (filter q xs) ≡ filter p xs
 chosen_twice p q [] h = refl
 chosen_twice {X} p q (x ∷ xs) h = pick (q x) refl (chosen_twice p q xs h)
   where
-    pick : (b : Bool) → q x ≡ b → filter p (filter q xs) ≡ filter p xs → filter p (cond b (x ∷ filter q xs) (filter q xs)) ≡ cond (p x) (x ∷ filter p xs) (filter p xs)
+    pick : (b : Bool) → q x ≡ b → filter p (filter q xs) ≡ filter p xs
+        → filter p (cond b (x ∷ filter q xs) (filter q xs)) ≡ cond (p x) (x ∷ filter p xs) (filter p xs)
     pick true e again = ap (λ (l : List X). cond (p x) (x ∷ l) l) again
     pick false e again = again ∙ ap (λ (b : Bool). cond b (x ∷ filter p xs) (filter p xs)) (sym (h x e))
 
@@ -63,31 +72,42 @@ not_true : (a b : Bool) → (a ≡ true → b ≡ true) → not a ≡ false → 
 not_true true b h e = ap not (h refl)
 not_true false b h e = absurd cc
 
-link_findings-append : (present : KeyName → Bool) (a b : List LinkValue) → link_findings present (a ++ b) ≡ link_findings present a ++ link_findings present b
+link_findings-append : (present : KeyName → Bool) (a b : List LinkValue)
+    → link_findings present (a ++ b) ≡ link_findings present a ++ link_findings present b
 link_findings-append present a b =
     ap (map missing_target) (filter-append (λ (l : LinkValue). not (present l.to)) a b)
-    ∙ map-append missing_target (filter (λ (l : LinkValue). not (present l.to)) a) (filter (λ (l : LinkValue). not (present l.to)) b)
+    ∙ map-append missing_target (filter (λ (l : LinkValue). not (present l.to)) a)
+    (filter (λ (l : LinkValue). not (present l.to)) b)
 
 -- one more object is taken in
-pub leads_more : (w : ℤ) (shown : List ℕ) (g h : Gathering) (k : KeyName) (o : ObjectValue) (left whole : List Entry) → InOrder whole → Leads w shown g ((k, o) ∷ left) whole
+pub leads_more : (w : ℤ) (shown : List ℕ) (g h : Gathering) (k : KeyName)
+    (o : ObjectValue) (left whole : List Entry) → InOrder whole → Leads w shown g ((k, o) ∷ left) whole
     → h.found.items ≡ g.found.items ++ own_findings w shown k o → h.met.keys ≡ insert_key key_cmp g.met.keys k
-    → h.waiting.items ≡ g.waiting.items ++ filter (λ l. not (sorted.contains key_cmp g.met l.to)) (links_of k o) → Leads w shown h left whole
+    → h.waiting.items ≡ g.waiting.items ++ filter (λ l. not (sorted.contains key_cmp g.met l.to))
+    (links_of k o) → Leads w shown h left whole
 leads_more w shown g h k o left whole ordered leads found met waiting =
-    let last : h.met.keys ≡ g.met.keys ++ k ∷ [] = met ∙ put_last g.met.keys (keys_of left) k (subst (IsStrictlySortedBy key_cmp) (sym leads.met) ordered) in
-    let grown : (q : KeyName) → sorted.contains key_cmp g.met q ≡ true → sorted.contains key_cmp h.met q ≡ true =
+    let last : h.met.keys ≡ g.met.keys ++ k ∷ [] = met ∙ put_last
+    g.met.keys (keys_of left) k (subst (IsStrictlySortedBy key_cmp) (sym leads.met) ordered) in
+    let grown : (q : KeyName)
+    → sorted.contains key_cmp g.met q ≡ true → sorted.contains key_cmp h.met q ≡ true =
     λ q has. ap (list_any (λ y. key_eq q y)) last ∙ still_any (λ y. key_eq q y) g.met.keys (k ∷ []) has in
     record {
       found = front_added _ _ _ _ _ _ refl leads.found found;
       met = front_added _ _ _ _ _ _ refl leads.met last;
       waiting = λ present covers.
-          let were : (l : LinkValue) → not (sorted.contains key_cmp g.met l.to) ≡ false → not (present l.to) ≡ false =
+          let were : (l : LinkValue)
+          → not (sorted.contains key_cmp g.met l.to) ≡ false → not (present l.to) ≡ false =
           λ l. not_true (sorted.contains key_cmp g.met l.to) (present l.to) (λ has. covers l.to (grown l.to has)) in
-          let kept : link_findings present h.waiting.items ≡ link_findings present g.waiting.items ++ link_findings present (links_of k o) =
+          let kept : link_findings present h.waiting.items
+          ≡ link_findings present g.waiting.items ++ link_findings present (links_of k o) =
           ap (link_findings present) waiting
-          ∙ link_findings-append present g.waiting.items (filter (λ l. not (sorted.contains key_cmp g.met l.to)) (links_of k o))
+          ∙ link_findings-append present
+          g.waiting.items (filter (λ l. not (sorted.contains key_cmp g.met l.to)) (links_of k o))
           ∙ ap (λ (ls : List LinkValue). link_findings present g.waiting.items ++ map missing_target ls)
-          (chosen_twice (λ (l : LinkValue). not (present l.to)) (λ (l : LinkValue). not (sorted.contains key_cmp g.met l.to)) (links_of k o) were) in
-          front_added _ _ _ _ _ _ (link_findings-append present (links_of k o) (all_links left)) (leads.waiting present (λ q has. covers q (grown q has))) kept;
+          (chosen_twice (λ (l : LinkValue). not (present l.to))
+          (λ (l : LinkValue). not (sorted.contains key_cmp g.met l.to)) (links_of k o) were) in
+          front_added _ _ _ _ _ _ (link_findings-append present (links_of k o) (all_links left))
+          (leads.waiting present (λ q has. covers q (grown q has))) kept;
     }
 
 -- what is found of objects by themselves and then of all links is what is found of one object after
@@ -103,7 +123,9 @@ module _ (present : KeyName → Bool) (w : ℤ) (shown : List ℕ) where
   abbrev lost : LinkValue → Bool
   lost l = not (present l.to)
 
-  to_each : (es : List Entry) (f : FindingValue) → Contains (flat_map own es ++ link_findings present (all_links es)) f → Contains (flat_map (object_findings present w shown) es) f
+  to_each : (es : List Entry) (f : FindingValue)
+      → Contains (flat_map own es ++ link_findings present (all_links es)) f
+      → Contains (flat_map (object_findings present w shown) es) f
   to_each es f h = elim (Contains-append_cases (flat_map own es) (link_findings present (all_links es)) f h) [
     | inl a ↦
         let r = from_pieces own es f a in
@@ -113,25 +135,34 @@ module _ (present : KeyName → Bool) (w : ℤ) (shown : List ℕ) where
         let e = from_pieces (λ (e : Entry). links_of e.0 e.1) es r.0 r.1 in
         let one = in_chosen lost missing_target (links_of e.0.0 e.0.1) r.0 e.2 r.2 in
         in_pieces (object_findings present w shown) es e.0 f e.1
-        (Contains-append_left (linked e.0) (own e.0) f (subst (λ (x : FindingValue). Contains (linked e.0) x) (sym r.3) one))
+        (Contains-append_left (linked e.0)
+        (own e.0) f (subst (λ (x : FindingValue). Contains (linked e.0) x) (sym r.3) one))
   ]
 
-  from_each : (es : List Entry) (f : FindingValue) → Contains (flat_map (object_findings present w shown) es) f → Contains (flat_map own es ++ link_findings present (all_links es)) f
+  from_each : (es : List Entry) (f : FindingValue)
+      → Contains (flat_map (object_findings present w shown) es) f
+      → Contains (flat_map own es ++ link_findings present (all_links es)) f
   from_each es f h =
       let (e, has, of_one) = from_pieces (object_findings present w shown) es f h in
       elim (Contains-append_cases (linked e) (own e) f of_one) [
         | inl a ↦
             let r = from_chosen lost missing_target (links_of e.0 e.1) f a in
-            let one = in_chosen lost missing_target (all_links es) r.0 (in_pieces (λ (x : Entry). links_of x.0 x.1) es e r.0 has r.1) r.2 in
-            Contains-append_right (flat_map own es) (link_findings present (all_links es)) f (subst (λ (x : FindingValue). Contains (link_findings present (all_links es)) x) (sym r.3) one)
-        | inr b ↦ Contains-append_left (flat_map own es) (link_findings present (all_links es)) f (in_pieces own es e f has b)
+            let one = in_chosen lost missing_target (all_links es)
+            r.0 (in_pieces (λ (x : Entry). links_of x.0 x.1) es e r.0 has r.1) r.2 in
+            Contains-append_right (flat_map own es) (link_findings present (all_links es)) f (subst
+            (λ (x : FindingValue). Contains (link_findings present (all_links es)) x) (sym r.3) one)
+        | inr b ↦ Contains-append_left (flat_map own es)
+            (link_findings present (all_links es)) f (in_pieces own es e f has b)
       ]
 
 -- what is gathered of these entries
 abbrev walked : List Entry → ℤ → List (Kind × ℕ) → List FindingValue
-walked es w counts = (flat_map (λ e. own_findings w (printed w) e.0 e.1) es ++ link_findings (is_present es) (all_links es)) ++ flat_map (count_findings (keys_of es)) counts
+walked es w counts = (flat_map (λ e. own_findings w (printed w) e.0 e.1) es
+    ++ link_findings (is_present es) (all_links es)) ++ flat_map (count_findings (keys_of es)) counts
 
-walked_are : (es : List Entry) (w : ℤ) (counts : List (Kind × ℕ)) → IsDistinct key_eq (keys_of es) → (f : FindingValue) → Contains (walked es w counts) f ↔ IsFinding (content_of_entries es) w counts f
+walked_are : (es : List Entry) (w : ℤ) (counts : List (Kind × ℕ))
+    → IsDistinct key_eq (keys_of es) → (f : FindingValue)
+    → Contains (walked es w counts) f ↔ IsFinding (content_of_entries es) w counts f
 walked_are es w counts apart f = (
   λ h. to_findings es w counts apart f (of_each.1 (of_first.0 h)),
   λ h. of_first.1 (of_each.0 (from_findings es w counts apart f h)),
@@ -148,24 +179,35 @@ walked_are es w counts apart f = (
 
     -- either list holds what is in `each` or in `last`
     of_first : Contains (first ++ last) f ↔ (Contains each f ⊎ Contains last f)
-    of_first = appended first last f (to_each (is_present es) w (printed w) es f, from_each (is_present es) w (printed w) es f) (λ h. h, λ h. h)
+    of_first = appended first last f (
+      to_each (is_present es) w (printed w) es f,
+      from_each (is_present es) w (printed w) es f,
+    ) (λ h. h, λ h. h)
 
     of_each : Contains (each ++ last) f ↔ (Contains each f ⊎ Contains last f)
     of_each = appended each last f (λ h. h, λ h. h) (λ h. h, λ h. h)
 
 -- at the end of the walk
-pub gathered_all : (w : ℤ) (g : Gathering) (es : List Entry) (counts : List (Kind × ℕ)) → Leads w (printed w) g [] es
-    → (g.found.items ++ map missing_target (filter (λ l. not (sorted.contains key_cmp g.met l.to)) g.waiting.items)) ++ flat_map (count_findings g.met.keys) counts ≡ walked es w counts
+pub gathered_all : (w : ℤ) (g : Gathering) (es : List Entry) (counts : List (Kind × ℕ))
+    → Leads w (printed w) g [] es
+    → (g.found.items ++ map missing_target (filter (λ l. not (sorted.contains key_cmp g.met l.to))
+    g.waiting.items)) ++ flat_map (count_findings g.met.keys) counts ≡ walked es w counts
 gathered_all w g es counts leads =
     let keys : g.met.keys ≡ keys_of es = sym (append-nil _) ∙ leads.met in
     let own = sym (append-nil _) ∙ leads.found in
-    let met : sorted.contains key_cmp g.met ≡ is_present es = λ i q. (ap (list_any (λ y. key_eq q y)) keys ∙ sym (is_some-lookup (key_eq q) es)) i in
-    let links = sym (append-nil _) ∙ leads.waiting (sorted.contains key_cmp g.met) (λ q has. has) ∙ ap (λ (p : KeyName → Bool). link_findings p (all_links es)) met in
+    let met : sorted.contains key_cmp g.met ≡ is_present es =
+    λ i q. (ap (list_any (λ y. key_eq q y)) keys ∙ sym (is_some-lookup (key_eq q) es)) i in
+    let links = sym (append-nil _) ∙ leads.waiting (sorted.contains key_cmp g.met) (λ q has. has)
+    ∙ ap (λ (p : KeyName → Bool). link_findings p (all_links es)) met in
     λ i. (own i ++ links i) ++ flat_map (count_findings (keys i)) counts
 
-pub walked_found : (w : ℤ) (g : Gathering) (es : List Entry) (counts : List (Kind × ℕ)) (found v : List FindingValue) → InOrder es → Leads w (printed w) g [] es
-    → found ≡ (g.found.items ++ map missing_target (filter (λ l. not (sorted.contains key_cmp g.met l.to)) g.waiting.items)) ++ flat_map (count_findings g.met.keys) counts
-    → ((f : FindingValue) → Contains v f ↔ Contains found f) → (f : FindingValue) → Contains v f ↔ IsFinding (content_of_entries es) w counts f
+pub walked_found : (w : ℤ) (g : Gathering) (es : List Entry)
+    (counts : List (Kind × ℕ)) (found v : List FindingValue) → InOrder es → Leads w (printed w) g [] es
+    → found ≡ (g.found.items
+    ++ map missing_target (filter (λ l. not (sorted.contains key_cmp g.met l.to)) g.waiting.items))
+    ++ flat_map (count_findings g.met.keys) counts
+    → ((f : FindingValue) → Contains v f ↔ Contains found f)
+    → (f : FindingValue) → Contains v f ↔ IsFinding (content_of_entries es) w counts f
 walked_found w g es counts found v ordered leads is same f =
     let apart = IsDistinct-from_sorted key_cmp (keys_of es) ordered in
     let all = is ∙ gathered_all w g es counts leads in

@@ -1,6 +1,7 @@
 -- What a walk over the objects gathers, with repeats, as lists. The crate's own functions return
 -- these to one another; `Findings` alone says what `verify` returns.
-use Rattle.std.specs.Prelude.{◌≡◌, ℕ, ℤ, int_lt, ◌==◌, Bool, true, false, not, ◌&&◌, if◌then◌else◌}
+use Rattle.std.specs.Prelude.{◌≡◌, ℕ, ℤ, int_lt, ◌==◌, Bool, true, false, not, ◌&&◌}
+use Rattle.std.specs.Prelude.{if◌then◌else◌}
 use Rattle.std.specs.Prelude.{List, [], ◌∷◌, ◌++◌, map, filter, count_by, Option, Some, None}
 use Rattle.std.specs.Prelude.{is_some, codes}
 use Rattle.std.specs.List.{flat_map, list_any}

@@ -29,13 +29,17 @@ line_same [] = refl
 line_same (field ∷ []) = rw (field_same field, fields_same []) refl
 line_same (field ∷ next ∷ rest) = rw (field_same field, fields_same (next ∷ rest)) refl
 
-line_read : (fields : Line) (tail : List ℕ) → records_at st.StartRecord (line_text fields ++ tail) ≡ read_back fields ∷ records_at st.StartRecord tail
-line_read fields tail = rw (line_same fields) (one_less st.StartRecord _ (read_back fields, st.StartRecord, tail) refl (read-write fields tail))
+line_read : (fields : Line) (tail : List ℕ) → records_at st.StartRecord (line_text fields ++ tail)
+    ≡ read_back fields ∷ records_at st.StartRecord tail
+line_read fields tail = rw (line_same fields)
+    (one_less st.StartRecord _ (read_back fields, st.StartRecord, tail) refl (read-write fields tail))
 
 lines_read : (lines : List Line) → records_at st.StartRecord (text_of lines) ≡ map read_back lines
 unfolding next_record
 lines_read [] = none_left st.StartRecord [] refl
-lines_read (fields ∷ rest) = line_read fields (text_of rest) ∙ ap (λ (records : List Line). read_back fields ∷ records) (lines_read rest)
+lines_read (fields ∷ rest) = line_read fields (text_of rest)
+    ∙ ap (λ (records : List Line). read_back fields ∷ records) (lines_read rest)
 
-pub read_back_whole : (lines : List Line) → IsUnmarked (text_of lines) → records_of (text_of lines) ≡ map read_back lines
+pub read_back_whole : (lines : List Line)
+    → IsUnmarked (text_of lines) → records_of (text_of lines) ≡ map read_back lines
 read_back_whole lines unmarked = ap (records_at st.StartRecord) unmarked ∙ lines_read lines

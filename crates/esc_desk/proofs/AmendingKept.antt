@@ -1,6 +1,8 @@
 -- What a store keeps after parked bodies became those of their rows or were let go.
-use Rattle.std.proofs.Common.{◌≡◌, ◌⊎◌, inl, inr, ℕ, ◌+◌, ◌-◌, ◌<◌, ◌≤◌, Bool, true, false, cond, ◌==◌, ◌&&◌, not, nat_lt}
-use Rattle.std.proofs.Common.{List, [], ◌∷◌, length, filter, Option, Some, None, is_some, refl, sym, ap, ap₂, subst, ◌∙◌, arith, true≢false}
+use Rattle.std.proofs.Common.{◌≡◌, ◌⊎◌, inl, inr, ℕ, ◌+◌, ◌-◌, ◌<◌, ◌≤◌, Bool, true}
+use Rattle.std.proofs.Common.{false, cond, ◌==◌, ◌&&◌, not, nat_lt}
+use Rattle.std.proofs.Common.{List, [], ◌∷◌, length, filter, Option, Some, None, is_some, refl, sym, ap}
+use Rattle.std.proofs.Common.{ap₂, subst, ◌∙◌, arith, true≢false}
 use Rattle.std.specs.List.{Contains}
 use Rattle.std.specs.Str.{bytes_eq}
 use Rattle.std.specs.Cmp.Lexicographic.{bytes_decides}
@@ -42,20 +44,23 @@ contains_of (r ∷ rows) q (inr there) = later r q rows (contains_of rows q ther
 -- a number that passes is among those that do, and each of those passes
 module _ (p : ℕ → Bool) (first count q : ℕ) where
   in_passing : first ≤ q → q < first + count → p q ≡ true → Among (filter p (numbers_from first count)) q
-  in_passing le lt is = among_of (filter p (numbers_from first count)) q (in_filter p (numbers_from first count) q (in_numbers first count q le lt) is)
+  in_passing le lt is = among_of (filter p (numbers_from first count))
+      q (in_filter p (numbers_from first count) q (in_numbers first count q le lt) is)
 
   of_passing : Among (filter p (numbers_from first count)) q → (first ≤ q) × (q < first + count) × (p q ≡ true)
   of_passing among =
       let numbers = numbers_from first count in
       let there = contains_of (filter p numbers) q among in
-      let at = All-contains (IsWithin first count) (filter p numbers) q (All-filter p (IsWithin first count) numbers (numbers_within first count)) there in
+      let at = All-contains (IsWithin first count) (filter p numbers)
+      q (All-filter p (IsWithin first count) numbers (numbers_within first count)) there in
       (at.0, at.1, All-contains (λ r. p r ≡ true) (filter p numbers) q (filter_passes p numbers) there)
 
 -- ---- what stays
 
 -- the rows, the receipts, the moment, the chain and its tables stay
 abbrev pub StayBesides : StoreState → StoreState → Type 0
-StayBesides k l = (l.listed ≡ k.listed) × (l.receipts ≡ k.receipts) × (l.moment ≡ k.moment) × (l.steps ≡ k.steps) × (l.registry ≡ k.registry)
+StayBesides k l = (l.listed ≡ k.listed) × (l.receipts ≡ k.receipts)
+    × (l.moment ≡ k.moment) × (l.steps ≡ k.steps) × (l.registry ≡ k.registry)
 
 stay_then : (a b c : StoreState) → StayBesides a b → StayBesides b c → StayBesides a c
 stay_then a b c p q = (q.0 ∙ p.0, q.1 ∙ p.1, q.2 ∙ p.2, q.3 ∙ p.3, q.4 ∙ p.4)
@@ -74,7 +79,8 @@ module _ (n : List MRow) where
 
   pub adopted_stay : (k : StoreState) (rows : List ℕ) → StayBesides k (with_all_adopted n k rows)
   adopted_stay k [] = (refl, refl, refl, refl, refl)
-  adopted_stay k (r ∷ rows) = stay_then k (adopt k r) (with_all_adopted n (adopt k r) rows) (one_stays k r (digest_at r) (k.parked (digest_at r))) (adopted_stay (adopt k r) rows)
+  adopted_stay k (r ∷ rows) = stay_then k (adopt k r) (with_all_adopted n (adopt k r) rows)
+      (one_stays k r (digest_at r) (k.parked (digest_at r))) (adopted_stay (adopt k r) rows)
 
   pub dropped_stay : (k : StoreState) (rows : List ℕ) → StayBesides k (with_all_dropped n k rows)
   dropped_stay k [] = (refl, refl, refl, refl, refl)
@@ -91,11 +97,13 @@ module _ (n : List MRow) where
   gone parked [] d = parked d
   gone parked (r ∷ rows) d = gone (parked_put parked (digest_at r) None) rows d
 
-  dropped_gone : (k : StoreState) (rows : List ℕ) (d : List ℕ) → (with_all_dropped n k rows).parked d ≡ gone k.parked rows d
+  dropped_gone : (k : StoreState) (rows : List ℕ) (d : List ℕ)
+      → (with_all_dropped n k rows).parked d ≡ gone k.parked rows d
   dropped_gone k [] d = refl
   dropped_gone k (r ∷ rows) d = dropped_gone (with_parked k (digest_at r) None) rows d
 
-  one_gone : (k : StoreState) (r : ℕ) (d : List ℕ) (o : Option (List ℕ)) → k.parked d ≡ o → (x : List ℕ) → (with_adopted k r d o).parked x ≡ parked_put k.parked d None x
+  one_gone : (k : StoreState) (r : ℕ) (d : List ℕ) (o : Option (List ℕ))
+      → k.parked d ≡ o → (x : List ℕ) → (with_adopted k r d o).parked x ≡ parked_put k.parked d None x
   one_gone k r d (Some body) is x = refl
   one_gone k r d None is x = by_test (bytes_eq d x) refl
     where
@@ -103,33 +111,43 @@ module _ (n : List MRow) where
       by_test true same = ap k.parked (sym ((bytes_decides d x).0 same)) ∙ is
       by_test false other = refl
 
-  adopted_gone : (k : StoreState) (rows : List ℕ) (d : List ℕ) → (with_all_adopted n k rows).parked d ≡ gone k.parked rows d
+  adopted_gone : (k : StoreState) (rows : List ℕ) (d : List ℕ)
+      → (with_all_adopted n k rows).parked d ≡ gone k.parked rows d
   adopted_gone k [] d = refl
   adopted_gone k (r ∷ rows) d =
-      let one : (adopt k r).parked ≡ parked_put k.parked (digest_at r) None = λ i x. one_gone k r (digest_at r) (k.parked (digest_at r)) refl x i in
+      let one : (adopt k r).parked ≡ parked_put k.parked (digest_at r) None =
+      λ i x. one_gone k r (digest_at r) (k.parked (digest_at r)) refl x i in
       adopted_gone (adopt k r) rows d ∙ ap (λ (g : List ℕ → Option (List ℕ)). gone g rows d) one
 
   -- under a digest that none of the rows has, it stays
-  gone_others : (parked : List ℕ → Option (List ℕ)) (rows : List ℕ) (d : List ℕ) → ((r : ℕ) → Among rows r → bytes_eq (digest_at r) d ≡ false) → gone parked rows d ≡ parked d
+  gone_others : (parked : List ℕ → Option (List ℕ)) (rows : List ℕ) (d : List ℕ)
+      → ((r : ℕ) → Among rows r → bytes_eq (digest_at r) d ≡ false) → gone parked rows d ≡ parked d
   gone_others parked [] d others = refl
   gone_others parked (r ∷ rows) d others =
       gone_others (parked_put parked (digest_at r) None) rows d (λ s there. others s (inr there))
       ∙ ap (λ (t : Bool). cond t None (parked d)) (others r (inl refl))
 
-  gone_none : (parked : List ℕ → Option (List ℕ)) (rows : List ℕ) (d : List ℕ) → parked d ≡ None → gone parked rows d ≡ None
+  gone_none : (parked : List ℕ → Option (List ℕ)) (rows : List ℕ) (d : List ℕ)
+      → parked d ≡ None → gone parked rows d ≡ None
   gone_none parked [] d none = none
-  gone_none parked (r ∷ rows) d none = gone_none (parked_put parked (digest_at r) None) rows d (none_both (bytes_eq (digest_at r) d) (parked d) none)
+  gone_none parked (r ∷ rows) d none = gone_none (parked_put parked (digest_at r) None)
+      rows d (none_both (bytes_eq (digest_at r) d) (parked d) none)
 
-  gone_here : (parked : List ℕ → Option (List ℕ)) (rows : List ℕ) (q : ℕ) → Among rows q → gone parked rows (digest_at q) ≡ None
+  gone_here : (parked : List ℕ → Option (List ℕ)) (rows : List ℕ) (q : ℕ)
+      → Among rows q → gone parked rows (digest_at q) ≡ None
   gone_here parked [] q there = absurd there
   gone_here parked (r ∷ rows) q (inl is) =
-      let same : bytes_eq (digest_at r) (digest_at q) ≡ true = (bytes_decides (digest_at r) (digest_at q)).1 (ap digest_at (sym is)) in
-      gone_none (parked_put parked (digest_at r) None) rows (digest_at q) (ap (λ (t : Bool). cond t None (parked (digest_at q))) same)
+      let same : bytes_eq (digest_at r) (digest_at q) ≡ true =
+      (bytes_decides (digest_at r) (digest_at q)).1 (ap digest_at (sym is)) in
+      gone_none (parked_put parked (digest_at r) None) rows (digest_at q)
+      (ap (λ (t : Bool). cond t None (parked (digest_at q))) same)
   gone_here parked (r ∷ rows) q (inr there) = gone_here (parked_put parked (digest_at r) None) rows q there
 
-  gone_some : (parked : List ℕ → Option (List ℕ)) (rows : List ℕ) (d body : List ℕ) → gone parked rows d ≡ Some body → parked d ≡ Some body
+  gone_some : (parked : List ℕ → Option (List ℕ)) (rows : List ℕ) (d body : List ℕ)
+      → gone parked rows d ≡ Some body → parked d ≡ Some body
   gone_some parked [] d body is = is
-  gone_some parked (r ∷ rows) d body is = by_test (bytes_eq (digest_at r) d) (gone_some (parked_put parked (digest_at r) None) rows d body is)
+  gone_some parked (r ∷ rows) d body is = by_test (bytes_eq (digest_at r) d)
+      (gone_some (parked_put parked (digest_at r) None) rows d body is)
     where
       by_test : (t : Bool) → cond t None (parked d) ≡ Some body → parked d ≡ Some body
       by_test true e = absurd (none-some _ e)
@@ -137,37 +155,45 @@ module _ (n : List MRow) where
 
   -- ---- bodies
 
-  one_body : (k : StoreState) (r : ℕ) (d : List ℕ) (o : Option (List ℕ)) (q : ℕ) → (q == r) ≡ false → (with_adopted k r d o).bodies q ≡ k.bodies q
+  one_body : (k : StoreState) (r : ℕ) (d : List ℕ) (o : Option (List ℕ)) (q : ℕ)
+      → (q == r) ≡ false → (with_adopted k r d o).bodies q ≡ k.bodies q
   one_body k r d None q other = refl
   one_body k r d (Some body) q other = ap (λ (t : Bool). cond t (Some body) (k.bodies q)) other
 
-  adopted_others : (k : StoreState) (rows : List ℕ) (q : ℕ) → ((r : ℕ) → Among rows r → (q == r) ≡ false) → (with_all_adopted n k rows).bodies q ≡ k.bodies q
+  adopted_others : (k : StoreState) (rows : List ℕ) (q : ℕ)
+      → ((r : ℕ) → Among rows r → (q == r) ≡ false) → (with_all_adopted n k rows).bodies q ≡ k.bodies q
   adopted_others k [] q others = refl
   adopted_others k (r ∷ rows) q others =
       adopted_others (adopt k r) rows q (λ s there. others s (inr there))
       ∙ one_body k r (digest_at r) (k.parked (digest_at r)) q (others r (inl refl))
 
-  adopted_here : (okn : IsAccepted n) (k : StoreState) (rows : List ℕ) → IsRising rows → ((r : ℕ) → Among rows r → r < length n)
-      → (q : ℕ) (body : List ℕ) → Among rows q → k.parked (digest_at q) ≡ Some body → (with_all_adopted n k rows).bodies q ≡ Some body
+  adopted_here : (okn : IsAccepted n) (k : StoreState) (rows : List ℕ)
+      → IsRising rows → ((r : ℕ) → Among rows r → r < length n)
+      → (q : ℕ) (body : List ℕ) → Among rows q
+      → k.parked (digest_at q) ≡ Some body → (with_all_adopted n k rows).bodies q ≡ Some body
   adopted_here okn k [] rises few q body there parked = absurd there
   adopted_here okn k (r ∷ rows) rises few q body (inl is) parked =
       adopted_others (adopt k r) rows q later
-      ∙ ap (λ (o : Option (List ℕ)). (with_adopted k r (digest_at r) o).bodies q) (ap (λ (s : ℕ). k.parked (digest_at s)) (sym is) ∙ parked)
+      ∙ ap (λ (o : Option (List ℕ)). (with_adopted k r (digest_at r) o).bodies q)
+      (ap (λ (s : ℕ). k.parked (digest_at s)) (sym is) ∙ parked)
       ∙ ap (λ (t : Bool). cond t (Some body) (k.bodies q)) same
     where
       same : (q == r) ≡ true
       same = grind (arith, nat_tests, is)
 
       later : (s : ℕ) → Among rows s → (q == s) ≡ false
-      later s there = let at : r < s = All-contains (λ m. r < m) rows s rises.0 (contains_of rows s there) in grind (arith, nat_tests, is, at)
+      later s there = let at : r < s = All-contains (λ m. r < m)
+          rows s rises.0 (contains_of rows s there) in grind (arith, nat_tests, is, at)
   adopted_here okn k (r ∷ rows) rises few q body (inr there) parked =
       adopted_here okn (adopt k r) rows rises.1 (λ s t. few s (inr t)) q body there
       (one_gone k r (digest_at r) (k.parked (digest_at r)) refl (digest_at q)
-      ∙ ap (λ (t : Bool). cond t None (k.parked (digest_at q))) (false_from_ne_true (bytes_eq (digest_at r) (digest_at q)) other) ∙ parked)
+      ∙ ap (λ (t : Bool). cond t None (k.parked (digest_at q)))
+      (false_from_ne_true (bytes_eq (digest_at r) (digest_at q)) other) ∙ parked)
     where
       other : bytes_eq (digest_at r) (digest_at q) ≡ true → ⊥
       other same =
-          let one : r ≡ q = okn.one_digest r q (few r (inl refl)) (few q (inr there)) ((bytes_decides (digest_at r) (digest_at q)).0 same) in
+          let one : r ≡ q = okn.one_digest r q (few r (inl refl))
+          (few q (inr there)) ((bytes_decides (digest_at r) (digest_at q)).0 same) in
           let at : r < q = All-contains (λ m. r < m) rows q rises.0 (contains_of rows q there) in
           omega (arith, one, at)
 
@@ -191,12 +217,15 @@ module _ (n : List MRow) (okn : IsAccepted n) (k : StoreState) (from : ℕ) (le 
   last = with_all_dropped n (with_all_adopted n (with_listed k n) adopted) dropped
 
   pub rest_stays : StayBesides (with_listed k n) last
-  rest_stays = stay_then rows_listed bodies_held last (adopted_stay n rows_listed adopted) (dropped_stay n bodies_held dropped)
+  rest_stays = stay_then rows_listed bodies_held last (adopted_stay n rows_listed adopted)
+      (dropped_stay n bodies_held dropped)
 
-  of_rows : (p : ℕ → Bool) (q : ℕ) → Among (filter p (numbers_from from (length n - from))) q → (from ≤ q) × (q < length n) × (p q ≡ true)
+  of_rows : (p : ℕ → Bool) (q : ℕ) → Among (filter p (numbers_from from (length n - from))) q
+      → (from ≤ q) × (q < length n) × (p q ≡ true)
   of_rows p q there = let x = of_passing p from (length n - from) q there in (x.0, omega (arith, x.1, le), x.2)
 
-  in_rows : (p : ℕ → Bool) (q : ℕ) → from ≤ q → q < length n → p q ≡ true → Among (filter p (numbers_from from (length n - from))) q
+  in_rows : (p : ℕ → Bool) (q : ℕ)
+      → from ≤ q → q < length n → p q ≡ true → Among (filter p (numbers_from from (length n - from))) q
   in_rows p q new lt is = in_passing p from (length n - from) q new (omega (arith, lt, new, le)) is
 
   -- ---- parked
@@ -207,18 +236,22 @@ module _ (n : List MRow) (okn : IsAccepted n) (k : StoreState) (from : ℕ) (le 
       dropped_gone n bodies_held dropped d ∙ ap (λ (g : List ℕ → Option (List ℕ)). gone n g dropped d) one
 
   pub parked_was : (d body : List ℕ) → last.parked d ≡ Some body → k.parked d ≡ Some body
-  parked_was d body is = gone_some n k.parked adopted d body (gone_some n (gone n k.parked adopted) dropped d body (sym (parked_of d) ∙ is))
+  parked_was d body is = gone_some n k.parked
+      adopted d body (gone_some n (gone n k.parked adopted) dropped d body (sym (parked_of d) ∙ is))
 
-  pub parked_are : (d : List ℕ) → ((q : ℕ) → row_with_digest n d ≡ Some q → q < from → k.parked d ≡ None) → last.parked d ≡ still_parked n k.parked d
+  pub parked_are : (d : List ℕ) → ((q : ℕ) → row_with_digest n d ≡ Some q
+      → q < from → k.parked d ≡ None) → last.parked d ≡ still_parked n k.parked d
   parked_are d old = parked_of d ∙ by_row (row_with_digest n d) refl
     where
       none : k.parked d ≡ None → gone n (gone n k.parked adopted) dropped d ≡ None
       none is = gone_none n (gone n k.parked adopted) dropped d (gone_none n k.parked adopted d is)
 
       other : row_with_digest n d ≡ None → (s : ℕ) → s < length n → bytes_eq (digest_at n s) d ≡ false
-      other unlisted s lt = false_from_ne_true (bytes_eq (digest_at n s) d) (λ same. none-some _ (sym unlisted ∙ row_is okn lt ((bytes_decides (digest_at n s) d).0 same)))
+      other unlisted s lt = false_from_ne_true (bytes_eq (digest_at n s) d) (λ same. none-some
+          _ (sym unlisted ∙ row_is okn lt ((bytes_decides (digest_at n s) d).0 same)))
 
-      new : (q : ℕ) → row_with_digest n d ≡ Some q → from ≤ q → (o : Option (List ℕ)) → k.parked d ≡ o → gone n (gone n k.parked adopted) dropped d ≡ None
+      new : (q : ℕ) → row_with_digest n d ≡ Some q → from ≤ q
+          → (o : Option (List ℕ)) → k.parked d ≡ o → gone n (gone n k.parked adopted) dropped d ≡ None
       new q row far None is = none is
       new q row far (Some body) is = by_test (is_adopted n k.parked q) refl
         where
@@ -231,17 +264,23 @@ module _ (n : List MRow) (okn : IsAccepted n) (k : StoreState) (from : ℕ) (le 
           by_test : (t : Bool) → is_adopted n k.parked q ≡ t → gone n (gone n k.parked adopted) dropped d ≡ None
           by_test true passes =
               gone_none n (gone n k.parked adopted) dropped d
-              (subst (λ (x : List ℕ). gone n k.parked adopted x ≡ None) at.1 (gone_here n k.parked adopted q (in_rows (is_adopted n k.parked) q far at.0 passes)))
+              (subst (λ (x : List ℕ). gone n k.parked adopted x ≡ None) at.1
+              (gone_here n k.parked adopted q (in_rows (is_adopted n k.parked) q far at.0 passes)))
           by_test false fails =
               subst (λ (x : List ℕ). gone n (gone n k.parked adopted) dropped x ≡ None) at.1
-              (gone_here n (gone n k.parked adopted) dropped q (in_rows (is_dropped n k.parked) q far at.0 (ap₂ (λ (a b : Bool). a && not b) there fails)))
+              (gone_here n (gone n k.parked adopted) dropped q (in_rows (is_dropped n k.parked)
+              q far at.0 (ap₂ (λ (a b : Bool). a && not b) there fails)))
 
-      by_row : (o : Option ℕ) → row_with_digest n d ≡ o → gone n (gone n k.parked adopted) dropped d ≡ cond (is_some (row_with_digest n d)) None (k.parked d)
+      by_row : (o : Option ℕ) → row_with_digest n d ≡ o → gone n (gone n k.parked adopted) dropped d
+          ≡ cond (is_some (row_with_digest n d)) None (k.parked d)
       by_row None unlisted =
-          gone_others n (gone n k.parked adopted) dropped d (λ s there. other unlisted s (of_rows (is_dropped n k.parked) s there).1)
-          ∙ gone_others n k.parked adopted d (λ s there. other unlisted s (of_rows (is_adopted n k.parked) s there).1)
+          gone_others n (gone n k.parked adopted)
+          dropped d (λ s there. other unlisted s (of_rows (is_dropped n k.parked) s there).1)
+          ∙ gone_others n k.parked
+          adopted d (λ s there. other unlisted s (of_rows (is_adopted n k.parked) s there).1)
           ∙ sym (ap (λ (o : Option ℕ). cond (is_some o) None (k.parked d)) unlisted)
-      by_row (Some q) row = by_old (nat_lt q from) refl ∙ sym (ap (λ (o : Option ℕ). cond (is_some o) None (k.parked d)) row)
+      by_row (Some q) row = by_old (nat_lt q from) refl
+          ∙ sym (ap (λ (o : Option ℕ). cond (is_some o) None (k.parked d)) row)
         where
           by_old : (t : Bool) → nat_lt q from ≡ t → gone n (gone n k.parked adopted) dropped d ≡ None
           by_old true is = none (old q row (grind (arith, nat_tests, is)))
@@ -249,31 +288,40 @@ module _ (n : List MRow) (okn : IsAccepted n) (k : StoreState) (from : ℕ) (le 
 
   -- ---- bodies
 
-  pub bodies_are : ((r : ℕ) (body : List ℕ) → k.bodies r ≡ Some body → r < from) → (r : ℕ) → last.bodies r ≡ amended_bodies n k.parked from k.bodies r
+  pub bodies_are : ((r : ℕ) (body : List ℕ) → k.bodies r ≡ Some body → r < from)
+      → (r : ℕ) → last.bodies r ≡ amended_bodies n k.parked from k.bodies r
   bodies_are few r = dropped_bodies n bodies_held dropped r ∙ by_tests (nat_lt r from) refl (nat_lt r (length n)) refl
     where
       stays : ((s : ℕ) → Among adopted s → r ≡ s → ⊥) → bodies_held.bodies r ≡ k.bodies r
-      stays never = adopted_others n rows_listed adopted r (λ s there. false_from_ne_true (r == s) (λ same. never s there (eqb-true r s same)))
+      stays never = adopted_others n rows_listed
+          adopted r (λ s there. false_from_ne_true (r == s) (λ same. never s there (eqb-true r s same)))
 
       none : from ≤ r → (o : Option (List ℕ)) → k.bodies r ≡ o → o ≡ None
       none far None is = refl
       none far (Some body) is = absurd (let at = few r body is in omega (arith, at, far))
 
-      new : from ≤ r → r < length n → (o : Option (List ℕ)) → judged n r (k.parked (digest_at n r)) ≡ o → bodies_held.bodies r ≡ o
+      new : from ≤ r → r < length n
+          → (o : Option (List ℕ)) → judged n r (k.parked (digest_at n r)) ≡ o → bodies_held.bodies r ≡ o
       new far lt None miss = stays never ∙ none far (k.bodies r) refl
         where
           never : (s : ℕ) → Among adopted s → r ≡ s → ⊥
-          never s there same = true≢false (sym (of_rows (is_adopted n k.parked) s there).2 ∙ ap (is_adopted n k.parked) (sym same) ∙ ap (λ (o : Option (List ℕ)). is_some o) miss)
+          never s there same = true≢false (sym (of_rows (is_adopted n k.parked) s there).2
+              ∙ ap (is_adopted n k.parked) (sym same) ∙ ap (λ (o : Option (List ℕ)). is_some o) miss)
       new far lt (Some body) is =
-          adopted_here n okn rows_listed adopted (filter_rises (is_adopted n k.parked) (numbers_from from (length n - from)) (numbers_rise from (length n - from))) (λ s there. (of_rows (is_adopted n k.parked) s there).1) r body
-          (in_rows (is_adopted n k.parked) r far lt (ap (λ (o : Option (List ℕ)). is_some o) is)) (judged_some n r (k.parked (digest_at n r)) body is).0
+          adopted_here n okn rows_listed adopted (filter_rises (is_adopted n k.parked)
+          (numbers_from from (length n - from)) (numbers_rise from (length n - from)))
+          (λ s there. (of_rows (is_adopted n k.parked) s there).1) r body
+          (in_rows (is_adopted n k.parked) r far lt (ap (λ (o : Option (List ℕ)). is_some o) is))
+          (judged_some n r (k.parked (digest_at n r)) body is).0
 
       by_tests : (s : Bool) → nat_lt r from ≡ s → (t : Bool) → nat_lt r (length n) ≡ t
           → bodies_held.bodies r ≡ cond s (k.bodies r) (cond t (judged n r (k.parked (digest_at n r))) None)
       by_tests true is t lt =
           let old : r < from = grind (arith, nat_tests, is) in
           stays (λ s there same. let x = (of_rows (is_adopted n k.parked) s there).0 in omega (arith, x, old, same))
-      by_tests false is true lt = new (grind (arith, nat_tests, is)) (grind (arith, nat_tests, lt)) (judged n r (k.parked (digest_at n r))) refl
+      by_tests false is true lt = new (grind (arith, nat_tests, is))
+          (grind (arith, nat_tests, lt)) (judged n r (k.parked (digest_at n r))) refl
       by_tests false is false lt =
           let far : length n ≤ r = grind (arith, nat_tests, lt) in
-          stays (λ s there same. let x = (of_rows (is_adopted n k.parked) s there).1 in omega (arith, x, far, same)) ∙ none (omega (arith, far, le)) (k.bodies r) refl
+          stays (λ s there same. let x = (of_rows (is_adopted n k.parked) s there).1 in
+          omega (arith, x, far, same)) ∙ none (omega (arith, far, le)) (k.bodies r) refl

@@ -1,5 +1,6 @@
 -- A new store stands for its manifest; and what a manifest and arrivals leave.
-use Rattle.std.proofs.Common.{◌≡◌, ℕ, ℤ, Bool, true, false, cond, List, [], ◌∷◌, map, Option, None, refl, sym, ap, subst, ◌∙◌, arith, is_some, true≢false}
+use Rattle.std.proofs.Common.{◌≡◌, ℕ, ℤ, Bool, true, false, cond, List, [], ◌∷◌, map, Option, None}
+use Rattle.std.proofs.Common.{refl, sym, ap, subst, ◌∙◌, arith, is_some, true≢false}
 use Rattle.std.specs.FinSet as set
 use Rattle.std.specs.Ordering.{nat_cmp}
 use Rattle.std.proofs.lemmas.Option.{none-some}
@@ -70,11 +71,13 @@ left_by_arrivals m l k stood apart =
     let deposits = same_deposits k.bodies (held_body sha256 reading e) (stood.books.bodies apart) k.steps in
     record {
       listed = stood.books.listed ∙ union_then m l;
-      receipts = stood.books.receipts ∙ ap (λ (cs : List Coming). receipts_after sha256 reading [] (distinct sha256 reading cs)) (comings_then m l);
+      receipts = stood.books.receipts ∙ ap (λ (cs : List Coming). receipts_after
+          sha256 reading [] (distinct sha256 reading cs)) (comings_then m l);
       chain =
           subst (λ (t : Option ℤ). IsLatestChainAt m (rows m (came_with m l)) t k.steps) (no_moment m l)
           (subst (λ (cs : List Coming). IsLatestChainAt m (rows m cs) (last_moment e) k.steps) (counted_then m l)
-          (subst (λ (n : List MRow). IsLatestChainAt n (rows n (kept_arrivals sha256 reading e)) (last_moment e) k.steps) (union_then m l)
+          (subst (λ (n : List MRow). IsLatestChainAt n (rows n (kept_arrivals sha256 reading e))
+          (last_moment e) k.steps) (union_then m l)
           (chain_of e k stood apart)));
       registry = stood.registry ∙ ap (λ (ds : List DepositValue). chain_state ds) deposits;
     }

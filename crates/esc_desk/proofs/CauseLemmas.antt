@@ -1,5 +1,6 @@
 -- Why an arrival is lost, from one call to the next.
-use Rattle.std.proofs.Common.{◌≡◌, inl, inr, ℕ, List, Option, IsSome, Result, Err, IfErr, sym, ap, subst, ◌∙◌}
+use Rattle.std.proofs.Common.{◌≡◌, inl, inr, ℕ, List, Option, IsSome, Result, Err, IfErr, sym, ap}
+use Rattle.std.proofs.Common.{subst, ◌∙◌}
 use Rattle.sha2.specs.Sha256.{sha256}
 use Rattle.esc_tables.specs.Reading.{reading}
 use Rattle.esc_manifest.specs.declared.row.MRow.{MRow}
@@ -39,7 +40,10 @@ still_full same full = record {
   digests = full.digests;
   are = record {
     rising = full.are.rising;
-    each = λ d. (λ there. subst IsSome (same d) ((full.are.each d).0 there), λ some. (full.are.each d).1 (subst IsSome (sym (same d)) some));
+    each = λ d. (
+      λ there. subst IsSome (same d) ((full.are.each d).0 there),
+      λ some. (full.are.each d).1 (subst IsSome (sym (same d)) some),
+    );
   };
   many = full.many;
 }

@@ -20,5 +20,6 @@ all_count : (m : List MRow) (l : List ArrivalValue) → counting (map (coming m)
 all_count m [] = refl
 all_count m (a ∷ l) = ap (λ (cs : List Coming). coming m a ∷ cs) (all_count m l)
 
-pub counted_then : (m : List MRow) (l : List ArrivalValue) → kept_arrivals sha256 reading (manifest_then m l) ≡ map (coming m) l
+pub counted_then : (m : List MRow) (l : List ArrivalValue)
+    → kept_arrivals sha256 reading (manifest_then m l) ≡ map (coming m) l
 counted_then m l = ap counting (comings_then m l) ∙ all_count m l

@@ -12,11 +12,13 @@ pub adds_none : {a b : State} {P : Trees → Type 0} → Survives a b (λ _. ⊥
 adds_none {P = P} s = survives_weaker _ _ (λ _. ⊥) P (λ _ db none. absurd none) s
 
 -- first a call that added nothing, then this one
-pub adds_then : {a b c : State} {P : Trees → Type 0} → Survives a b (λ _. ⊥) → Survives b c P → Survives a c P
+pub adds_then : {a b c : State} {P : Trees → Type 0}
+    → Survives a b (λ _. ⊥) → Survives b c P → Survives a c P
 adds_then {P = P} s t = survives_then _ _ _ (λ _. ⊥) P P (λ _ db none. absurd none) (λ _ db h. h) s t
 
 module _ {S : Type 0} (g : Ghosts S) where
-  pub holds_when : (change : ChangeOf S) (tables : Tables) → (IsHonest g change.store.now → HasMadeTables g change tables) → HasMadeTables g change tables
+  pub holds_when : (change : ChangeOf S) (tables : Tables)
+      → (IsHonest g change.store.now → HasMadeTables g change tables) → HasMadeTables g change tables
   unfolding HasMadeTablesIn
   holds_when change tables h clean = h clean clean
 

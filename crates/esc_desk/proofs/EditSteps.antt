@@ -18,18 +18,30 @@ use Rattle.esc_desk.proofs.CrashSteps.{adds_then}
 
 module _ {S : Type 0} (g : Ghosts S) where
   -- why a change was refused, of which nothing is committed, is why the edit is
-  pub edit_fault : (old new : Store S) (a b : ChangeOf S) (r : Option ReceiptValue) (f : StoreFault) → (IsHonest g new → IsHonest g b.store.now) → ((k : StoreState) → Represents g old k → HasMadeBooks g a k k)
+  pub edit_fault : (old new : Store S) (a b : ChangeOf S) (r : Option ReceiptValue) (f : StoreFault)
+      → (IsHonest g new → IsHonest g b.store.now)
+      → ((k : StoreState) → Represents g old k → HasMadeBooks g a k k)
       → StoreLeavesNoMore g old new → IsFillFault g r a b f → IsEditFault g r old new f
   edit_fault old new a b None f was rest leaves fault = fault
   edit_fault old new a b (Some r) f was rest leaves (inl is) = inl is
-  edit_fault old new a b (Some r) f was rest leaves (inr full) = inr (full.0, record { full = λ clean k stood. full.1 (was clean) k k (rest k stood); leaves = leaves })
+  edit_fault old new a b (Some r) f was rest leaves (inr full) = inr (
+    full.0,
+    record { full = λ clean k stood. full.1 (was clean) k k (rest k stood); leaves = leaves },
+  )
 
   -- the same where the store was as before first
-  pub edit_fault_then : (old mid new : Store S) (r : Option ReceiptValue) (f : StoreFault) → IsAsBefore g old mid → IsEditFault g r mid new f → IsEditFault g r old new f
+  pub edit_fault_then : (old mid new : Store S) (r : Option ReceiptValue) (f : StoreFault)
+      → IsAsBefore g old mid → IsEditFault g r mid new f → IsEditFault g r old new f
   edit_fault_then old mid new None f same fault = fault
   edit_fault_then old mid new (Some r) f same (inl is) = inl is
   edit_fault_then old mid new (Some r) f same (inr none) =
-      inr (none.0, record { full = λ clean k stood. none.1.full clean k (same.stands k stood); leaves = adds_then same.survives none.1.leaves })
+      inr (
+        none.0,
+        record {
+          full = λ clean k stood. none.1.full clean k (same.stands k stood);
+          leaves = adds_then same.survives none.1.leaves;
+        },
+      )
 
 -- ---- the chain and its tables stay where the books are edited
 
@@ -52,8 +64,10 @@ stays_listed (Some l) k =
     let n = l.union in
     let first = with_all_adopted n (with_listed k n) l.judged.adopted.items in
     record {
-      steps = (dropped_stay n first l.judged.dropped.items).3 ∙ (adopted_stay n (with_listed k n) l.judged.adopted.items).3;
-      registry = (dropped_stay n first l.judged.dropped.items).4 ∙ (adopted_stay n (with_listed k n) l.judged.adopted.items).4;
+      steps = (dropped_stay n first l.judged.dropped.items).3
+          ∙ (adopted_stay n (with_listed k n) l.judged.adopted.items).3;
+      registry = (dropped_stay n first l.judged.dropped.items).4
+          ∙ (adopted_stay n (with_listed k n) l.judged.adopted.items).4;
     }
 
 -- a moment stays clear of the bodies
@@ -69,4 +83,5 @@ stays_put edit k =
     let a = receipted edit.receipt k in
     let b = listed_more edit.listing a in
     let c = stored edit.body b in
-    stays_then (stays_then (stays_then (stays_receipted edit.receipt k) (stays_listed edit.listing a)) (stays_stored edit.body b)) (stays_timed edit.moment c)
+    stays_then (stays_then (stays_then (stays_receipted edit.receipt k) (stays_listed edit.listing a))
+    (stays_stored edit.body b)) (stays_timed edit.moment c)

@@ -1,5 +1,7 @@
 -- Entries by key, each key once: what look-ups say of them.
-use Rattle.std.proofs.Common.{◌≡◌, ◌⊎◌, inl, inr, Bool, true, false, cond, List, [], ◌∷◌, ◌++◌, filter, Option, Some, None, refl, sym, ap, ap₂, subst, ◌∙◌, Ordering, Less, Equal, Greater}
+use Rattle.std.proofs.Common.{◌≡◌, ◌⊎◌, inl, inr, Bool, true, false, cond, List, [], ◌∷◌, ◌++◌}
+use Rattle.std.proofs.Common.{filter, Option, Some, None, refl, sym, ap, ap₂, subst, ◌∙◌, Ordering}
+use Rattle.std.proofs.Common.{Less, Equal, Greater}
 use Rattle.std.specs.List.{AllByRecursion}
 use Rattle.std.specs.List.Sorted.{IsStrictlySortedBy}
 use Rattle.std.specs.Map.{lookup, keys_of}
@@ -12,7 +14,8 @@ use Rattle.esc_tables.specs.ObjectValue.{ObjectValue}
 use Rattle.esc_apply.specs.ObjectStreams.{Entry, InOrder}
 use Rattle.esc_tables.specs.KeyLaws.{keys_total, keys_exact, key_itself, one_key as same_key}
 
-weaker : {X : Type 0} (P Q : X → Type 0) → ((x : X) → P x → Q x) → (xs : List X) → AllByRecursion P xs → AllByRecursion Q xs
+weaker : {X : Type 0} (P Q : X → Type 0)
+    → ((x : X) → P x → Q x) → (xs : List X) → AllByRecursion P xs → AllByRecursion Q xs
 weaker P Q f [] all = tt
 weaker P Q f (x ∷ xs) all = (f x all.0, weaker P Q f xs all.1)
 
@@ -27,7 +30,8 @@ abbrev pub Pass : (Entry → Bool) → List Entry → Type 0
 Pass p es = AllByRecursion (λ (e : Entry). p e ≡ true) es
 
 -- what passes a test passes a weaker one
-pub pass_too : (p q : Entry → Bool) → ((e : Entry) → p e ≡ true → q e ≡ true) → (es : List Entry) → Pass p es → Pass q es
+pub pass_too : (p q : Entry → Bool)
+    → ((e : Entry) → p e ≡ true → q e ≡ true) → (es : List Entry) → Pass p es → Pass q es
 pass_too p q f es all = weaker (λ (e : Entry). p e ≡ true) (λ (e : Entry). q e ≡ true) f es all
 
 -- each key is below those after it
@@ -35,11 +39,13 @@ abbrev pub Rises : List Entry → Type 0
 Rises [] = Unit {0}
 Rises (e ∷ es) = AreAbove e.0 es × Rises es
 
-mapped : (P : KeyName → Type 0) (es : List Entry) → AllByRecursion (λ (f : Entry). P f.0) es → AllByRecursion P (keys_of es)
+mapped : (P : KeyName → Type 0) (es : List Entry)
+    → AllByRecursion (λ (f : Entry). P f.0) es → AllByRecursion P (keys_of es)
 mapped P [] all = tt
 mapped P (e ∷ es) all = (all.0, mapped P es all.1)
 
-unmapped : (P : KeyName → Type 0) (es : List Entry) → AllByRecursion P (keys_of es) → AllByRecursion (λ (f : Entry). P f.0) es
+unmapped : (P : KeyName → Type 0) (es : List Entry)
+    → AllByRecursion P (keys_of es) → AllByRecursion (λ (f : Entry). P f.0) es
 unmapped P [] all = tt
 unmapped P (e ∷ es) all = (all.0, unmapped P es all.1)
 
@@ -56,7 +62,8 @@ rises (e ∷ es) up = (unmapped (λ k. key_cmp e.0 k ≡ Less) es up.0, rises es
 above-filter : (k : KeyName) (p : Entry → Bool) (es : List Entry) → AreAbove k es → AreAbove k (filter p es)
 above-filter k p es above =
     recursion_from_All (λ (f : Entry). key_cmp k f.0 ≡ Less) (filter p es)
-    (All-filter p (λ (f : Entry). key_cmp k f.0 ≡ Less) es (All-from_recursion (λ (f : Entry). key_cmp k f.0 ≡ Less) es above))
+    (All-filter p (λ (f : Entry). key_cmp k f.0 ≡ Less)
+    es (All-from_recursion (λ (f : Entry). key_cmp k f.0 ≡ Less) es above))
 
 pub rises-filter : (p : Entry → Bool) (es : List Entry) → Rises es → Rises (filter p es)
 rises-filter p [] up = tt
@@ -74,18 +81,22 @@ above-append k [] ys above then = then
 above-append k (a ∷ xs) ys above then = (above.0, above-append k xs ys above.1 then)
 
 -- entries and then others that come after each of them
-pub rises-append : (p q : Entry → Bool) → ((a b : Entry) → p a ≡ true → q b ≡ true → key_cmp a.0 b.0 ≡ Less) → (xs ys : List Entry)
+pub rises-append : (p q : Entry → Bool)
+    → ((a b : Entry) → p a ≡ true → q b ≡ true → key_cmp a.0 b.0 ≡ Less) → (xs ys : List Entry)
     → Rises xs → Rises ys → Pass p xs → Pass q ys → Rises (xs ++ ys)
 rises-append p q below [] ys up then ps qs = then
 rises-append p q below (a ∷ xs) ys up then ps qs =
-    let behind : AreAbove a.0 ys = weaker (λ (f : Entry). q f ≡ true) (λ (f : Entry). key_cmp a.0 f.0 ≡ Less) (λ f passes. below a f ps.0 passes) ys qs in
+    let behind : AreAbove a.0 ys = weaker (λ (f : Entry). q f ≡ true)
+    (λ (f : Entry). key_cmp a.0 f.0 ≡ Less) (λ f passes. below a f ps.0 passes) ys qs in
     (above-append a.0 xs ys up.0 behind, rises-append p q below xs ys up.1 then ps.1 qs)
 
 -- ---- look-ups
 
-pub lookup-append : (q : KeyName) (xs ys : List Entry) → lookup (key_eq q) (xs ++ ys) ≡ option_or (lookup (key_eq q) xs) (lookup (key_eq q) ys)
+pub lookup-append : (q : KeyName) (xs ys : List Entry)
+    → lookup (key_eq q) (xs ++ ys) ≡ option_or (lookup (key_eq q) xs) (lookup (key_eq q) ys)
 lookup-append q [] ys = refl
-lookup-append q (a ∷ xs) ys = elim (cases_Bool (key_eq q a.0)) [ inl is ↦ rw is refl | inr other ↦ rw other (lookup-append q xs ys) ]
+lookup-append q (a ∷ xs) ys = elim (cases_Bool (key_eq q a.0))
+    [ inl is ↦ rw is refl | inr other ↦ rw other (lookup-append q xs ys) ]
 
 abbrev pub is_found : List Entry → Entry → Bool
 is_found es e = is_some (lookup (key_eq e.0) es)
@@ -95,7 +106,8 @@ pub each_found : (es : List Entry) → Pass (is_found es) es
 each_found [] = tt
 each_found (e ∷ es) =
     let first : is_found (e ∷ es) e ≡ true = rw (key_itself e.0) refl in
-    let rest = pass_too (is_found es) (is_found (e ∷ es)) (λ f found. still (key_eq f.0 e.0) _ found) es (each_found es) in
+    let rest = pass_too (is_found es)
+    (is_found (e ∷ es)) (λ f found. still (key_eq f.0 e.0) _ found) es (each_found es) in
     (first, rest)
   where
     still : (b : Bool) (o : Option ObjectValue) → is_some o ≡ true → is_some (cond b (Some e.1) o) ≡ true
@@ -121,10 +133,12 @@ first_found e es = rw (key_itself e.0) refl
 abbrev SameLookups : List Entry → List Entry → Type 0
 SameLookups xs ys = (q : KeyName) → lookup (key_eq q) xs ≡ lookup (key_eq q) ys
 
-pub no_first : (e : Entry) (es : List Entry) (o : Option ObjectValue) → o ≡ None → lookup (key_eq e.0) (e ∷ es) ≡ o → ⊥
+pub no_first : (e : Entry) (es : List Entry) (o : Option ObjectValue)
+    → o ≡ None → lookup (key_eq e.0) (e ∷ es) ≡ o → ⊥
 no_first e es o none is = let never : Some e.1 ≡ None = sym (first_found e es) ∙ is ∙ none in absurd cc
 
-module _ (a b : Entry) (xs ys : List Entry) (all : AreAbove a.0 xs) (others : AreAbove b.0 ys) (same : SameLookups (a ∷ xs) (b ∷ ys)) where
+module _ (a b : Entry) (xs ys : List Entry)
+    (all : AreAbove a.0 xs) (others : AreAbove b.0 ys) (same : SameLookups (a ∷ xs) (b ∷ ys)) where
   one_key : key_cmp a.0 b.0 ≡ Equal
   one_key = by_order (key_cmp a.0 b.0) refl
     where
@@ -157,8 +171,10 @@ module _ (a b : Entry) (xs ys : List Entry) (all : AreAbove a.0 xs) (others : Ar
           none_above q xs (subst (λ (k : KeyName). AreAbove k xs) (sym here) all)
           ∙ sym (none_above q ys (subst (λ (k : KeyName). AreAbove k ys) (sym there) others))
       by_test (inr other) =
-          let another : key_eq q b.0 ≡ false = subst (λ (k : KeyName). key_eq q k ≡ false) (keys_exact a.0 b.0 one_key) other in
-          ap (λ t. cond t (Some a.1) (lookup (key_eq q) xs)) (sym other) ∙ same q ∙ ap (λ t. cond t (Some b.1) (lookup (key_eq q) ys)) another
+          let another : key_eq q b.0 ≡ false =
+          subst (λ (k : KeyName). key_eq q k ≡ false) (keys_exact a.0 b.0 one_key) other in
+          ap (λ t. cond t (Some a.1) (lookup (key_eq q) xs)) (sym other)
+          ∙ same q ∙ ap (λ t. cond t (Some b.1) (lookup (key_eq q) ys)) another
 
 -- entries in order that have the same look-ups are the same
 pub same_entries : (xs ys : List Entry) → Rises xs → Rises ys → SameLookups xs ys → xs ≡ ys

@@ -1,10 +1,13 @@
 -- More events, in what is listed, in the arrivals as they came, and in the moment that is set.
-use Rattle.std.proofs.Common.{◌≡◌, ℤ, not, List, [], ◌∷◌, ◌++◌, map, Option, None, refl, ap, ◌∙◌, append-nil}
+use Rattle.std.proofs.Common.{◌≡◌, ℤ, not, List, [], ◌∷◌, ◌++◌, map, Option, None, refl, ap}
+use Rattle.std.proofs.Common.{◌∙◌, append-nil}
 use Rattle.std.specs.Prelude.{filter}
 use Rattle.esc_manifest.specs.declared.row.MRow.{MRow}
 use Rattle.esc_manifest.specs.Extension.{is_listed, extended}
 use Rattle.esc_events.specs.ArrivalValue.{ArrivalValue}
-use Rattle.esc_events.specs.Events.{EventValue, Coming, union_after, union, coming, early_coming, comings_after, comings, arrival_of, arrivals, moment_after, last_moment, manifest_then}
+use Rattle.esc_events.specs.Events.{EventValue, Coming, union_after, union, coming, early_coming}
+use Rattle.esc_events.specs.Events.{comings_after, comings, arrival_of, arrivals, moment_after}
+use Rattle.esc_events.specs.Events.{last_moment, manifest_then}
 use Rattle.esc_events.specs.Events.EventValue.{listed, arrived, moved, arrived_early}
 
 -- ---- events, and then others
@@ -16,14 +19,16 @@ union_on m (arrived b ∷ e) f = union_on m e f
 union_on m (moved t ∷ e) f = union_on m e f
 union_on m (arrived_early b ∷ e) f = union_on m e f
 
-pub comings_on : (m : List MRow) (e f : List EventValue) → comings_after m (e ++ f) ≡ comings_after m e ++ comings_after (union_after m e) f
+pub comings_on : (m : List MRow) (e f : List EventValue)
+    → comings_after m (e ++ f) ≡ comings_after m e ++ comings_after (union_after m e) f
 comings_on m [] f = refl
 comings_on m (listed more ∷ e) f = comings_on (extended m more) e f
 comings_on m (arrived b ∷ e) f = ap (λ (l : List Coming). coming m b ∷ l) (comings_on m e f)
 comings_on m (moved t ∷ e) f = comings_on m e f
 comings_on m (arrived_early b ∷ e) f = ap (λ (l : List Coming). early_coming m b ∷ l) (comings_on m e f)
 
-pub moment_on : (t : Option ℤ) (e f : List EventValue) → moment_after t (e ++ f) ≡ moment_after (moment_after t e) f
+pub moment_on : (t : Option ℤ) (e f : List EventValue)
+    → moment_after t (e ++ f) ≡ moment_after (moment_after t e) f
 moment_on t [] f = refl
 moment_on t (listed more ∷ e) f = moment_on t e f
 moment_on t (arrived b ∷ e) f = moment_on t e f
@@ -35,13 +40,15 @@ moment_on t (arrived_early b ∷ e) f = moment_on t e f
 pub union-arrived : (e : List EventValue) (a : ArrivalValue) → union (e ++ arrived a ∷ []) ≡ union e
 union-arrived e a = union_on [] e (arrived a ∷ [])
 
-pub comings-arrived : (e : List EventValue) (a : ArrivalValue) → comings (e ++ arrived a ∷ []) ≡ comings e ++ coming (union e) a ∷ []
+pub comings-arrived : (e : List EventValue) (a : ArrivalValue)
+    → comings (e ++ arrived a ∷ []) ≡ comings e ++ coming (union e) a ∷ []
 comings-arrived e a = comings_on [] e (arrived a ∷ [])
 
 pub moment-arrived : (e : List EventValue) (a : ArrivalValue) → last_moment (e ++ arrived a ∷ []) ≡ last_moment e
 moment-arrived e a = moment_on None e (arrived a ∷ [])
 
-pub union-listed : (e : List EventValue) (more : List MRow) → union (e ++ listed more ∷ []) ≡ extended (union e) more
+pub union-listed : (e : List EventValue) (more : List MRow)
+    → union (e ++ listed more ∷ []) ≡ extended (union e) more
 union-listed e more = union_on [] e (listed more ∷ [])
 
 pub comings-listed : (e : List EventValue) (more : List MRow) → comings (e ++ listed more ∷ []) ≡ comings e
@@ -77,7 +84,8 @@ pub union_then : (m : List MRow) (l : List ArrivalValue) → union (manifest_the
 union_then m l = union_of_arrivals (extended [] m) l ∙ none_is_listed m
 
 pub comings_then : (m : List MRow) (l : List ArrivalValue) → comings (manifest_then m l) ≡ map (coming m) l
-comings_then m l = comings_of_arrivals (extended [] m) l ∙ ap (λ (n : List MRow). map (coming n) l) (none_is_listed m)
+comings_then m l = comings_of_arrivals (extended [] m) l
+    ∙ ap (λ (n : List MRow). map (coming n) l) (none_is_listed m)
 
 arrivals_back : (m : List MRow) (l : List ArrivalValue) → map arrival_of (map (coming m) l) ≡ l
 arrivals_back m [] = refl

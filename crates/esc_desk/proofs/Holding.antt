@@ -1,5 +1,6 @@
 -- What a store stands for once an arrival like none before it was noted, and the move where its deposit is held.
-use Rattle.std.proofs.Common.{◌≡◌, ◌⊎◌, inl, inr, ℕ, ℤ, Bool, true, false, cond, ◌==◌, List, [], ◌∷◌, ◌++◌, Option, Some, None, refl, sym, ap, subst, ◌∙◌, append-nil}
+use Rattle.std.proofs.Common.{◌≡◌, ◌⊎◌, inl, inr, ℕ, ℤ, Bool, true, false, cond, ◌==◌, List, []}
+use Rattle.std.proofs.Common.{◌∷◌, ◌++◌, Option, Some, None, refl, sym, ap, subst, ◌∙◌, append-nil}
 use Rattle.std.proofs.lemmas.Option.{none-some, same_Some}
 use Rattle.std.proofs.lemmas.Bool.{eqb-true}
 use Rattle.sha2.specs.Sha256.{sha256}
@@ -39,15 +40,20 @@ refused_row found (inl (r, n, is)) = ap held_row is
 refused_row found (inr (r, is)) = ap held_row is
 
 -- where the receipt says of no row that it is held, what is known stays
-pub told_still : (e : List EventValue) (a : ArrivalValue) (k : StoreState) (found : Assessment) (cache : Cache) (receipt : ReceiptValue)
-    → IsNew e a k found cache receipt → held_row found ≡ None → AreHeldBy (k.receipts ++ receipt ∷ []) cache.rows_with_receipt.items
+pub told_still : (e : List EventValue)
+    (a : ArrivalValue) (k : StoreState) (found : Assessment) (cache : Cache) (receipt : ReceiptValue)
+    → IsNew e a k found cache receipt
+    → held_row found ≡ None → AreHeldBy (k.receipts ++ receipt ∷ []) cache.rows_with_receipt.items
 told_still e a k found cache receipt is none =
     subst (λ (r : ReceiptValue). AreHeldBy (k.receipts ++ r ∷ []) cache.rows_with_receipt.items) (sym is.receipt_is)
-    (told_same _ is.cache_is.told (λ r says. none-some _ (sym none ∙ row_said a.number (sha256 a.body) found _ r says)))
+    (told_same _ is.cache_is.told
+    (λ r says. none-some _ (sym none ∙ row_said a.number (sha256 a.body) found _ r says)))
 
 -- where it says so of a row, that row is one of them
-pub told_held : (e : List EventValue) (a : ArrivalValue) (k : StoreState) (found : Assessment) (cache : Cache) (receipt : ReceiptValue)
-    → IsNew e a k found cache receipt → (row : ℕ) → held_row found ≡ Some row → (more : List ℕ) → IsInserted cache.rows_with_receipt.items row more
+pub told_held : (e : List EventValue)
+    (a : ArrivalValue) (k : StoreState) (found : Assessment) (cache : Cache) (receipt : ReceiptValue)
+    → IsNew e a k found cache receipt → (row : ℕ) → held_row found ≡ Some row
+    → (more : List ℕ) → IsInserted cache.rows_with_receipt.items row more
     → AreHeldBy (k.receipts ++ receipt ∷ []) more
 told_held e a k found cache receipt is row held more inserted =
     let again = is_among cache.rows_with_receipt.items (held_row found) in
@@ -60,7 +66,8 @@ told_held e a k found cache receipt is row held more inserted =
 
 -- a body is held of a row whose deposit it is
 module _ (e : List EventValue) (a : ArrivalValue) (k : StoreState) (row : ℕ) where
-  still_held : k.bodies row ≡ None → (r : ℕ) (body : List ℕ) → k.bodies r ≡ Some body → body_put k.bodies row a.body r ≡ Some body
+  still_held : k.bodies row ≡ None
+      → (r : ℕ) (body : List ℕ) → k.bodies r ≡ Some body → body_put k.bodies row a.body r ≡ Some body
   still_held none r body some = by_test (r == row) refl
     where
       by_test : (b : Bool) → (r == row) ≡ b → cond b (Some a.body) (k.bodies r) ≡ Some body
@@ -68,8 +75,10 @@ module _ (e : List EventValue) (a : ArrivalValue) (k : StoreState) (row : ℕ) w
       by_test false other = some
 
   -- where nothing else of what a move is made by has changed, there is a move
-  pub move_to : {rows : List ℕ} {plan : Plan} {moment : Option ℤ} {listed : List MRow} (receipts : List ReceiptValue) → k.bodies row ≡ None
-      → IsStateAfter sha256 reading e k → AreBooks sha256 reading (e ++ arrived a ∷ []) (with_body (record k { receipts = receipts }) row a.body)
+  pub move_to : {rows : List ℕ} {plan : Plan}
+      {moment : Option ℤ} {listed : List MRow} (receipts : List ReceiptValue) → k.bodies row ≡ None
+      → IsStateAfter sha256 reading e k → AreBooks sha256 reading (e ++ arrived a ∷ [])
+      (with_body (record k { receipts = receipts }) row a.body)
       → AreHeld (body_put k.bodies row a.body) rows → listed ≡ k.listed → moment ≡ k.moment
       → AreLatestSteps listed rows moment plan.new.items → plan.old.items ≡ kept_chain k
       → IsMove e (arrived a) k (with_body (record k { receipts = receipts }) row a.body) [] rows plan

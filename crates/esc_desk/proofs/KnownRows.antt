@@ -1,5 +1,7 @@
 -- What is known of a store's rows with one more receipt, and with one more body.
-use Rattle.std.proofs.Common.{◌≡◌, ◌⊎◌, inl, inr, ℕ, Bool, true, false, cond, ◌==◌, List, [], ◌∷◌, ◌++◌, Option, Some, None, IsSome, is_some, refl, sym, ap, subst, ◌∙◌, nat_eq, true≢false}
+use Rattle.std.proofs.Common.{◌≡◌, ◌⊎◌, inl, inr, ℕ, Bool, true, false, cond, ◌==◌, List, []}
+use Rattle.std.proofs.Common.{◌∷◌, ◌++◌, Option, Some, None, IsSome, is_some, refl, sym, ap, subst}
+use Rattle.std.proofs.Common.{◌∙◌, nat_eq, true≢false}
 use Rattle.std.specs.List.{Any, Contains, list_any}
 use Rattle.std.specs.FinSet as set
 use Rattle.std.specs.Cmp.{nat_cmp_total, eq_by_cmp_equiv}
@@ -19,11 +21,16 @@ use Rattle.esc_store.specs.Holding.{IsInserted}
 -- ---- the rows that receipts say are held
 
 -- a receipt that says of one row that it is held, and that row is one of them now
-pub told_more : {receipts : List ReceiptValue} {told more : List ℕ} {row : ℕ} (receipt : ReceiptValue) → AreHeldBy receipts told → IsInserted told row more
-    → SaysHeld row receipt → ((r : ℕ) → SaysHeld r receipt → r ≡ row) → AreHeldBy (receipts ++ receipt ∷ []) more
+pub told_more : {receipts : List ReceiptValue} {told more : List ℕ} {row : ℕ} (receipt : ReceiptValue)
+    → AreHeldBy receipts told → IsInserted told row more
+    → SaysHeld row receipt → ((r : ℕ) → SaysHeld r receipt → r ≡ row)
+    → AreHeldBy (receipts ++ receipt ∷ []) more
 told_more {receipts} {told} {more} {row} receipt are inserted says only = record {
   rising = inserted.rising;
-  each = λ r. (λ there. to r ((inserted.each r).0 there), λ any. (inserted.each r).1 (back r (any_front_or_last (SaysHeld r) receipts receipt any)));
+  each = λ r. (
+    λ there. to r ((inserted.each r).0 there),
+    λ any. (inserted.each r).1 (back r (any_front_or_last (SaysHeld r) receipts receipt any)),
+  );
 }
   where
     to : (r : ℕ) → (r ≡ row) ⊎ Contains told r → Any (SaysHeld r) (receipts ++ receipt ∷ [])
@@ -35,11 +42,15 @@ told_more {receipts} {told} {more} {row} receipt are inserted says only = record
     back r (inr said) = inl (only r said)
 
 -- a receipt that says so of no row
-pub told_same : {receipts : List ReceiptValue} {told : List ℕ} (receipt : ReceiptValue) → AreHeldBy receipts told → ((r : ℕ) → SaysHeld r receipt → ⊥)
+pub told_same : {receipts : List ReceiptValue} {told : List ℕ} (receipt : ReceiptValue)
+    → AreHeldBy receipts told → ((r : ℕ) → SaysHeld r receipt → ⊥)
     → AreHeldBy (receipts ++ receipt ∷ []) told
 told_same {receipts} {told} receipt are none = record {
   rising = are.rising;
-  each = λ r. (λ there. any_front (SaysHeld r) receipts receipt ((are.each r).0 there), λ any. back r (any_front_or_last (SaysHeld r) receipts receipt any));
+  each = λ r. (
+    λ there. any_front (SaysHeld r) receipts receipt ((are.each r).0 there),
+    λ any. back r (any_front_or_last (SaysHeld r) receipts receipt any),
+  );
 }
   where
     back : (r : ℕ) → Any (SaysHeld r) receipts ⊎ SaysHeld r receipt → Contains told r
@@ -61,7 +72,8 @@ module _ (number digest : List ℕ) where
 
 -- ---- the rows of which a body is held
 
-pub put_at : (bodies : ℕ → Option (List ℕ)) (row : ℕ) (body : List ℕ) → body_put bodies row body row ≡ Some body
+pub put_at : (bodies : ℕ → Option (List ℕ)) (row : ℕ) (body : List ℕ)
+    → body_put bodies row body row ≡ Some body
 put_at bodies row body = ap (λ b. cond b (Some body) (bodies row)) (same_self row)
 
 pub held_more : (bodies : ℕ → Option (List ℕ)) (row : ℕ) (body : List ℕ) (held more : List ℕ)
@@ -76,19 +88,23 @@ held_more bodies row body held more are inserted = record {
     still false o some = some
 
     to : (r : ℕ) → (r ≡ row) ⊎ Contains held r → IsSome (body_put bodies row body r)
-    to r (inl is) = subst (λ (q : ℕ). IsSome (body_put bodies row body q)) (sym is) (ap is_some (put_at bodies row body))
+    to r (inl is) = subst (λ (q : ℕ). IsSome (body_put bodies row body q))
+        (sym is) (ap is_some (put_at bodies row body))
     to r (inr there) = still (r == row) (bodies r) ((are.each r).0 there)
 
-    back : (r : ℕ) (b : Bool) → (r == row) ≡ b → IsSome (cond b (Some body) (bodies r)) → (r ≡ row) ⊎ Contains held r
+    back : (r : ℕ) (b : Bool)
+        → (r == row) ≡ b → IsSome (cond b (Some body) (bodies r)) → (r ≡ row) ⊎ Contains held r
     back r true is some = inl (eqb-true r row is)
     back r false is some = inr ((are.each r).1 some)
 
 -- ---- whether a row is one of them
 
 pub contained : (rows : List ℕ) (r : ℕ) → list_any (λ q. nat_eq q r) rows ≡ true → Contains rows r
-contained rows r any = Contains-from_any exact r rows (sym (set.contains-from_list nat_cmp_total rows r) ∙ set.contains-from_list_nat rows r ∙ any)
+contained rows r any = Contains-from_any exact
+    r rows (sym (set.contains-from_list nat_cmp_total rows r) ∙ set.contains-from_list_nat rows r ∙ any)
 
-pub no_body : (bodies : ℕ → Option (List ℕ)) (rows : List ℕ) → AreHeld bodies rows → (r : ℕ) → list_any (λ q. nat_eq q r) rows ≡ false → bodies r ≡ None
+pub no_body : (bodies : ℕ → Option (List ℕ)) (rows : List ℕ)
+    → AreHeld bodies rows → (r : ℕ) → list_any (λ q. nat_eq q r) rows ≡ false → bodies r ≡ None
 no_body bodies rows are r other = by_body (bodies r) refl
   where
     any : IsSome (bodies r) → list_any (λ q. nat_eq q r) rows ≡ true

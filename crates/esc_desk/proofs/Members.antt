@@ -1,5 +1,7 @@
 -- The arrivals of a list.
-use Rattle.std.proofs.Common.{◌≡◌, inl, inr, ℕ, Bool, true, false, cond, not, filter, ◌||◌, List, [], ◌∷◌, ◌++◌, Option, Some, None, is_some, Result, refl, sym, ap, ◌∙◌, true≢false}
+use Rattle.std.proofs.Common.{◌≡◌, inl, inr, ℕ, Bool, true, false, cond, not, filter, ◌||◌, List, []}
+use Rattle.std.proofs.Common.{◌∷◌, ◌++◌, Option, Some, None, is_some, Result, refl, sym, ap, ◌∙◌}
+use Rattle.std.proofs.Common.{true≢false}
 use Rattle.std.specs.List.{list_any, find}
 use Rattle.std.proofs.lemmas.Bool.{or_right}
 use Rattle.std.proofs.lemmas.Option.{same_Some}
@@ -10,25 +12,30 @@ use Rattle.esc_events.specs.Receipts.{alike, distinct}
 use Rattle.esc_events.specs.StateAfter.{Among, arrived_body}
 use Rattle.esc_desk.proofs.Searches.{any_find}
 
-pub any_of : (p : Coming → Bool) (l : List Coming) (a : Coming) → Among l a → p a ≡ true → list_any p l ≡ true
+pub any_of : (p : Coming → Bool) (l : List Coming) (a : Coming)
+    → Among l a → p a ≡ true → list_any p l ≡ true
 any_of p [] a among e = absurd among
 any_of p (b ∷ l) a (inl is) e = ap (λ (x : Coming). p x || list_any p l) (sym is) ∙ ap (λ t. t || list_any p l) e
 any_of p (b ∷ l) a (inr there) e = ap (λ t. p b || t) (any_of p l a there e) ∙ or_right (p b) true refl
 
-pub one_of : (p : Coming → Bool) (l : List Coming) → list_any p l ≡ true → (a : Coming) × Among l a × (p a ≡ true)
+pub one_of : (p : Coming → Bool) (l : List Coming)
+    → list_any p l ≡ true → (a : Coming) × Among l a × (p a ≡ true)
 one_of p [] e = absurd (true≢false (sym e))
 one_of p (b ∷ l) e = by_test (p b) refl e (one_of p l)
   where
-    by_test : (t : Bool) → p b ≡ t → (t || list_any p l) ≡ true → (list_any p l ≡ true → (a : Coming) × Among l a × (p a ≡ true)) → (a : Coming) × Among (b ∷ l) a × (p a ≡ true)
+    by_test : (t : Bool) → p b ≡ t → (t || list_any p l) ≡ true → (list_any p l ≡ true
+        → (a : Coming) × Among l a × (p a ≡ true)) → (a : Coming) × Among (b ∷ l) a × (p a ≡ true)
     by_test true is e rest = (b, inl refl, is)
     by_test false is e rest = let x = rest e in (x.0, inr x.1, x.2)
 
 -- the first that passes is one of the list, and passes
-pub first_of : (p : Coming → Bool) (l : List Coming) (y : Coming) → find p l ≡ Some y → Among l y × (p y ≡ true)
+pub first_of : (p : Coming → Bool) (l : List Coming) (y : Coming)
+    → find p l ≡ Some y → Among l y × (p y ≡ true)
 first_of p [] y e = absurd (cc)
 first_of p (b ∷ l) y e = by_test (p b) refl e (first_of p l y)
   where
-    by_test : (t : Bool) → p b ≡ t → cond t (Some b) (find p l) ≡ Some y → (find p l ≡ Some y → Among l y × (p y ≡ true)) → Among (b ∷ l) y × (p y ≡ true)
+    by_test : (t : Bool) → p b ≡ t → cond t (Some b) (find p l) ≡ Some y
+        → (find p l ≡ Some y → Among l y × (p y ≡ true)) → Among (b ∷ l) y × (p y ≡ true)
     by_test true is e rest = (inl (sym (same_Some _ _ e)), ap p (sym (same_Some _ _ e)) ∙ is)
     by_test false is e rest = let x = rest e in (inr x.0, x.1)
 
@@ -45,7 +52,8 @@ pub passed_among : (p : Coming → Bool) (l : List Coming) (a : Coming) → Amon
 passed_among p [] a among = among
 passed_among p (b ∷ l) a among = by_test (p b) among (passed_among p l a)
   where
-    by_test : (t : Bool) → Among (cond t (b ∷ filter p l) (filter p l)) a → (Among (filter p l) a → Among l a) → Among (b ∷ l) a
+    by_test : (t : Bool) → Among (cond t (b ∷ filter p l) (filter p l)) a
+        → (Among (filter p l) a → Among l a) → Among (b ∷ l) a
     by_test true (inl is) rest = inl is
     by_test true (inr there) rest = inr (rest there)
     by_test false there rest = inr (rest there)
@@ -54,12 +62,14 @@ pub passed_test : (p : Coming → Bool) (l : List Coming) (a : Coming) → Among
 passed_test p [] a among = absurd among
 passed_test p (b ∷ l) a among = by_test (p b) refl among (passed_test p l a)
   where
-    by_test : (t : Bool) → p b ≡ t → Among (cond t (b ∷ filter p l) (filter p l)) a → (Among (filter p l) a → p a ≡ true) → p a ≡ true
+    by_test : (t : Bool) → p b ≡ t → Among (cond t (b ∷ filter p l) (filter p l)) a
+        → (Among (filter p l) a → p a ≡ true) → p a ≡ true
     by_test true is (inl same) rest = ap p same ∙ is
     by_test true is (inr there) rest = rest there
     by_test false is there rest = rest there
 
-pub among_passed : (p : Coming → Bool) (l : List Coming) (a : Coming) → Among l a → p a ≡ true → Among (filter p l) a
+pub among_passed : (p : Coming → Bool) (l : List Coming) (a : Coming)
+    → Among l a → p a ≡ true → Among (filter p l) a
 among_passed p [] a among passes = among
 among_passed p (b ∷ l) a (inl same) passes = ap_here (p b) (ap p (sym same) ∙ passes)
   where
@@ -72,10 +82,12 @@ among_passed p (b ∷ l) a (inr there) passes = by_test (p b) (among_passed p l 
     by_test true rest = inr rest
     by_test false rest = rest
 
-pub distinct_among : (digest : List ℕ → List ℕ) (reads : List ℕ → Result DepositValue Refusal) (l : List Coming) (a : Coming) → Among (distinct digest reads l) a → Among l a
+pub distinct_among : (digest : List ℕ → List ℕ) (reads : List ℕ → Result DepositValue Refusal)
+    (l : List Coming) (a : Coming) → Among (distinct digest reads l) a → Among l a
 distinct_among digest reads [] a among = among
 distinct_among digest reads (b ∷ l) a (inl is) = inl is
-distinct_among digest reads (b ∷ l) a (inr there) = inr (distinct_among digest reads l a (passed_among (λ x. not (alike digest reads b x)) (distinct digest reads l) a there))
+distinct_among digest reads (b ∷ l) a (inr there) = inr (distinct_among digest
+    reads l a (passed_among (λ x. not (alike digest reads b x)) (distinct digest reads l) a there))
 
 -- the body of the first that passes is there exactly if one passes
 pub any_found : (p : Coming → Bool) (l : List Coming) → list_any p l ≡ is_some (arrived_body (find p l))

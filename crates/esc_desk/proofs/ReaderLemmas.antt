@@ -24,11 +24,18 @@ module _ {S X E : Type 0} (g : Ghosts S) (old : StoreReader S) where
   }
 
   -- nothing was read
-  pub reader_unread : (result : Result X E) → IsReadOf (λ a b. IsUnwrittenReader g a b) (λ reader e. ReaderReflects g reader e) old old result
+  pub reader_unread : (result : Result X E)
+      → IsReadOf (λ a b. IsUnwrittenReader g a b) (λ reader e. ReaderReflects g reader e) old old result
   reader_unread result = record {
     follows = record {
       manifest = refl;
-      unwritten = record { shield = λ h. h; clean = omega arith; counts = omega arith; closes = λ _ up. inl up; outcomes = λ _ h. h };
+      unwritten = record {
+        shield = λ h. h;
+        clean = omega arith;
+        counts = omega arith;
+        closes = λ _ up. inl up;
+        outcomes = λ _ h. h;
+      };
     };
     reflects = on_any result (λ e was. was);
   }

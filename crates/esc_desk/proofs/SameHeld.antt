@@ -1,5 +1,6 @@
 -- Two lists of events by which the same is held leave the same chain and tables.
-use Rattle.std.proofs.Common.{◌≡◌, ℕ, ℤ, Bool, List, Option, Some, None, is_some, refl, sym, ap, subst, ◌∙◌, true≢false}
+use Rattle.std.proofs.Common.{◌≡◌, ℕ, ℤ, Bool, List, Option, Some, None, is_some, refl, sym, ap, subst}
+use Rattle.std.proofs.Common.{◌∙◌, true≢false}
 use Rattle.std.specs.List.{find}
 use Rattle.std.specs.FinSet as set
 use Rattle.sha2.specs.Sha256.{sha256}
@@ -32,9 +33,12 @@ same_found (Some c) None some same = absurd (true≢false some)
 same_found (Some c) (Some d) some same = ap Some (same c d refl refl)
 
 -- rows with one digest have the same body, wherever each list has the row, if both have one or neither
-pub same_body : (e f : List EventValue) → AreApart e f → (r s : ℕ) → is_some (held_body sha256 reading e r) ≡ is_some (held_body sha256 reading f s)
-    → (row_at (union e) r).digest ≡ (row_at (union f) s).digest → held_body sha256 reading e r ≡ held_body sha256 reading f s
-same_body e f apart r s some row = same_found (find in_e (kept_arrivals sha256 reading e)) (find in_f (kept_arrivals sha256 reading f)) some bodies
+pub same_body : (e f : List EventValue) → AreApart e f
+    → (r s : ℕ) → is_some (held_body sha256 reading e r) ≡ is_some (held_body sha256 reading f s)
+    → (row_at (union e) r).digest ≡ (row_at (union f) s).digest
+    → held_body sha256 reading e r ≡ held_body sha256 reading f s
+same_body e f apart r s some row = same_found (find in_e (kept_arrivals sha256 reading e))
+    (find in_f (kept_arrivals sha256 reading f)) some bodies
   where
     in_e : Coming → Bool
     in_e = holds_by sha256 reading (union e) r
@@ -42,16 +46,19 @@ same_body e f apart r s some row = same_found (find in_e (kept_arrivals sha256 r
     in_f : Coming → Bool
     in_f = holds_by sha256 reading (union f) s
 
-    bodies : (c d : Coming) → find in_e (kept_arrivals sha256 reading e) ≡ Some c → find in_f (kept_arrivals sha256 reading f) ≡ Some d → c.body ≡ d.body
+    bodies : (c d : Coming) → find in_e (kept_arrivals sha256 reading e) ≡ Some c
+        → find in_f (kept_arrivals sha256 reading f) ≡ Some d → c.body ≡ d.body
     bodies c d here there =
         let a = first_of in_e (kept_arrivals sha256 reading e) c here in
         let b = first_of in_f (kept_arrivals sha256 reading f) d there in
-        apart c d a.0 b.0 (digest_is sha256 reading (union e) r c a.1 ∙ row ∙ sym (digest_is sha256 reading (union f) s d b.1))
+        apart c d a.0 b.0 (digest_is sha256 reading (union e) r c a.1
+        ∙ row ∙ sym (digest_is sha256 reading (union f) s d b.1))
 
 module _ {e f : List EventValue} (same : HoldTheSame e f) where
   -- a body is held of the same rows
   some_same : (r : ℕ) → is_some (held_body sha256 reading e r) ≡ is_some (held_body sha256 reading f r)
-  some_same r = sym (contains_held sha256 reading e r) ∙ ap (λ (h : Rows). set.contains h r) same.held ∙ contains_held sha256 reading f r
+  some_same r = sym (contains_held sha256 reading e r)
+      ∙ ap (λ (h : Rows). set.contains h r) same.held ∙ contains_held sha256 reading f r
 
   -- the same body is held of each row
   body_same : (r : ℕ) → held_body sha256 reading e r ≡ held_body sha256 reading f r
@@ -61,14 +68,17 @@ pub same_kept : OneLatestChainAt → SameHeldSameKept
 same_kept law e f k l accepted same apart others stood other =
     let h = held_rows sha256 reading e in
     let t = last_moment e in
-    let bodies : (r : ℕ) → k.bodies r ≡ l.bodies r = λ r. stood.books.bodies apart r ∙ body_same same r ∙ sym (other.books.bodies others r) in
+    let bodies : (r : ℕ) → k.bodies r ≡ l.bodies r =
+    λ r. stood.books.bodies apart r ∙ body_same same r ∙ sym (other.books.bodies others r) in
     let at_f = chain_of f l other others in
     let at_e : IsLatestChainAt (union e) h t l.steps =
     subst (λ (m : List MRow). IsLatestChainAt m h t l.steps) (sym same.listed)
     (subst (λ (g : Rows). IsLatestChainAt (union f) g t l.steps) (sym same.held)
-    (subst (λ (u : Option ℤ). IsLatestChainAt (union f) (held_rows sha256 reading f) u l.steps) (sym same.moment) at_f)) in
+    (subst (λ (u : Option ℤ). IsLatestChainAt (union f) (held_rows sha256 reading f) u l.steps)
+    (sym same.moment) at_f)) in
     let steps : k.steps ≡ l.steps =
-    law (union e) h h t k.steps l.steps accepted (held_in_range e) (λ r. (λ held. held, λ held. held)) (chain_of e k stood apart) at_e in
+    law (union e) h h t k.steps l.steps accepted (held_in_range e)
+    (λ r. (λ held. held, λ held. held)) (chain_of e k stood apart) at_e in
     let deposits = same_deposits k.bodies l.bodies bodies k.steps ∙ ap (deposits_of reading l.bodies) steps in
     record {
       listed = stood.books.listed ∙ same.listed ∙ sym other.books.listed;

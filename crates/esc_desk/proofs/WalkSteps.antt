@@ -1,5 +1,6 @@
 -- What a walk is still to give, from call to call.
-use Rattle.std.proofs.Common.{◌≡◌, ℕ, suc, ◌-◌, slice_get, List, [], ◌∷◌, ◌++◌, length, Option, Some, None, refl, sym, ap, subst, ◌∙◌, arith}
+use Rattle.std.proofs.Common.{◌≡◌, ℕ, suc, ◌-◌, slice_get, List, [], ◌∷◌, ◌++◌, length, Option}
+use Rattle.std.proofs.Common.{Some, None, refl, sym, ap, subst, ◌∙◌, arith}
 use Rattle.std.specs.Map.{lookup, keys_of}
 use Rattle.std.specs.Option.{is_some}
 use Rattle.std.specs.Vec.Iter.{into_iter_items, into_iter_len}
@@ -44,14 +45,17 @@ held_in_range e r held =
     held_within sha256 reading (union e) r x.0 x.2
 
 -- the entries of the tables after the events are the objects of a store that stands for them
-pub entries_kept : {e : List EventValue} {es : List Entry} {k : StoreState} → OneLatestChainAt → IsAccepted (union e) → IsApart sha256 reading e
-    → IsStateAfter sha256 reading e k → AreEntries e es → (q : KeyName) → lookup (key_eq q) es ≡ k.registry.content q
+pub entries_kept : {e : List EventValue} {es : List Entry} {k : StoreState}
+    → OneLatestChainAt → IsAccepted (union e) → IsApart sha256 reading e
+    → IsStateAfter sha256 reading e k
+    → AreEntries e es → (q : KeyName) → lookup (key_eq q) es ≡ k.registry.content q
 entries_kept {e} {es} {k} law accepted apart stood entries q =
     let rows = held_rows sha256 reading e in
     let one : entries.chain ≡ k.steps =
     law (union e) rows rows (last_moment e) entries.chain k.steps accepted (held_in_range e)
     (λ r. (λ held. held, λ held. held)) entries.latest (chain_of e k stood apart) in
-    let same : tables_of_chain e entries.chain ≡ k.registry.content = ap (tables_of_chain e) one ∙ sym (same_content e k stood apart) in
+    let same : tables_of_chain e entries.chain ≡ k.registry.content =
+    ap (tables_of_chain e) one ∙ sym (same_content e k stood apart) in
     entries.objects.each q ∙ ap (λ (f : ObjectsByKey). f q) same
 
 -- ---- the page at hand
@@ -65,11 +69,14 @@ no_entries (e ∷ es) none = absurd (no_first e es None refl (none e.0))
 
 -- pages that stand at the same place
 abbrev pub AtOnePlace : Pages → Pages → Type 0
-AtOnePlace pages later = (later.kind ≡ pages.kind) × (later.from.items ≡ pages.from.items) × (later.alone ≡ pages.alone)
+AtOnePlace pages later =
+    (later.kind ≡ pages.kind) × (later.from.items ≡ pages.from.items) × (later.alone ≡ pages.alone)
 
-module _ {S : Type 0} {g : Ghosts S} {store : Store S} {pages : Pages} {es : List Entry} (come : AreToCome g store pages es) where
+module _ {S : Type 0} {g : Ghosts S}
+    {store : Store S} {pages : Pages} {es : List Entry} (come : AreToCome g store pages es) where
   -- an object was given
-  pub given : (later : Pages) (e : Entry) → into_iter_items pages.page ≡ e ∷ into_iter_items later.page → AtOnePlace pages later
+  pub given : (later : Pages) (e : Entry)
+      → into_iter_items pages.page ≡ e ∷ into_iter_items later.page → AtOnePlace pages later
       → (rest : List Entry) × (es ≡ e ∷ rest) × AreToCome g store later rest
   given later e items place =
       let rest = into_iter_items later.page ++ come.behind in
@@ -87,13 +94,15 @@ module _ {S : Type 0} {g : Ghosts S} {store : Store S} {pages : Pages} {es : Lis
       )
 
   -- none was left to give
-  pub ended : (later : Pages) → into_iter_items pages.page ≡ [] → pages.kind ≡ None → into_iter_items later.page ≡ [] → AtOnePlace pages later
+  pub ended : (later : Pages) → into_iter_items pages.page ≡ []
+      → pages.kind ≡ None → into_iter_items later.page ≡ [] → AtOnePlace pages later
       → (es ≡ []) × AreToCome g store later []
   ended later items none empty place =
       let content = come.kept.registry.content in
       let nothing : come.behind ≡ [] = no_entries come.behind (λ q. (rw none at come.are_behind).each q) in
       let all : es ≡ [] = come.are_all ∙ ap (λ (xs : List Entry). xs ++ come.behind) items ∙ nothing in
-      let behind = subst (λ (xs : List Entry). AreBehind content pages.kind pages.from.items pages.alone xs) nothing come.are_behind in (
+      let behind = subst (λ (xs : List Entry). AreBehind
+      content pages.kind pages.from.items pages.alone xs) nothing come.are_behind in (
         all,
         record {
           order = subst InOrder all come.order;
@@ -108,9 +117,11 @@ module _ {S : Type 0} {g : Ghosts S} {store : Store S} {pages : Pages} {es : Lis
 module _ {S : Type 0} (g : Ghosts S) where
   -- the page at hand was used up, and the one after it was read
   pub turned : (old new : Store S) (pages later : Pages) (es : List Entry) (kind : Kind) (page : List Entry)
-      → IsAsBefore g old new → AreToCome g old pages es → into_iter_items pages.page ≡ [] → pages.kind ≡ Some kind
+      → IsAsBefore g old new → AreToCome g old pages es
+      → into_iter_items pages.page ≡ [] → pages.kind ≡ Some kind
       → ((k : StoreState) → Represents g old k → IsPage k.registry.content kind pages.from.items page)
-      → IsPlaceBehind kind pages.alone page later.kind later.from.items → into_iter_items later.page ≡ page → later.alone ≡ pages.alone
+      → IsPlaceBehind kind pages.alone page later.kind later.from.items
+      → into_iter_items later.page ≡ page → later.alone ≡ pages.alone
       → AreToCome g new later es
   turned old new pages later es kind page same come items is told placed at_hand alone =
       let content = come.kept.registry.content in
@@ -131,12 +142,15 @@ module _ {S : Type 0} (g : Ghosts S) where
 
   -- before the first page
   pub begins : (store : Store S) (pages : Pages) (kind : Option Kind) (e : List EventValue) (es : List Entry)
-      → OneLatestChainAt → IsAccepted (union e) → IsApart sha256 reading e → StoreReflects g store e → AreEntries e es → InOrder es
-      → into_iter_items pages.page ≡ [] → pages.kind ≡ Some (first_kind kind) → pages.from.items ≡ [] → pages.alone ≡ is_some kind
+      → OneLatestChainAt → IsAccepted (union e)
+      → IsApart sha256 reading e → StoreReflects g store e → AreEntries e es → InOrder es
+      → into_iter_items pages.page ≡ []
+      → pages.kind ≡ Some (first_kind kind) → pages.from.items ≡ [] → pages.alone ≡ is_some kind
       → AreToCome g store pages (of_kinds kind es)
   begins store pages kind e es law accepted apart serves entries order items is from alone =
       let k = serves.kept in
-      let are = from_the_first k.registry.content kind es order (entries_kept law accepted apart serves.stands_for entries) in
+      let are = from_the_first k.registry.content
+      kind es order (entries_kept law accepted apart serves.stands_for entries) in
       record {
         order = are.order;
         kept = k;
@@ -148,7 +162,8 @@ module _ {S : Type 0} (g : Ghosts S) where
 
 -- ---- the last entry of a page
 
-pub last_found : (page : List Entry) (e : Entry) → slice_get page (length page - 1) ≡ Some e → last_text page ≡ Some e.0.text
+pub last_found : (page : List Entry) (e : Entry)
+    → slice_get page (length page - 1) ≡ Some e → last_text page ≡ Some e.0.text
 last_found [] e is = absurd cc
 last_found (f ∷ []) e is = let same : f ≡ e = cc in ap (λ (x : Entry). Some x.0.text) same
 last_found (f ∷ h ∷ page) e is =

@@ -1,6 +1,8 @@
 -- What is still to come of a walk, from page to page.
-use Rattle.std.proofs.Common.{◌≡◌, ℕ, zero, suc, ◌≤◌, ◌==◌, ◌&&◌, Bool, true, false, not, cond, List, [], ◌∷◌, ◌++◌, filter, Option, Some, None}
-use Rattle.std.proofs.Common.{refl, sym, ap, ap₂, subst, ◌∙◌, arith, true≢false, Ordering, Less, Equal, Greater, is_eq}
+use Rattle.std.proofs.Common.{◌≡◌, ℕ, zero, suc, ◌≤◌, ◌==◌, ◌&&◌, Bool, true, false, not, cond}
+use Rattle.std.proofs.Common.{List, [], ◌∷◌, ◌++◌, filter, Option, Some, None}
+use Rattle.std.proofs.Common.{refl, sym, ap, ap₂, subst, ◌∙◌, arith, true≢false, Ordering, Less, Equal}
+use Rattle.std.proofs.Common.{Greater, is_eq}
 use Rattle.std.specs.Map.{lookup}
 use Rattle.std.specs.Option.{option_or, is_some}
 use Rattle.std.specs.Prelude.{MatchOption}
@@ -22,7 +24,8 @@ use Rattle.esc_store.specs.Pages.{IsPage, last_text, is_on_page}
 use Rattle.esc_store.specs.TableKeys.{wanted_of}
 use Rattle.esc_desk.specs.Places.{first_kind, later_kind, IsPlaceBehind}
 use Rattle.esc_desk.specs.Walking.{of_kinds, is_behind, AreBehind}
-use Rattle.esc_desk.proofs.EntryLists.{Pass, in_order, rises, rises-filter, rises-append, all_passed, lookup-append, is_found, each_found, same_entries, pass_too}
+use Rattle.esc_desk.proofs.EntryLists.{Pass, in_order, rises, rises-filter, rises-append, all_passed}
+use Rattle.esc_desk.proofs.EntryLists.{lookup-append, is_found, each_found, same_entries, pass_too}
 
 -- ---- the bytes after some bytes
 
@@ -48,7 +51,8 @@ past_is (y ∷ last) [] = refl
 past_is (y ∷ last) (x ∷ a) = by_order (nat_cmp x y) (past_is last a)
   where
     by_order : (o : Ordering) → is_past last a ≡ not (is_up_to last a)
-        → is_ge (ordering_then o (slice_cmp nat_cmp a (last ++ 0 ∷ []))) ≡ not (is_le (ordering_then o (slice_cmp nat_cmp a last)))
+        → is_ge (ordering_then o (slice_cmp nat_cmp a (last ++ 0 ∷ [])))
+        ≡ not (is_le (ordering_then o (slice_cmp nat_cmp a last)))
     by_order Less more = refl
     by_order Equal more = more
     by_order Greater more = refl
@@ -107,12 +111,14 @@ module _ (content : ObjectsByKey) (kind : Kind) (from : List ℕ) (alone : Bool)
         by_order : (o : Ordering) → place kind q ≡ o → Joined q
         by_order Less e = rw (same_kind q Less e, e) refl
         by_order Equal e =
-            rw (same_kind q Equal e, e) (split (is_past last q.text) (is_up_to last q.text) (is_from from q.text) (content q) (past_is last q.text))
+            rw (same_kind q Equal e, e) (split (is_past last q.text)
+            (is_up_to last q.text) (is_from from q.text) (content q) (past_is last q.text))
         by_order Greater e = rw (same_kind q Greater e, e) (twice (not alone) (content q))
 
     -- a key of the page is of its kind, from its first bytes on and up to its last
     parts : (q : KeyName) → on_page q ≡ true
-        → ((kind_rank kind == kind_rank q.kind) ≡ true) × (is_from from q.text ≡ true) × (is_up_to last q.text ≡ true)
+        → ((kind_rank kind == kind_rank q.kind) ≡ true)
+        × (is_from from q.text ≡ true) × (is_up_to last q.text ≡ true)
     parts q on =
         let first = and_parts (kind_rank kind == kind_rank q.kind && is_from from q.text) (is_up_to last q.text) on in
         let rest = and_parts (kind_rank kind == kind_rank q.kind) (is_from from q.text) first.0 in
@@ -120,14 +126,16 @@ module _ (content : ObjectsByKey) (kind : Kind) (from : List ℕ) (alone : Bool)
 
     -- after the last, so not up to it
     above_last : (a : List ℕ) → is_past last a ≡ true → slice_cmp nat_cmp last a ≡ Less
-    above_last a past = nat_list_cmp_total.antisymm last a ∙ by_order (slice_cmp nat_cmp a last) (sym (past_is last a) ∙ past)
+    above_last a past = nat_list_cmp_total.antisymm last a
+        ∙ by_order (slice_cmp nat_cmp a last) (sym (past_is last a) ∙ past)
       where
         by_order : (o : Ordering) → not (is_le o) ≡ true → ordering_reverse o ≡ Less
         by_order Less above = absurd (true≢false (sym above))
         by_order Equal above = absurd (true≢false (sym above))
         by_order Greater above = refl
 
-    up_to_then : (a b : List ℕ) → is_up_to last a ≡ true → slice_cmp nat_cmp last b ≡ Less → slice_cmp nat_cmp a b ≡ Less
+    up_to_then : (a b : List ℕ)
+        → is_up_to last a ≡ true → slice_cmp nat_cmp last b ≡ Less → slice_cmp nat_cmp a b ≡ Less
     up_to_then a b up low = by_order (slice_cmp nat_cmp a last) refl
       where
         by_order : (o : Ordering) → slice_cmp nat_cmp a last ≡ o → slice_cmp nat_cmp a b ≡ Less
@@ -142,7 +150,8 @@ module _ (content : ObjectsByKey) (kind : Kind) (from : List ℕ) (alone : Bool)
         let ranks : kind_rank kind ≡ kind_rank a.kind = grind (arith, nat_tests, is.0) in
         by_order ranks is.2 (place kind b) refl past
       where
-        by_order : kind_rank kind ≡ kind_rank a.kind → is_up_to last a.text ≡ true → (o : Ordering) → place kind b ≡ o
+        by_order : kind_rank kind ≡ kind_rank a.kind
+            → is_up_to last a.text ≡ true → (o : Ordering) → place kind b ≡ o
             → match_ordering (place kind b) false (is_past last b.text) (not alone) ≡ true → key_cmp a b ≡ Less
         by_order ranks up Less e there = absurd (true≢false (sym (rw e at there)))
         by_order ranks up Equal e there =
@@ -167,7 +176,8 @@ module _ (content : ObjectsByKey) (kind : Kind) (from : List ℕ) (alone : Bool)
         by_test false o is = is
 
     -- the page's last key is not below its first bytes
-    last_from : (page : List Entry) → last_text page ≡ Some last → Pass (λ (e : Entry). on_page e.0) page → is_from from last ≡ true
+    last_from : (page : List Entry)
+        → last_text page ≡ Some last → Pass (λ (e : Entry). on_page e.0) page → is_from from last ≡ true
     last_from [] is all = absurd cc
     last_from (e ∷ []) is all =
         let same : e.0.text ≡ last = cc in
@@ -179,7 +189,8 @@ module _ (content : ObjectsByKey) (kind : Kind) (from : List ℕ) (alone : Bool)
         let low = above_last a past in
         let first : is_gt (slice_cmp nat_cmp from last) ≡ false =
         ap is_gt (nat_list_cmp_total.antisymm from last) ∙ by_first (slice_cmp nat_cmp last from) here in
-        let through : is_gt (slice_cmp nat_cmp from a) ≡ false = upto nat_list_cmp_total from last a first (ap is_gt low) in
+        let through : is_gt (slice_cmp nat_cmp from a) ≡ false =
+        upto nat_list_cmp_total from last a first (ap is_gt low) in
         ap is_ge (nat_list_cmp_total.antisymm a from) ∙ by_last (slice_cmp nat_cmp from a) through
       where
         by_first : (o : Ordering) → is_ge o ≡ true → is_gt (ordering_reverse o) ≡ false
@@ -199,7 +210,8 @@ module _ (content : ObjectsByKey) (kind : Kind) (from : List ℕ) (alone : Bool)
     still_behind : (q : KeyName) → is_from from last ≡ true → StillBehind q
     still_behind q here = by_order (place kind q) refl
       where
-        tested : (past ge : Bool) (o : Option ObjectValue) → (past ≡ true → ge ≡ true) → cond past (cond ge o None) None ≡ cond past o None
+        tested : (past ge : Bool) (o : Option ObjectValue)
+            → (past ≡ true → ge ≡ true) → cond past (cond ge o None) None ≡ cond past o None
         tested true ge o is = rw (is refl) refl
         tested false ge o is = refl
 
@@ -209,7 +221,8 @@ module _ (content : ObjectsByKey) (kind : Kind) (from : List ℕ) (alone : Bool)
         by_order Greater e = rw e (tested (not alone) (not alone) (content q) (λ is. is))
 
     -- the page comes first, and then what comes after it
-    pub split : (page es : List Entry) → last_text page ≡ Some last → IsPage content kind from page → AreBehind content (Some kind) from alone es
+    pub split : (page es : List Entry) → last_text page ≡ Some last
+        → IsPage content kind from page → AreBehind content (Some kind) from alone es
         → (rest : List Entry) × (es ≡ page ++ rest) × AreBehind content (Some kind) (last ++ 0 ∷ []) alone rest
     split page es is told are =
         let passes : Entry → Bool = λ (e : Entry). behind e.0 in
@@ -230,7 +243,8 @@ module _ (content : ObjectsByKey) (kind : Kind) (from : List ℕ) (alone : Bool)
           same_entries es (page ++ rest) (rises es are.order) whole lookups,
           record {
             order = in_order rest up;
-            each = λ q. found q ∙ ap (λ o. cond (behind q) o None) (are.each q) ∙ still_behind q (last_from page is all);
+            each = λ q. found q ∙ ap (λ o. cond (behind q) o None) (are.each q)
+                ∙ still_behind q (last_from page is all);
           },
         )
 
@@ -278,7 +292,8 @@ module _ (content : ObjectsByKey) (kind : Kind) (from : List ℕ) (empty : IsUse
       and_true true = refl
       and_true false = refl
 
-  used_up : (alone : Bool) (q : KeyName) → left content (Some kind) from alone q ≡ left content (cond alone None (later_kind kind)) [] alone q
+  used_up : (alone : Bool) (q : KeyName) → left content (Some kind) from alone q
+      ≡ left content (cond alone None (later_kind kind)) [] alone q
   used_up true q = by_order (place kind q) refl
     where
       by_order : (o : Ordering) → place kind q ≡ o → left content (Some kind) from true q ≡ None
@@ -287,13 +302,15 @@ module _ (content : ObjectsByKey) (kind : Kind) (from : List ℕ) (empty : IsUse
       by_order Greater e = rw e refl
   used_up false q = by_next (later_kind kind) refl
     where
-      by_next : (l : Option Kind) → later_kind kind ≡ l → left content (Some kind) from false q ≡ left content l [] false q
+      by_next : (l : Option Kind)
+          → later_kind kind ≡ l → left content (Some kind) from false q ≡ left content l [] false q
       by_next None is = by_order (place kind q) refl
         where
           by_order : (o : Ordering) → place kind q ≡ o → left content (Some kind) from false q ≡ None
           by_order Less e = rw e refl
           by_order Equal e = rw e (here_none q e)
-          by_order Greater e = absurd (none_above (kind_rank q.kind) (kind_rank kind) (rank_few q.kind) (last_rank kind is) e)
+          by_order Greater e = absurd
+              (none_above (kind_rank q.kind) (kind_rank kind) (rank_few q.kind) (last_rank kind is) e)
       by_next (Some next) is = by_order (place kind q) refl
         where
           ranks : kind_rank next ≡ suc (kind_rank kind)
@@ -308,12 +325,14 @@ module _ (content : ObjectsByKey) (kind : Kind) (from : List ℕ) (empty : IsUse
           not_below_next : place kind q ≡ Greater → place next q ≡ Less → ⊥
           not_below_next e low = grind (arith, nat_tests, ranks, e, low)
 
-          all_there : (o : Ordering) → place next q ≡ o → place kind q ≡ Greater → is_behind (Some next) [] false q ≡ true
+          all_there : (o : Ordering)
+              → place next q ≡ o → place kind q ≡ Greater → is_behind (Some next) [] false q ≡ true
           all_there Less e up = absurd (not_below_next up e)
           all_there Equal e up = rw e (above_nothing q.text)
           all_there Greater e up = rw e refl
 
-          by_order : (o : Ordering) → place kind q ≡ o → left content (Some kind) from false q ≡ left content (Some next) [] false q
+          by_order : (o : Ordering) → place kind q ≡ o
+              → left content (Some kind) from false q ≡ left content (Some next) [] false q
           by_order Less e = rw (e, below_next e) refl
           by_order Equal e = rw (e, at_next e) (here_none q e)
           by_order Greater e = rw e (ap (λ b. cond b (content q) None) (sym (all_there (place next q) refl e)))
@@ -324,21 +343,29 @@ no_entry (e ∷ []) is = absurd cc
 no_entry (e ∷ f ∷ page) is = let none = no_entry (f ∷ page) is in absurd cc
 
 -- the entries from a place on are those of the page that begins there, and then those from the place after it on
-pub page_turned : {content : ObjectsByKey} {kind : Kind} {from : List ℕ} {alone : Bool} {page es : List Entry} (next : Option Kind) (after : List ℕ)
-    → IsPage content kind from page → IsPlaceBehind kind alone page next after → AreBehind content (Some kind) from alone es
+pub page_turned : {content : ObjectsByKey} {kind : Kind}
+    {from : List ℕ} {alone : Bool} {page es : List Entry} (next : Option Kind) (after : List ℕ)
+    → IsPage content kind from page
+    → IsPlaceBehind kind alone page next after → AreBehind content (Some kind) from alone es
     → (rest : List Entry) × (es ≡ page ++ rest) × AreBehind content next after alone rest
-page_turned {content} {kind} {from} {alone} {page} {es} next after told placed are = by_last (last_text page) refl placed
+page_turned {content} {kind} {from} {alone} {page} {es} next after told placed are =
+    by_last (last_text page) refl placed
   where
     by_last : (l : Option (List ℕ)) → last_text page ≡ l
-        → MatchOption l ((next ≡ cond alone None (later_kind kind)) × (after ≡ [])) (λ text. (next ≡ Some kind) × (after ≡ text ++ 0 ∷ []))
+        → MatchOption l ((next ≡ cond alone None (later_kind kind)) × (after ≡ []))
+        (λ text. (next ≡ Some kind) × (after ≡ text ++ 0 ∷ []))
         → (rest : List Entry) × (es ≡ page ++ rest) × AreBehind content next after alone rest
     by_last None is there =
         let none = no_entry page is in
         let empty : IsUsedUp content kind from = λ q.
-        ap (lookup (key_eq q)) (sym none) ∙ told.each q ∙ ap (λ l. cond (is_on_page kind from l q) (content q) None) is in (
+        ap (lookup (key_eq q)) (sym none)
+        ∙ told.each q ∙ ap (λ l. cond (is_on_page kind from l q) (content q) None) is in (
           es,
           ap (λ (p : List Entry). p ++ es) (sym none),
-          rw (there.0, there.1) (record { order = are.order; each = λ q. are.each q ∙ used_up content kind from empty alone q }),
+          rw (there.0, there.1) (record {
+            order = are.order;
+            each = λ q. are.each q ∙ used_up content kind from empty alone q;
+          }),
         )
     by_last (Some last) is there =
         let x = split content kind from alone last page es is told are in
@@ -360,7 +387,8 @@ from_first q = by_order (place Registrar q) refl
     never : (n : ℕ) → nat_cmp n 0 ≡ Less → ⊥
     never n e = grind (arith, nat_tests, e)
 
-    by_order : (o : Ordering) → place Registrar q ≡ o → match_ordering (place Registrar q) false (is_from [] q.text) true ≡ true
+    by_order : (o : Ordering) → place Registrar q ≡ o
+        → match_ordering (place Registrar q) false (is_from [] q.text) true ≡ true
     by_order Less e = absurd (never (kind_rank q.kind) e)
     by_order Equal e = rw e (above_nothing q.text)
     by_order Greater e = rw e refl
@@ -368,19 +396,27 @@ from_first q = by_order (place Registrar q) refl
 -- the entries of one kind, or all, in order
 pub kinds_in_order : (kind : Option Kind) (es : List Entry) → InOrder es → InOrder (of_kinds kind es)
 kinds_in_order None es order = order
-kinds_in_order (Some kind) es order = in_order _ (rises-filter (λ (e : Entry). kind_rank e.0.kind == kind_rank kind) es (rises es order))
+kinds_in_order (Some kind) es order =
+    in_order _ (rises-filter (λ (e : Entry). kind_rank e.0.kind == kind_rank kind) es (rises es order))
 
 -- what is found among them
-pub kinds_found : (content : ObjectsByKey) (kind : Option Kind) (es : List Entry) → ((q : KeyName) → lookup (key_eq q) es ≡ content q) → (q : KeyName) → lookup (key_eq q) (of_kinds kind es) ≡ wanted_of kind content q
+pub kinds_found : (content : ObjectsByKey) (kind : Option Kind) (es : List Entry)
+    → ((q : KeyName) → lookup (key_eq q) es ≡ content q)
+    → (q : KeyName) → lookup (key_eq q) (of_kinds kind es) ≡ wanted_of kind content q
 kinds_found content None es each q = each q
 kinds_found content (Some kind) es each q =
     let is_of : KeyName → Bool = λ k. kind_rank k.kind == kind_rank kind in
-    lookup-filter-keys (key_eq q) is_of (is_of q) (λ k same. ap is_of (sym (same_key q k same))) es ∙ ap (λ o. cond (is_of q) o None) (each q)
+    lookup-filter-keys (key_eq q) is_of (is_of q) (λ k same. ap is_of (sym (same_key q k same))) es
+    ∙ ap (λ o. cond (is_of q) o None) (each q)
 
 -- all entries of a content, or those of one kind, are those from the first place on
-pub from_the_first : (content : ObjectsByKey) (kind : Option Kind) (es : List Entry) → InOrder es → ((q : KeyName) → lookup (key_eq q) es ≡ content q)
+pub from_the_first : (content : ObjectsByKey) (kind : Option Kind) (es : List Entry)
+    → InOrder es → ((q : KeyName) → lookup (key_eq q) es ≡ content q)
     → AreBehind content (Some (first_kind kind)) [] (is_some kind) (of_kinds kind es)
-from_the_first content None es order each = record { order = order; each = λ q. each q ∙ ap (λ b. cond b (content q) None) (sym (from_first q)) }
+from_the_first content None es order each = record {
+  order = order;
+  each = λ q. each q ∙ ap (λ b. cond b (content q) None) (sym (from_first q));
+}
 from_the_first content (Some kind) es order each =
     record {
       order = kinds_in_order (Some kind) es order;

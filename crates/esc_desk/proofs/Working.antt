@@ -1,5 +1,6 @@
 -- The work of an arrival whose deposit is held, and the move to a moment.
-use Rattle.std.proofs.Common.{◌≡◌, ℕ, ℤ, List, [], ◌∷◌, ◌++◌, Option, None, is_some, sym, ap, subst, ◌∙◌, append-nil, true≢false}
+use Rattle.std.proofs.Common.{◌≡◌, ℕ, ℤ, List, [], ◌∷◌, ◌++◌, Option, None, is_some, sym, ap}
+use Rattle.std.proofs.Common.{subst, ◌∙◌, append-nil, true≢false}
 use Rattle.std.specs.FinSet as set
 use Rattle.sha2.specs.Sha256.{sha256}
 use Rattle.esc_tables.specs.Reading.{reading}
@@ -22,8 +23,10 @@ use Rattle.esc_desk.proofs.MovingLemmas.{contains_held}
 use Rattle.esc_desk.proofs.KnownRows.{put_at}
 
 -- an arrival that adds a row: nothing is said of one that adds none
-pub idle_by : (e : List EventValue) (a : ArrivalValue) (k : StoreState) (row : ℕ) → IsStateAfter sha256 reading e k → k.bodies row ≡ None
-    → (IsApart sha256 reading (e ++ arrived a ∷ []) → body_put k.bodies row a.body row ≡ held_body sha256 reading (e ++ arrived a ∷ []) row)
+pub idle_by : (e : List EventValue) (a : ArrivalValue) (k : StoreState) (row : ℕ)
+    → IsStateAfter sha256 reading e k → k.bodies row ≡ None
+    → (IsApart sha256 reading (e ++ arrived a ∷ [])
+    → body_put k.bodies row a.body row ≡ held_body sha256 reading (e ++ arrived a ∷ []) row)
     → (work : Work) → IsIdle e (arrived a) work
 idle_by e a k row stood none held work apart same =
     let now = held apart in
@@ -37,8 +40,10 @@ idle_by e a k row stood none held work apart same =
 
 -- ---- another moment is set
 
-pub moment_move : {e : List EventValue} {k : StoreState} {t : Option ℤ} {cache : Cache} {plan : Plan} {listed : List MRow} {rows : List ℕ} → IsStateAfter sha256 reading e k → IsCacheOf k cache
-    → listed ≡ k.listed → rows ≡ cache.held_rows.items → AreLatestSteps listed rows t plan.new.items → plan.old.items ≡ kept_chain k
+pub moment_move : {e : List EventValue} {k : StoreState} {t : Option ℤ} {cache : Cache} {plan : Plan}
+    {listed : List MRow} {rows : List ℕ} → IsStateAfter sha256 reading e k → IsCacheOf k cache
+    → listed ≡ k.listed → rows ≡ cache.held_rows.items
+    → AreLatestSteps listed rows t plan.new.items → plan.old.items ≡ kept_chain k
     → IsMove e (moved t) k (with_moment k t) [] cache.held_rows.items plan
 moment_move {e = e} {k = k} {t = t} {plan = plan} {rows = rows} stood is listed_are rows_are latest old = record {
   stood = stood;
@@ -46,6 +51,7 @@ moment_move {e = e} {k = k} {t = t} {plan = plan} {rows = rows} stood is listed_
   begins = sym (append-nil k.listed);
   keeps = λ r body some. some;
   held = is.held;
-  latest = subst (λ (x : List ℕ). AreLatestSteps k.listed x t plan.new.items) rows_are (subst (λ (m : List MRow). AreLatestSteps m rows t plan.new.items) listed_are latest);
+  latest = subst (λ (x : List ℕ). AreLatestSteps k.listed x t plan.new.items)
+      rows_are (subst (λ (m : List MRow). AreLatestSteps m rows t plan.new.items) listed_are latest);
   old = old;
 }

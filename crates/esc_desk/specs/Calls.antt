@@ -1,6 +1,7 @@
 -- The words of a desk's contracts: what a call says of whatever events the desk reflected before
 -- it.
-use Rattle.std.specs.Prelude.{◌≡◌, ◌≢◌, ℕ, Bool, ◌+◌, ◌<◌, ◌≤◌, ◌++◌, List, [], ◌∷◌, length, Some}
+use Rattle.std.specs.Prelude.{◌≡◌, ◌≢◌, ℕ, Bool, ◌+◌, ◌<◌, ◌≤◌, ◌++◌, List, []}
+use Rattle.std.specs.Prelude.{◌∷◌, length, Some}
 use Rattle.std.specs.Prelude.{None, Result, IfOk, OnErr}
 use Rattle.sha2.specs.Sha256.{sha256}
 use Rattle.sqlite_trees.specs.declared.store.Store.{Ghosts}

@@ -1,5 +1,6 @@
 -- What an event changes of what a store keeps, and what is kept then.
-use Rattle.std.specs.Prelude.{◌≡◌, ◌≤◌, ◌+◌, ℕ, Bool, true, false, ◌&&◌, is_none, ℤ, List, length}
+use Rattle.std.specs.Prelude.{◌≡◌, ◌≤◌, ◌+◌, ℕ, Bool, true, false, ◌&&◌, is_none, ℤ, List}
+use Rattle.std.specs.Prelude.{length}
 use Rattle.std.specs.Prelude.{take, Option, Some, None, Ok, IfSome}
 use Rattle.sqlite_trees.specs.declared.store.Store.{Ghosts}
 use Rattle.esc_tables.specs.DepositValue.{DepositValue}

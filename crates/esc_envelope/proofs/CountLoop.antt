@@ -1,5 +1,7 @@
 -- One turn of the loop over the kinds.
-use Rattle.std.proofs.Common.{◌≡◌, ℕ, zero, suc, true, arith, ◌+◌, ◌<◌, ◌≤◌, List, [], ◌∷◌, ◌++◌, length, drop, get_or, Option, Some, None, refl, sym, ap, ◌∙◌, append_assoc}
+use Rattle.std.proofs.Common.{◌≡◌, ℕ, zero, suc, true, arith, ◌+◌, ◌<◌, ◌≤◌, List, []}
+use Rattle.std.proofs.Common.{◌∷◌, ◌++◌, length, drop, get_or, Option, Some, None, refl, sym, ap, ◌∙◌}
+use Rattle.std.proofs.Common.{append_assoc}
 use Rattle.std.specs.Prelude.{option_map, is_some}
 use Rattle.serde_json.specs.Find.{as_object}
 use Rattle.std.proofs.lemmas.List.{drop_more, drop_all, append-nil}
@@ -33,45 +35,61 @@ started json items = record { front = none (counts_among json items); below = tt
     none None = refl
     none (Some more) = refl
 
-one_more : (json : Data) (kind : Kind) (others : List Kind) (count : Option ℕ) (front : Counted) → declared_count json kind ≡ Some count
-    → after_front front (counts_among json (kind ∷ others)) ≡ after_front (front ++ count_entry kind count) (counts_among json others)
+one_more : (json : Data) (kind : Kind) (others : List Kind) (count : Option ℕ) (front : Counted)
+    → declared_count json kind ≡ Some count
+    → after_front front (counts_among json (kind ∷ others))
+    ≡ after_front (front ++ count_entry kind count) (counts_among json others)
 unfolding counts_among
 one_more json kind others count front told = rw told (moved front (count_entry kind count) (counts_among json others))
   where
-    moved : (front entry : Counted) (rest : Option Counted) → after_front front (rest >>= (λ more. added (entry ++ more))) ≡ after_front (front ++ entry) rest
+    moved : (front entry : Counted) (rest : Option Counted) → after_front
+        front (rest >>= (λ more. added (entry ++ more))) ≡ after_front (front ++ entry) rest
     moved front entry None = refl
     moved front entry (Some more) = ap (λ (l : Counted). Some l) (sym (append_assoc front entry more))
 
-here_is : (items : List Kind) (i : ℕ) (d : Kind) → i < length items → drop i items ≡ get_or items i d ∷ drop (i + 1) items
+here_is : (items : List Kind) (i : ℕ) (d : Kind)
+    → i < length items → drop i items ≡ get_or items i d ∷ drop (i + 1) items
 here_is items i d inside = drop_more items i d inside
 
-pub next : (json : Data) (items : List Kind) (i : ℕ) (d : Kind) (count : Option ℕ) (es more : Counted) → i < length items → kind_rank (get_or items i d) ≡ i → declared_count json (get_or items i d) ≡ Some count
-    → more ≡ es ++ count_entry (get_or items i d) count → AreCounted json items i es → AreCounted json items (i + 1) more
+pub next : (json : Data) (items : List Kind) (i : ℕ) (d : Kind) (count : Option ℕ) (es more : Counted)
+    → i < length items → kind_rank (get_or items i d) ≡ i
+    → declared_count json (get_or items i d) ≡ Some count
+    → more ≡ es ++ count_entry (get_or items i d) count
+    → AreCounted json items i es → AreCounted json items (i + 1) more
 next json items i d count es more inside rank told is known =
     let kind = get_or items i d in
     record {
-      front = rw is (sym (one_more json kind (drop (i + 1) items) count es told) ∙ ap (λ (l : List Kind). after_front es (counts_among json l)) (sym (here_is items i d inside)) ∙ known.front);
+      front = rw is (sym (one_more json kind (drop (i + 1) items) count es told)
+          ∙ ap (λ (l : List Kind). after_front es (counts_among json l))
+          (sym (here_is items i d inside)) ∙ known.front);
       below = rw is (are_below_push i es kind count rank known.below);
     }
 
-pub fails : (json : Data) (items : List Kind) (i : ℕ) (d : Kind) (es : Counted) → i < length items → declared_count json (get_or items i d) ≡ None → AreCounted json items i es → None ≡ counts_among json items
+pub fails : (json : Data) (items : List Kind) (i : ℕ) (d : Kind) (es : Counted)
+    → i < length items → declared_count json (get_or items i d) ≡ None
+    → AreCounted json items i es → None ≡ counts_among json items
 unfolding counts_among
 fails json items i d es inside told known =
     let none : after_front es (counts_among json (get_or items i d ∷ drop (i + 1) items)) ≡ None = rw told refl in
-    sym none ∙ ap (λ (l : List Kind). after_front es (counts_among json l)) (sym (here_is items i d inside)) ∙ known.front
+    sym none ∙ ap (λ (l : List Kind). after_front es (counts_among json l))
+    (sym (here_is items i d inside)) ∙ known.front
 
-pub ended : (json : Data) (items : List Kind) (i : ℕ) (es : Counted) → length items ≤ i → AreCounted json items i es → Some es ≡ counts_among json items
+pub ended : (json : Data) (items : List Kind) (i : ℕ) (es : Counted)
+    → length items ≤ i → AreCounted json items i es → Some es ≡ counts_among json items
 unfolding counts_among
 ended json items i es past known =
-    let none : after_front es (counts_among json (drop i items)) ≡ Some (es ++ []) = ap (λ (l : List Kind). after_front es (counts_among json l)) (drop_all i items past) in
+    let none : after_front es (counts_among json (drop i items)) ≡ Some (es ++ []) =
+    ap (λ (l : List Kind). after_front es (counts_among json l)) (drop_all i items past) in
     ap (λ (l : Counted). Some l) (sym (append-nil es)) ∙ sym none ∙ known.front
 
 -- the kinds in their order, as the constant has them
-pub among_all : (json : Data) → counts_among json (Registrar ∷ Contact ∷ Host ∷ Domain ∷ Idn ∷ Nndn ∷ []) ≡ counts_among json kinds
+pub among_all : (json : Data) → counts_among
+    json (Registrar ∷ Contact ∷ Host ∷ Domain ∷ Idn ∷ Nndn ∷ []) ≡ counts_among json kinds
 unfolding kinds
 among_all json = refl
 
-pub all_ranks : (i : ℕ) (d : Kind) → i < 6 → kind_rank (get_or (Registrar ∷ Contact ∷ Host ∷ Domain ∷ Idn ∷ Nndn ∷ []) i d) ≡ i
+pub all_ranks : (i : ℕ) (d : Kind)
+    → i < 6 → kind_rank (get_or (Registrar ∷ Contact ∷ Host ∷ Domain ∷ Idn ∷ Nndn ∷ []) i d) ≡ i
 all_ranks zero d low = refl
 all_ranks (suc zero) d low = refl
 all_ranks (suc (suc zero)) d low = refl
@@ -80,5 +98,6 @@ all_ranks (suc (suc (suc (suc zero)))) d low = refl
 all_ranks (suc (suc (suc (suc (suc zero))))) d low = refl
 all_ranks (suc (suc (suc (suc (suc (suc i)))))) d low = absurd (omega arith)
 
-pub counted_of : (json : Data) (o : Option Counted) → is_some (as_object json) ≡ true → o ≡ counts_among json (Registrar ∷ Contact ∷ Host ∷ Domain ∷ Idn ∷ Nndn ∷ []) → o ≡ counts_in json
+pub counted_of : (json : Data) (o : Option Counted) → is_some (as_object json) ≡ true → o
+    ≡ counts_among json (Registrar ∷ Contact ∷ Host ∷ Domain ∷ Idn ∷ Nndn ∷ []) → o ≡ counts_in json
 counted_of json o object same = rw object (same ∙ among_all json)

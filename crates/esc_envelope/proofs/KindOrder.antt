@@ -1,5 +1,6 @@
 -- The order of kinds, and the entries of a map that is filled in that order.
-use Rattle.std.proofs.Common.{◌≡◌, ℕ, ◌+◌, ◌<◌, List, [], ◌∷◌, ◌++◌, Option, Some, None, refl, ap, ◌∙◌, arith}
+use Rattle.std.proofs.Common.{◌≡◌, ℕ, ◌+◌, ◌<◌, List, [], ◌∷◌, ◌++◌, Option, Some, None}
+use Rattle.std.proofs.Common.{refl, ap, ◌∙◌, arith}
 use Rattle.std.proofs.lemmas.Bool.Decides.{nat_tests}
 use Rattle.std.specs.Ordering.{nat_cmp}
 use Rattle.std.specs.BTreeMap.{insert_entry}
@@ -56,11 +57,15 @@ cmp_above : (a b : Kind) → kind_rank b < kind_rank a → (kind_ord.cmp-value).
 cmp_above a b low = kind_cmp a b ∙ rank_above (kind_rank a) (kind_rank b) low
 
 -- an entry whose kind is above all others goes to the end
-pub insert_last : (es : List (Kind × ℕ)) (kind : Kind) (n : ℕ) → AreBelow (kind_rank kind) es → insert_entry (kind_ord.cmp-value).it es kind n ≡ es ++ ((kind, n) ∷ [])
+pub insert_last : (es : List (Kind × ℕ)) (kind : Kind) (n : ℕ) → AreBelow (kind_rank kind) es
+    → insert_entry (kind_ord.cmp-value).it es kind n ≡ es ++ ((kind, n) ∷ [])
 insert_last [] kind n below = refl
-insert_last (e ∷ es) kind n (low, below) = rw (cmp_above kind e.0 low) (ap (λ (l : List (Kind × ℕ)). e ∷ l) (insert_last es kind n below))
+insert_last (e ∷ es) kind n (low, below) =
+    rw (cmp_above kind e.0 low) (ap (λ (l : List (Kind × ℕ)). e ∷ l) (insert_last es kind n below))
 
-pub are_below_push : (rank : ℕ) (es : List (Kind × ℕ)) (kind : Kind) (count : Option ℕ) → kind_rank kind ≡ rank → AreBelow rank es → AreBelow (rank + 1) (es ++ count_entry kind count)
+pub are_below_push : (rank : ℕ) (es : List (Kind × ℕ)) (kind : Kind) (count : Option ℕ)
+    → kind_rank kind ≡ rank → AreBelow rank es → AreBelow (rank + 1) (es ++ count_entry kind count)
 are_below_push rank [] kind None same below = tt
 are_below_push rank [] kind (Some n) same below = (omega arith, tt)
-are_below_push rank (e ∷ es) kind count same (low, below) = (omega arith, are_below_push rank es kind count same below)
+are_below_push rank (e ∷ es) kind count same (low, below) =
+    (omega arith, are_below_push rank es kind count same below)

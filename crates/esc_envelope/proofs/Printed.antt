@@ -1,5 +1,7 @@
 -- The text of a moment writes it.
-use Rattle.std.proofs.Common.{◌≡◌, ℕ, zero, suc, ◌+◌, ◌-◌, ◌*◌, ◌/◌, ◌%◌, ◌^◌, ◌<◌, ◌≤◌, [], ◌∷◌, List, length, Bool, true, Some, None, refl, sym, ap, ◌∙◌, arith, inl, inr, ℤ, pos, negsuc}
+use Rattle.std.proofs.Common.{◌≡◌, ℕ, zero, suc, ◌+◌, ◌-◌, ◌*◌, ◌/◌, ◌%◌, ◌^◌}
+use Rattle.std.proofs.Common.{◌<◌, ◌≤◌, [], ◌∷◌, List, length, Bool, true, Some, None, refl, sym, ap}
+use Rattle.std.proofs.Common.{◌∙◌, arith, inl, inr, ℤ, pos, negsuc}
 use Rattle.std.specs.Prelude.{nat_lt, IsSome}
 use Rattle.std.specs.Char.{is_ascii_digit}
 use Rattle.std.specs.List.{list_all, prefix_len}
@@ -11,7 +13,8 @@ use Rattle.jiff_core.proofs.SignedLemmas.{signed_arith}
 use Rattle.jiff_fmt.specs.Reader.{fraction_value}
 use Rattle.jiff_fmt.specs.Text.{fraction, significant, trailing_zeros}
 use Rattle.jiff_fmt.proofs.ReaderLemmas.{fraction_value-nil}
-use Rattle.jiff_fmt.proofs.TextLemmas.{places-read, places-end, trailing_zeros-le, trailing_zeros-mod, significant-not_zero}
+use Rattle.jiff_fmt.proofs.TextLemmas.{places-read, places-end, trailing_zeros-le, trailing_zeros-mod}
+use Rattle.jiff_fmt.proofs.TextLemmas.{significant-not_zero}
 use Rattle.esc_envelope.specs.Moment.{is_clock, is_fraction, moment_text, IsWatermark}
 use Rattle.esc_envelope.specs.Watermark.{IsInYears, clock_of, day_of, watermark_of, watermark_text_of}
 use Rattle.esc_envelope.proofs.Calendar.{day_is_of}
@@ -22,7 +25,8 @@ all_pass : (p : ℕ → Bool) (xs : List ℕ) → prefix_len p xs ≡ length xs 
 all_pass p [] e = refl
 all_pass p (x ∷ xs) e =
     elim (cases_Bool (p x)) [
-      | inl passes ↦ let rest : prefix_len p xs ≡ length xs = let more = rw passes at e in omega arith in rw passes (all_pass p xs rest)
+      | inl passes ↦ let rest : prefix_len p xs ≡ length xs = let more = rw passes at e in
+          omega arith in rw passes (all_pass p xs rest)
       | inr stops ↦ absurd (let none = rw stops at e in omega arith)
     ]
 
@@ -49,7 +53,8 @@ printed_more n some low =
     let run : prefix_len is_ascii_digit (fraction None n) ≡ length (fraction None n) =
     ap (prefix_len is_ascii_digit) (sym (append-nil (fraction None n))) ∙ told.0 ∙ omega (arith, told.1) in
     let digits = all_pass is_ascii_digit (fraction None n) run in
-    let long : (0 < length (fraction None n)) × (length (fraction None n) ≤ 9) = (omega (arith, told.1, count, few), omega (arith, told.1, count, few)) in
+    let long : (0 < length (fraction None n)) × (length (fraction None n) ≤ 9) =
+    (omega (arith, told.1, count, few), omega (arith, told.1, count, few)) in
     record {
       form = λ nonempty. grind (arith, nat_tests, digits, long.0, long.1);
       value = omega (arith, told.2, whole);
@@ -61,7 +66,8 @@ is_printed (suc n) low = printed_more (suc n) (omega arith) low
 
 -- a day, an hour, a minute, a second and the rest make up a moment
 split_moment : (n : ℕ) → n ≡ n / 86_400_000_000_000 * 86_400_000_000_000
-    + (((n % 86_400_000_000_000 / 3_600_000_000_000) * 3600 + (n % 86_400_000_000_000 / 60_000_000_000 % 60) * 60 + n % 86_400_000_000_000 / 1_000_000_000 % 60) * 1_000_000_000 + n % 1_000_000_000)
+    + (((n % 86_400_000_000_000 / 3_600_000_000_000) * 3600 + (n % 86_400_000_000_000 / 60_000_000_000
+    % 60) * 60 + n % 86_400_000_000_000 / 1_000_000_000 % 60) * 1_000_000_000 + n % 1_000_000_000)
 split_moment n = omega arith
 
 clock_is : (r : ℕ) → r < 86_400_000_000_000 → is_clock (clock_of r) ≡ true
@@ -93,7 +99,8 @@ watermark_printed (pos n) text e =
       value = rw (printed.value, day_told.number) (omega (arith, signed_arith, split_moment n));
     }
 
-pub watermark_read_back : (w : ℤ) (text : List ℕ) → watermark_text_of w ≡ Some text → watermark_of text ≡ Some w
+pub watermark_read_back : (w : ℤ) (text : List ℕ)
+    → watermark_text_of w ≡ Some text → watermark_of text ≡ Some w
 watermark_read_back w text e = watermark_again text w (watermark_printed w text e)
 
 pub watermark_has_text : (w : ℤ) → IsInYears w → IsSome (watermark_text_of w)

@@ -1,5 +1,7 @@
 -- What `jiff` writes of a civil datetime is the text of its moment.
-use Rattle.std.proofs.Common.{◌≡◌, ℕ, zero, suc, ◌+◌, ◌*◌, ◌/◌, ◌%◌, ◌<◌, ◌≤◌, ◌++◌, [], ◌∷◌, List, length, true, false, Some, None, refl, sym, ap, ◌∙◌, ne_eqb, arith, inl, inr, ℤ, pos, negsuc}
+use Rattle.std.proofs.Common.{◌≡◌, ℕ, zero, suc, ◌+◌, ◌*◌, ◌/◌, ◌%◌, ◌<◌, ◌≤◌}
+use Rattle.std.proofs.Common.{◌++◌, [], ◌∷◌, List, length, true, false, Some, None, refl, sym, ap}
+use Rattle.std.proofs.Common.{◌∙◌, ne_eqb, arith, inl, inr, ℤ, pos, negsuc}
 use Rattle.std.specs.Prelude.{nat_lt, nat_le, ◌==◌}
 use Rattle.std.proofs.lemmas.Bool.{leb-true, lt-ltb, cases_Bool, ltb-true, and_parts}
 use Rattle.jiff.specs.Names.{iso_datetime_text}
@@ -35,7 +37,8 @@ fraction_shown (suc n) low =
     dotted (fraction None (suc n)) (omega (arith, told.1, count, few)) ∙ rw nonzero refl
 
 -- the date of a day of the calendar
-date_of : (d : Day) → is_day d ≡ true → (date : Date) × (date.year ≡ pos d.year) × (date.month ≡ d.month) × (date.day ≡ d.day)
+date_of : (d : Day) → is_day d ≡ true
+    → (date : Date) × (date.year ≡ pos d.year) × (date.month ≡ d.month) × (date.day ≡ d.day)
 date_of d real =
     let last = and_parts _ (nat_le d.day (days_in_month (pos d.year) d.month)) real in
     let first = and_parts _ (nat_le 1 d.day) last.0 in
@@ -66,17 +69,22 @@ pub record AreParts (civil : DateTime) (n : ℕ) : Type 0 where
 abbrev seconds_of : Time → ℕ
 seconds_of t = t.hour * 3600 + t.minute * 60 + t.second
 
-are_parts : (civil : DateTime) (n : ℕ) → civil_nanos civil ≡ pos n → n < 9_214_646_400_000_000_000 → AreParts civil n
+are_parts : (civil : DateTime) (n : ℕ)
+    → civil_nanos civil ≡ pos n → n < 9_214_646_400_000_000_000 → AreParts civil n
 are_parts civil n value low =
     let parts = civil_nanos-parts civil in
     let bound = time_nanos_bound civil.time in
-    let days : epoch_day civil.date ≡ pos (n / 86_400_000_000_000) = omega (arith, signed_arith, parts, bound, value) in
-    let left : time_nanos civil.time ≡ n % 86_400_000_000_000 = omega (arith, signed_arith, parts, bound, value, days) in
+    let days : epoch_day civil.date ≡ pos (n / 86_400_000_000_000) =
+    omega (arith, signed_arith, parts, bound, value) in
+    let left : time_nanos civil.time ≡ n % 86_400_000_000_000 =
+    omega (arith, signed_arith, parts, bound, value, days) in
     let day_told = day_is_of (n / 86_400_000_000_000) (omega arith) in
     let made = date_of (day_of (n / 86_400_000_000_000)) day_told.real in
-    let same_number : epoch_day civil.date ≡ epoch_day made.0 = days ∙ sym day_told.number ∙ rw (made.1, made.2, made.3) refl in
+    let same_number : epoch_day civil.date ≡ epoch_day made.0 =
+    days ∙ sym day_told.number ∙ rw (made.1, made.2, made.3) refl in
     let same = epoch_day_injective civil.date made.0 same_number in
-    let seconds : seconds_of civil.time ≡ n % 86_400_000_000_000 / 1_000_000_000 = omega (arith, left, civil.time.subsec_in) in
+    let seconds : seconds_of civil.time ≡ n % 86_400_000_000_000 / 1_000_000_000 =
+    omega (arith, left, civil.time.subsec_in) in
     record {
       year = same.0 ∙ made.1;
       month = same.1 ∙ made.2;
@@ -87,14 +95,16 @@ are_parts civil n value low =
       fraction = omega (arith, left, civil.time.subsec_in);
     }
 
-pub shown : (civil : DateTime) (w : ℤ) → civil_nanos civil ≡ w → IsInYears w → watermark_text_of w ≡ Some (iso_datetime_text civil ++ (90 ∷ []))
+pub shown : (civil : DateTime) (w : ℤ) → civil_nanos civil ≡ w
+    → IsInYears w → watermark_text_of w ≡ Some (iso_datetime_text civil ++ (90 ∷ []))
 unfolding watermark_text_of
 shown civil (negsuc n) value years = absurd (omega (arith, signed_arith))
 shown civil (pos n) value years =
     let low : n < 9_214_646_400_000_000_000 = omega (arith, signed_arith) in
     let parts = are_parts civil n value low in
     let fraction_is = fraction_shown (n % 1_000_000_000) (omega arith) in
-    let text : moment_text (day_of (n / 86_400_000_000_000)) (clock_of (n % 86_400_000_000_000)) (fraction None (n % 1_000_000_000)) ≡ iso_datetime_text civil ++ (90 ∷ []) =
+    let text : moment_text (day_of (n / 86_400_000_000_000)) (clock_of (n % 86_400_000_000_000))
+    (fraction None (n % 1_000_000_000)) ≡ iso_datetime_text civil ++ (90 ∷ []) =
     rw (parts.year, parts.month, parts.day, parts.hour, parts.minute, parts.second, parts.fraction, fraction_is) refl in
     rw (lt-ltb _ _ low) (ap (λ (l : List ℕ). some_of l) text)
 

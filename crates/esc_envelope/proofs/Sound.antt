@@ -17,7 +17,8 @@ use Rattle.esc_envelope.proofs.Declared.{are_contents, are_deletes}
 Found : {A B : Type 0} → Option A → (A → Result B Refusal) → B → Type 0
 Found {A} o next y = (x : A) × (o ≡ Some x) × (next x ≡ Ok y)
 
-found : {A B : Type 0} (n : Refusal) (o : Option A) (next : A → Result B Refusal) (y : B) → (or_fault n o >>= next) ≡ Ok y → Found o next y
+found : {A B : Type 0} (n : Refusal) (o : Option A) (next : A → Result B Refusal) (y : B)
+    → (or_fault n o >>= next) ≡ Ok y → Found o next y
 unfolding Found
 found n None next y h = absurd cc
 found n (Some x) next y h = (x, refl, h)
@@ -41,7 +42,8 @@ sound_in json e h =
     let deletes = found WrongTable (deletes_in deleted.0) _ e contents.2 in
     let what_is = are_contents declared.0 contents.0 contents.1 in
     let what_was = are_deletes deleted.0 deletes.0 deletes.1 in
-    subst IsSound (same_ok _ e deletes.2) (All-append IsTable contents.0 deletes.0 what_is.0 what_was.0, what_is.1, what_was.1)
+    subst IsSound (same_ok _ e deletes.2)
+    (All-append IsTable contents.0 deletes.0 what_is.0 what_was.0, what_is.1, what_was.1)
 
 pub sound : (text : List ℕ) (e : EnvelopeValue) → envelope_of text ≡ Ok e → IsSound e
 unfolding envelope_of Found

@@ -1,6 +1,7 @@
 -- Moments: a day, a time of day and a fraction of a second, their text and their value (this
 -- project's profile of RFC 3339: UTC alone, without leap seconds).
-use Rattle.std.specs.Prelude.{ℕ, ◌+◌, ◌*◌, ◌/◌, ◌%◌, ◌<◌, ◌≡◌, List, [], ◌∷◌, ◌++◌, length, Bool}
+use Rattle.std.specs.Prelude.{ℕ, ◌+◌, ◌*◌, ◌/◌, ◌%◌, ◌<◌, ◌≡◌, List, [], ◌∷◌}
+use Rattle.std.specs.Prelude.{◌++◌, length, Bool}
 use Rattle.std.specs.Prelude.{true, ◌&&◌, nat_lt, nat_le, ℤ, pos, ◌+ℤ◌, ◌*ℤ◌}
 use Rattle.std.specs.Char.{is_ascii_digit}
 use Rattle.std.specs.List.{list_all}

@@ -1,5 +1,6 @@
 -- Watermarks and their texts, as functions (this project's profile of RFC 3339).
-use Rattle.std.specs.Prelude.{ℕ, zero, suc, ◌+◌, ◌-◌, ◌*◌, ◌/◌, ◌%◌, ◌==◌, ◌&&◌, nat_lt, List, []}
+use Rattle.std.specs.Prelude.{ℕ, zero, suc, ◌+◌, ◌-◌, ◌*◌, ◌/◌, ◌%◌, ◌==◌, ◌&&◌, nat_lt}
+use Rattle.std.specs.Prelude.{List, []}
 use Rattle.std.specs.Prelude.{◌∷◌, length, take, slice_index, if◌then◌else◌, Option, Some, None, ℤ}
 use Rattle.std.specs.Prelude.{pos, negsuc, ◌<ℤ◌, ◌≤ℤ◌}
 use Rattle.std.specs.Char.{is_ascii_digit}

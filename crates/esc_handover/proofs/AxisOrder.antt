@@ -1,5 +1,6 @@
 -- Moments stand in order on an axis, and within it.
-use Rattle.std.proofs.Common.{◌≡◌, ℕ, ℤ, ◌*◌, ◌/◌, ◌<◌, ◌≤◌, min, Bool, true, false, refl, arith}
+use Rattle.std.proofs.Common.{◌≡◌, ℕ, ℤ, ◌*◌, ◌/◌, ◌<◌, ◌≤◌, min, Bool, true, false, refl}
+use Rattle.std.proofs.Common.{arith}
 use Rattle.std.specs.Prelude.{◌≤ℤ◌, ◌==◌}
 use Rattle.std.proofs.lemmas.Bool.{eqb-false}
 use Rattle.std.proofs.lemmas.Int.{ints}
@@ -21,15 +22,16 @@ share_inside part whole = elim (whole == 0) as (λ v. (whole == 0) ≡ v → sha
 
 -- more of a whole is no less of it
 share_grows : (part more whole : ℕ) → part ≤ more → share part whole ≤ share more whole
-share_grows part more whole le = elim (whole == 0) as (λ v. (whole == 0) ≡ v → share part whole ≤ share more whole) [
-  | true ↦ λ e. rw e (omega arith)
-  | false ↦ λ e.
-      let least : ℕ = min part whole * 1000 in
-      let most : ℕ = min more whole * 1000 in
-      let under : least ≤ most = omega (arith, le) in
-      let whole_parts : least / whole * whole ≤ most = omega (arith, div-add-mod' least whole, under) in
-      rw e (le-div (least / whole) most whole (positive whole e) whole_parts)
-] refl
+share_grows part more whole le =
+    elim (whole == 0) as (λ v. (whole == 0) ≡ v → share part whole ≤ share more whole) [
+      | true ↦ λ e. rw e (omega arith)
+      | false ↦ λ e.
+          let least : ℕ = min part whole * 1000 in
+          let most : ℕ = min more whole * 1000 in
+          let under : least ≤ most = omega (arith, le) in
+          let whole_parts : least / whole * whole ≤ most = omega (arith, div-add-mod' least whole, under) in
+          rw e (le-div (least / whole) most whole (positive whole e) whole_parts)
+    ] refl
 
 -- what is later is no less time after
 since_grows : (first m n : ℤ) → m ≤ℤ n → since first m ≤ since first n

@@ -1,5 +1,7 @@
 -- A Full of the tables, listed alone and held, leaves these tables.
-use Rattle.std.proofs.Common.{◌≡◌, ℕ, ℤ, Bool, true, false, cond, ◌≤◌, List, [], ◌∷◌, Option, None, Some, Result, Ok, refl, sym, ap, subst, ◌∙◌, is_some, true≢false, arith, inl, inr}
+use Rattle.std.proofs.Common.{◌≡◌, ℕ, ℤ, Bool, true, false, cond, ◌≤◌, List, [], ◌∷◌, Option}
+use Rattle.std.proofs.Common.{None, Some, Result, Ok, refl, sym, ap, subst, ◌∙◌, is_some, true≢false}
+use Rattle.std.proofs.Common.{arith, inl, inr}
 use Rattle.std.specs.FinSet as set
 use Rattle.std.specs.Ordering.{nat_cmp, int_eq, eq_by_cmp}
 use Rattle.std.specs.List.{list_any}
@@ -40,16 +42,19 @@ none_there None e = refl
 none_there (Some x) e = absurd (true≢false e)
 
 -- the tables of one deposit: what it says, where it mentions a key
-of_one : (b : Bool) (d : DepositValue) (q : KeyName) → mentions q d ≡ b → tables (d ∷ []) q ≡ cond b (says q d) None
+of_one : (b : Bool) (d : DepositValue) (q : KeyName)
+    → mentions q d ≡ b → tables (d ∷ []) q ≡ cond b (says q d) None
 of_one true d q is = rw is refl
 of_one false d q is = rw is refl
 
 pub full_objects : FullHasItsObjects
 full_objects id w es q = by_mention (list_any (key_eq q) (keys_of es)) refl
   where
-    by_mention : (b : Bool) → list_any (key_eq q) (keys_of es) ≡ b → tables (full_of id w es ∷ []) q ≡ lookup (key_eq q) es
+    by_mention : (b : Bool) → list_any (key_eq q) (keys_of es) ≡ b
+        → tables (full_of id w es ∷ []) q ≡ lookup (key_eq q) es
     by_mention true is = of_one true (full_of id w es) q is
-    by_mention false is = of_one false (full_of id w es) q is ∙ sym (none_there (lookup (key_eq q) es) (is_some-lookup (key_eq q) es ∙ is))
+    by_mention false is = of_one false (full_of id w es) q is
+        ∙ sym (none_there (lookup (key_eq q) es) (is_some-lookup (key_eq q) es ∙ is))
 
 -- ---- what is held
 
@@ -73,7 +78,8 @@ no_other q held =
       | inr never ↦ absurd (true≢false (sym never))
     ]
 
-module _ (digest : List ℕ → List ℕ) (reads : List ℕ → Result DepositValue Refusal) (id : List ℕ) (w : ℤ) (es : List Entry) (body number : List ℕ)
+module _ (digest : List ℕ → List ℕ) (reads : List ℕ → Result DepositValue Refusal)
+    (id : List ℕ) (w : ℤ) (es : List Entry) (body number : List ℕ)
     (full : reads body ≡ Ok (full_of id w es)) where
   abbrev row : MRow
   row = record { header = first_full_header id w; digest = digest body }
@@ -97,7 +103,8 @@ module _ (digest : List ℕ → List ℕ) (reads : List ℕ → Result DepositVa
   used : IsUsed (row ∷ []) first_alone 0
   used = record {
     held = first_held;
-    greatest = λ q held same. subst (λ (r : ℕ). resend_at (row ∷ []) r ≤ 0) (sym (no_other q held)) (omega arith);
+    greatest = λ q held same. subst (λ (r : ℕ). resend_at (row ∷ []) r ≤ 0)
+        (sym (no_other q held)) (omega arith);
   }
 
   latest : IsLatestChainAt (row ∷ []) first_alone None (0 ∷ [])
@@ -114,7 +121,8 @@ full_restored id w es body number order full =
     let said = deposit_held sha256 reading id w es body number full in
     record {
       chain = 0 ∷ [];
-      latest = subst (λ (h : Rows). IsLatestChainAt (row sha256 reading id w es body number full ∷ []) h None (0 ∷ [])) (sym held)
+      latest = subst (λ (h : Rows). IsLatestChainAt (row sha256 reading id w es body number full ∷ [])
+          h None (0 ∷ [])) (sym held)
           (latest sha256 reading id w es body number full);
       objects = record {
         once = IsDistinct-from_sorted key_cmp (keys_of es) order;

@@ -1,6 +1,7 @@
 -- Where the places of a release stand in its picture, and which are shown together (this project's
 -- profile).
-use Rattle.std.specs.Prelude.{ℕ, ◌*◌, ◌/◌, ◌≤◌, min, List, Option, Some, None, ℤ, ◌-ℤ◌, ◌≤ℤ◌}
+use Rattle.std.specs.Prelude.{ℕ, ◌*◌, ◌/◌, ◌≤◌, min, List, Option, Some, None, ℤ, ◌-ℤ◌}
+use Rattle.std.specs.Prelude.{◌≤ℤ◌}
 use Rattle.std.specs.Prelude.{int_lt, Bool, not, ◌&&◌, ◌==◌, if◌then◌else◌, is_some}
 use Rattle.std.specs.Int.RustNames.{unsigned_abs}
 use Rattle.std.specs.List.{sum_by}

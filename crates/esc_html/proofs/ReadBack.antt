@@ -1,5 +1,6 @@
 -- What is escaped is read as what it was.
-use Rattle.std.proofs.Common.{◌≡◌, ℕ, List, [], ◌∷◌, ◌++◌, Option, Some, None, true, false, cond, refl, sym, ap, subst, ◌∙◌, ◌⊎◌, inl, inr}
+use Rattle.std.proofs.Common.{◌≡◌, ℕ, List, [], ◌∷◌, ◌++◌, Option, Some, None, true, false, cond}
+use Rattle.std.proofs.Common.{refl, sym, ap, subst, ◌∙◌, ◌⊎◌, inl, inr}
 use Rattle.std.specs.Prelude.{◌==◌}
 use Rattle.std.proofs.lemmas.Bool.{eqb-true}
 use Rattle.esc_html.specs.Escape.{spelled, escaped, is_markup_sign, before, read_on, read_text}
@@ -20,7 +21,8 @@ from_sign : (rest text : List ℕ) (b c : ℕ) → b ≡ c → Reads rest text c
 from_sign rest text b c e known = subst (Reads rest text) (sym e) known
 
 -- a byte that is no sign stands as it is
-module _ (b : ℕ) (a : (b == 38) ≡ false) (l : (b == 60) ≡ false) (g : (b == 62) ≡ false) (q : (b == 34) ≡ false) (s : (b == 39) ≡ false) where
+module _ (b : ℕ) (a : (b == 38) ≡ false) (l : (b == 60) ≡ false)
+    (g : (b == 62) ≡ false) (q : (b == 34) ≡ false) (s : (b == 39) ≡ false) where
   stands : spelled b ≡ b ∷ []
   stands = rw (a, l, g, q, s) refl
 
@@ -30,7 +32,8 @@ module _ (b : ℕ) (a : (b == 38) ≡ false) (l : (b == 60) ≡ false) (g : (b =
   read_next : (rest : List ℕ) → read_on (b ∷ rest) None ≡ before (Some b) (read_on rest None)
   read_next rest =
       let next : Option (List ℕ) = before (Some b) (read_on rest None) in
-      ap (λ v. cond v (read_on rest (Some [])) (cond (is_markup_sign b) None next)) a ∙ ap (λ v. cond v None next) no_sign
+      ap (λ v. cond v (read_on rest (Some [])) (cond (is_markup_sign b) None next)) a
+      ∙ ap (λ v. cond v None next) no_sign
 
   as_it_is : (rest text : List ℕ) → read_on rest None ≡ Some text → Reads rest text b
   unfolding Reads

@@ -61,7 +61,8 @@ IsMarkup bytes = (m : Markup) × (markup_text m ≡ bytes)
 
 -- what stands before the title: in it, that nothing is to be loaded or run
 unfoldable pub page_front : List ℕ
-page_front = codes "<!DOCTYPE html>\n<html lang=\"en\"><head><meta charset=\"utf-8\"><meta name=\"viewport\" content=\"width=device-width, initial-scale=1\"><meta http-equiv=\"Content-Security-Policy\" content=\"default-src 'none'; style-src 'unsafe-inline'\"><title>"
+page_front = codes
+    "<!DOCTYPE html>\n<html lang=\"en\"><head><meta charset=\"utf-8\"><meta name=\"viewport\" content=\"width=device-width, initial-scale=1\"><meta http-equiv=\"Content-Security-Policy\" content=\"default-src 'none'; style-src 'unsafe-inline'\"><title>"
 
 -- a page with this title, this style and this body
 abbrev pub page_text : List ℕ → List ℕ → List ℕ → List ℕ

@@ -1,5 +1,7 @@
 -- The response to a request, from its parts.
-use Rattle.std.proofs.Common.{◌≡◌, ℕ, ◌≤◌, ◌<◌, List, ◌∷◌, ◌++◌, length, take, drop, true, false, nat_le, refl, sym, ◌∙◌, ap, subst, inl, inr, Option, Some, None, IfSome, arith}
+use Rattle.std.proofs.Common.{◌≡◌, ℕ, ◌≤◌, ◌<◌, List, ◌∷◌, ◌++◌, length, take, drop, true}
+use Rattle.std.proofs.Common.{false, nat_le, refl, sym, ◌∙◌, ap, subst, inl, inr, Option, Some, None}
+use Rattle.std.proofs.Common.{IfSome, arith}
 use Rattle.std.proofs.lemmas.Bool.Decides.{nat_tests}
 use Rattle.std.specs.Global.{Vec}
 use Rattle.std.specs.Io.KnownBytes.{Consumes, prepend_known}
@@ -23,24 +25,40 @@ use Rattle.esc_request.specs.Pieces.{Pieces, AreAwaited, ReadsWhile}
 use Rattle.esc_request.specs.PieceLaws.{awaited_after}
 use Rattle.esc_http.specs.RequestPlans.{plan_of_head}
 use Rattle.esc_request.specs.Response.{out_of_memory}
-use Rattle.esc_http.specs.Answering.{Request, refused, arrives, wants, request_with_body, Asks, IsAnswered, IsUndecided, IsOrMemory, LeavesStill, LosesArrival, text_or_memory}
+use Rattle.esc_http.specs.Answering.{Request, refused, arrives, wants, request_with_body, Asks}
+use Rattle.esc_http.specs.Answering.{IsAnswered, IsUndecided, IsOrMemory, LeavesStill, LosesArrival}
+use Rattle.esc_http.specs.Answering.{text_or_memory}
 
 -- the text that was made, or the out-of-memory response
-pub text_is : (expected : List ℕ) (o : Option (Vec ℕ)) → IfSome o (λ text. text.items ≡ expected) → IsOrMemory expected (text_or_memory o)
+pub text_is : (expected : List ℕ) (o : Option (Vec ℕ))
+    → IfSome o (λ text. text.items ≡ expected) → IsOrMemory expected (text_or_memory o)
 text_is expected None is = inr refl
 text_is expected (Some text) is = inl is
 
 -- a head stays one, whatever follows
-longer : (front : List ℕ) (h : RequestHead) (rest more : List ℕ) → HasHead front h rest → HasHead (front ++ more) h (rest ++ more)
-longer front h rest more has = record { reads = ReadsRequest-append front h rest more has.reads; size = has.size; lines = has.lines }
+longer : (front : List ℕ) (h : RequestHead) (rest more : List ℕ)
+    → HasHead front h rest → HasHead (front ++ more) h (rest ++ more)
+longer front h rest more has = record {
+  reads = ReadsRequest-append front h rest more has.reads;
+  size = has.size;
+  lines = has.lines;
+}
 
 -- what the head at the front of what was read asks for is what the whole input asks for
-pub asked : (before after : Option (List ℕ)) (front : List ℕ) (n : ℕ) (h : RequestHead) (request : Request) → Consumes before after front → HasHead front h (drop n front)
-    → IfSome (prepend_known (drop n front) after) (λ rest. request ≡ request_with_body (plan_of_head h) rest) → IfSome before (λ input. Asks input request)
+pub asked : (before after : Option (List ℕ)) (front : List ℕ) (n : ℕ)
+    (h : RequestHead) (request : Request) → Consumes before after front → HasHead front h (drop n front)
+    → IfSome (prepend_known (drop n front) after) (λ rest. request
+    ≡ request_with_body (plan_of_head h) rest) → IfSome before (λ input. Asks input request)
 asked None after front n h request took has is = tt
 asked (Some input) None front n h request took has is = absurd took
 asked (Some input) (Some rest) front n h request took has is =
-    inl (h, drop n front ++ rest, subst (λ (l : List ℕ). HasHead l h (drop n front ++ rest)) (sym took) (longer front h (drop n front) rest has), is)
+    inl (
+      h,
+      drop n front ++ rest,
+      subst (λ (l : List ℕ). HasHead l h (drop n front ++ rest))
+          (sym took) (longer front h (drop n front) rest has),
+      is,
+    )
 
 -- what holds of each input holds of what a reader has
 pub always : (o : Option (List ℕ)) (P : List ℕ → Type 0) → ((input : List ℕ) → P input) → IfSome o P
@@ -53,34 +71,43 @@ headless None none = tt
 headless (Some input) none = inr (none, refl)
 
 -- the request of a body that is whole
-pub whole_arrives : (o : Option (List ℕ)) (number body seen : List ℕ) (size : ℕ) → seen ≡ body → IfSome o (λ input. (size ≤ length input) × (body ≡ take size input))
-    → IfSome o (λ input. arrives (record { number = number; body = seen }) ≡ request_with_body (Put number size) input)
+pub whole_arrives : (o : Option (List ℕ)) (number body seen : List ℕ) (size : ℕ)
+    → seen ≡ body → IfSome o (λ input. (size ≤ length input) × (body ≡ take size input))
+    → IfSome o (λ input. arrives (record { number = number; body = seen })
+    ≡ request_with_body (Put number size) input)
 whole_arrives None number body seen size same is = tt
 whole_arrives (Some input) number body seen size same (fits, is) =
     let long : nat_le size (length input) ≡ true = grind (arith, nat_tests) in
     rw long (ap (λ (b : List ℕ). arrives (record { number = number; body = b })) (same ∙ is))
 
 -- the request of a body that is cut
-pub cut_refused : (o : Option (List ℕ)) (number : List ℕ) (size : ℕ) → IfSome o (λ input. length input < size) → IfSome o (λ input. refused BadRequest ≡ request_with_body (Put number size) input)
+pub cut_refused : (o : Option (List ℕ)) (number : List ℕ) (size : ℕ) → IfSome o (λ input. length input
+    < size) → IfSome o (λ input. refused BadRequest ≡ request_with_body (Put number size) input)
 cut_refused None number size short = tt
 cut_refused (Some input) number size short =
     let cut : nat_le size (length input) ≡ false = grind (arith, nat_tests) in
     rw cut refl
 
 -- the same request of the same plan, with the bytes that were read before written in another way
-pub same_request : (o : Option (List ℕ)) (front tail : List ℕ) (plan other : RequestPlan) (request : Request) → front ≡ tail → plan ≡ other
-    → IfSome (prepend_known front o) (λ rest. request ≡ request_with_body plan rest) → IfSome (prepend_known tail o) (λ rest. request ≡ request_with_body other rest)
+pub same_request : (o : Option (List ℕ))
+    (front tail : List ℕ) (plan other : RequestPlan) (request : Request) → front ≡ tail → plan ≡ other
+    → IfSome (prepend_known front o) (λ rest. request ≡ request_with_body plan rest)
+    → IfSome (prepend_known tail o) (λ rest. request ≡ request_with_body other rest)
 same_request o front tail plan other request same is holds =
     subst (λ (p : RequestPlan). IfSome (prepend_known tail o) (λ rest. request ≡ request_with_body p rest)) is
-    (subst (λ (l : List ℕ). IfSome (prepend_known l o) (λ rest. request ≡ request_with_body plan rest)) same holds)
+    (subst (λ (l : List ℕ). IfSome (prepend_known l o)
+    (λ rest. request ≡ request_with_body plan rest)) same holds)
 
 -- some request that an input may make of a plan
-pub some_request : (o : Option (List ℕ)) (plan : RequestPlan) → (request : Request) × IfSome o (λ rest. request ≡ request_with_body plan rest)
+pub some_request : (o : Option (List ℕ)) (plan : RequestPlan)
+    → (request : Request) × IfSome o (λ rest. request ≡ request_with_body plan rest)
 some_request None plan = (refused BadRequest, tt)
 some_request (Some rest) plan = (request_with_body plan rest, refl)
 
 -- what was read while the body was shorter was read while the whole made no request
-pub undecided : (a b : Pieces) (bytes front last : List ℕ) (h : RequestHead) (number : List ℕ) (size : ℕ) → HasHead bytes h front → plan_of_head h ≡ Put number size → ReadsWhile (IsShorter size) a b front last
+pub undecided : (a b : Pieces)
+    (bytes front last : List ℕ) (h : RequestHead) (number : List ℕ) (size : ℕ) → HasHead bytes h front
+    → plan_of_head h ≡ Put number size → ReadsWhile (IsShorter size) a b front last
     → (end : List ℕ) × ReadsWhile IsUndecided a b bytes end
 undecided a b bytes front last h number size has asks read = (
   _,
@@ -88,18 +115,29 @@ undecided a b bytes front last h number size has asks read = (
     pieces = read.pieces;
     added = read.added;
     awaited = subst (λ (l : List ℕ). AreAwaited IsUndecided l read.pieces) (sym has.reads.1)
-        (awaited_after (IsShorter size) IsUndecided (print_request h) (λ tail short. inr (record { head = h; rest = tail; number = number; size = size; begins = record { reads = (has.reads.0, refl); size = has.size; lines = has.lines }; asks = asks; short = short })) front read.pieces read.awaited);
+        (awaited_after (IsShorter size) IsUndecided (print_request h)
+        (λ tail short. inr (record {
+          head = h;
+          rest = tail;
+          number = number;
+          size = size;
+          begins = record { reads = (has.reads.0, refl); size = has.size; lines = has.lines };
+          asks = asks;
+          short = short;
+        })) front read.pieces read.awaited);
     came = refl;
   },
 )
 
 -- what a crash leaves is among what it leaves with one more event in doubt
-doubted : {S : Type 0} (g : Ghosts S) (desk : Desk S) (e doubtful : List EventValue) (x : EventValue) → DeskLeaves g desk e doubtful → DeskLeaves g desk e (x ∷ doubtful)
+doubted : {S : Type 0} (g : Ghosts S) (desk : Desk S) (e doubtful : List EventValue) (x : EventValue)
+    → DeskLeaves g desk e doubtful → DeskLeaves g desk e (x ∷ doubtful)
 unfolding CrashLeaves
 doubted g desk e doubtful x left = λ clean trees may. inr (left clean trees may)
 
 -- where nothing changed a crash leaves what it might leave before
-pub leaves_still : {S : Type 0} (g : Ghosts S) (old new : Desk S) → IsUnchangedDesk g old new → LeavesStill g old new
+pub leaves_still : {S : Type 0} (g : Ghosts S) (old new : Desk S)
+    → IsUnchangedDesk g old new → LeavesStill g old new
 unfolding CrashLeaves
 leaves_still g old new stays e doubtful serves left clean trees may =
     elim (stays.same.survives.crash clean trees may) [
@@ -109,7 +147,15 @@ leaves_still g old new stays e doubtful serves left clean trees may =
 
 module _ {S : Type 0} (g : Ghosts S) (desk : Desk S) where
   stays_itself : IsUnchangedDesk g desk desk
-  stays_itself = record { same = record { manifest = refl; writes = refl; survives = survives_same; stands = λ k h. h }; serves = λ e served. served }
+  stays_itself = record {
+    same = record {
+      manifest = refl;
+      writes = refl;
+      survives = survives_same;
+      stands = λ k h. h;
+    };
+    serves = λ e served. served;
+  }
 
   lost_by_memory : (a : ArrivalValue) → LosesArrival g desk desk a out_of_memory
   lost_by_memory a = record {
@@ -125,8 +171,13 @@ module _ {S : Type 0} (g : Ghosts S) (desk : Desk S) where
   pub memory_answers : (request : Request) → IsAnswered g desk desk request out_of_memory
   memory_answers (refused refusal) = (refl, inr refl)
   memory_answers (arrives a) = inr (lost_by_memory a)
-  memory_answers (wants report) = (stays_itself, leaves_still g desk desk stays_itself, inr (record { fault = NoMemory; cause = inr refl; sends = inr refl }))
+  memory_answers (wants report) = (
+    stays_itself,
+    leaves_still g desk desk stays_itself,
+    inr (record { fault = NoMemory; cause = inr refl; sends = inr refl }),
+  )
 
   -- so it does whatever the input is
-  pub memory_answers_some : (o : Option (List ℕ)) (plan : RequestPlan) → (request : Request) × IfSome o (λ rest. request ≡ request_with_body plan rest) × IsAnswered g desk desk request out_of_memory
+  pub memory_answers_some : (o : Option (List ℕ)) (plan : RequestPlan) → (request : Request) × IfSome
+      o (λ rest. request ≡ request_with_body plan rest) × IsAnswered g desk desk request out_of_memory
   memory_answers_some o plan = let (request, is) = some_request o plan in (request, is, memory_answers request)

@@ -8,7 +8,8 @@ use Rattle.esc_manifest.specs.declared.fault.ManifestFault.TheVariants.{Refused,
 use Rattle.esc_manifest.specs.RowFaults.{rows_fault}
 use Rattle.esc_manifest.specs.Extension.{extended, union_or, blamed, extension}
 
-pub extension_refused : (m more : List MRow) (code : ManifestRefusal) (row : ℕ) → rows_fault (extended m more) ≡ Some (code, row) → extension m more ≡ Err (code, blamed code m more)
+pub extension_refused : (m more : List MRow) (code : ManifestRefusal) (row : ℕ) → rows_fault
+    (extended m more) ≡ Some (code, row) → extension m more ≡ Err (code, blamed code m more)
 unfolding extension
 extension_refused m more code row is = ap (union_or m more) is
 

@@ -27,7 +27,8 @@ revision_cmp a b = ordering_then (place_cmp a.0 b.0) (nat_cmp a.1 b.1)
 abbrev pub revision_of : MRow → Revision
 revision_of row = (row.header.place, row.header.resend)
 
-place_itself : (w : ℤ) (k : DepositType) → place_cmp (record { watermark = w; kind = k }) (record { watermark = w; kind = k }) ≡ Equal
+place_itself : (w : ℤ) (k : DepositType)
+    → place_cmp (record { watermark = w; kind = k }) (record { watermark = w; kind = k }) ≡ Equal
 place_itself w Diff = rw (tied_itself int_cmp_total w) refl
 place_itself w Incr = rw (tied_itself int_cmp_total w) refl
 place_itself w Full = rw (tied_itself int_cmp_total w) refl

@@ -1,6 +1,7 @@
 -- The least fault of rows, of a text and of an extension: which faults there are, and at which rows
 -- (this project's profile).
-use Rattle.std.specs.Prelude.{◌≡◌, ◌⊎◌, ◌<◌, ◌≤◌, ◌+◌, ℕ, suc, List, [], length, take, drop, map}
+use Rattle.std.specs.Prelude.{◌≡◌, ◌⊎◌, ◌<◌, ◌≤◌, ◌+◌, ℕ, suc, List, [], length, take}
+use Rattle.std.specs.Prelude.{drop, map}
 use Rattle.std.specs.Prelude.{Bool, true, false, ◌==◌, Some, slice_index_or, if◌then◌else◌}
 use Rattle.std.specs.List.{list_any}
 use Rattle.esc_manifest.specs.declared.refusal.ManifestRefusal.{ManifestRefusal}

@@ -27,5 +27,6 @@ one_by_one true true true true true true = refl
 pub as_its_row : (row d : HeaderValue) → list_all (λ m. not (differs row d m)) members ≡ as_listed row d
 unfolding members
 as_its_row row d =
-    one_by_one (bytes_eq row.id d.id) (int_eq row.place.watermark d.place.watermark) (rank row.place.kind == rank d.place.kind)
+    one_by_one (bytes_eq row.id d.id)
+    (int_eq row.place.watermark d.place.watermark) (rank row.place.kind == rank d.place.kind)
     (row.resend == d.resend) (is_diff row.place.kind) (same_prev row.prev d.prev)

@@ -1,5 +1,6 @@
 -- Tests of names, as the code has them and as contracts see them.
-use Rattle.std.proofs.Common.{◌≡◌, ◌∙◌, ℕ, List, [], ◌∷◌, Bool, true, String, Global, length, map, string_bytes, refl, sym, ap, arith}
+use Rattle.std.proofs.Common.{◌≡◌, ◌∙◌, ℕ, List, [], ◌∷◌, Bool, true, String, Global, length, map}
+use Rattle.std.proofs.Common.{string_bytes, refl, sym, ap, arith}
 use Rattle.std.specs.Prelude.{◌&&◌, ◌==◌, ◌+◌, cond, nat_le, count_by}
 use Rattle.std.specs.List.{list_all, list_any, zip}
 use Rattle.std.specs.Str.{bytes_eq}
@@ -23,7 +24,8 @@ pub fields_seen : (k : KnownTable) (names : List (String Global))
     && list_any (λ name. is_key k (string_bytes name)) names)))
     ≡ are_fields_of k (map string_bytes names)
 fields_seen k names =
-    let once : list_all (λ name. count_by (λ other. bytes_eq (string_bytes other) (string_bytes name)) names == 1) names
+    let once : list_all
+    (λ name. count_by (λ other. bytes_eq (string_bytes other) (string_bytes name)) names == 1) names
     ≡ list_all (is_once (map string_bytes names)) (map string_bytes names) =
     (λ j. list_all (λ name. count_seen (λ other. bytes_eq other (string_bytes name)) names j == 1) names)
     ∙ sym (list_all-map (is_once (map string_bytes names)) string_bytes names) in
@@ -38,7 +40,8 @@ pairs_seen f g test (x ∷ xs) [] = refl
 pairs_seen f g test (x ∷ xs) (y ∷ ys) = ap (λ (b : Bool). test (f x, g y) && b) (pairs_seen f g test xs ys)
 
 pub same_seen : (names others : List (String Global))
-    → ((length names == length others) && list_all (λ p. bytes_eq (string_bytes p.0) (string_bytes p.1)) (zip names others))
+    → ((length names == length others)
+    && list_all (λ p. bytes_eq (string_bytes p.0) (string_bytes p.1)) (zip names others))
     ≡ are_same (map string_bytes names) (map string_bytes others)
 same_seen names others =
     λ j. (sym (length-map names string_bytes) j == sym (length-map others string_bytes) j)

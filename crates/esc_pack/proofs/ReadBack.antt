@@ -1,5 +1,6 @@
 -- A manifest that was written is read as its rows.
-use Rattle.std.proofs.Common.{◌≡◌, ℕ, zero, suc, ◌+◌, ◌<◌, ◌≤◌, false, [], ◌∷◌, ◌++◌, get_or, filter_map, None, refl, ap, ◌∙◌, subst, arith}
+use Rattle.std.proofs.Common.{◌≡◌, ℕ, zero, suc, ◌+◌, ◌<◌, ◌≤◌, false, [], ◌∷◌, ◌++◌}
+use Rattle.std.proofs.Common.{get_or, filter_map, None, refl, ap, ◌∙◌, subst, arith}
 use Rattle.std.specs.Prelude.{Bool, List, length, map, Some, Ok, position, nat_lt, All}
 use Rattle.std.proofs.lemmas.Bool.Decides.{nat_tests}
 use Rattle.std.proofs.lemmas.List.{get_or-map, get_or_default, length-map}
@@ -12,7 +13,9 @@ use Rattle.esc_manifest.specs.Accepted.{IsAccepted}
 use Rattle.esc_manifest.specs.ManifestRows.{no_row, row_at}
 use Rattle.esc_manifest.specs.RowFaults.{most_manifest_rows, rows_fault}
 use Rattle.esc_manifest.specs.Fields.{row_of}
-use Rattle.esc_manifest.specs.Manifest.{most_bytes, has_other_length, lacks_id, lacks_type, lacks_watermark, is_diff_alone, lacks_resend, lacks_digest, records_fault, text_fault, manifest_of}
+use Rattle.esc_manifest.specs.Manifest.{most_bytes, has_other_length, lacks_id, lacks_type}
+use Rattle.esc_manifest.specs.Manifest.{lacks_watermark, is_diff_alone, lacks_resend, lacks_digest}
+use Rattle.esc_manifest.specs.Manifest.{records_fault, text_fault, manifest_of}
 use Rattle.esc_manifest.specs.PositionLaws.{no_first}
 use Rattle.esc_pack.specs.Written.{manifest_heading, manifest_line, rows_text, manifest_text, IsLegible}
 use Rattle.esc_pack.proofs.RowFields.{Reads, row_reads, not_alone}
@@ -30,12 +33,15 @@ lines_read (r ∷ m) = ap (λ (lines : List Line). manifest_line r ∷ lines) (l
 abbrev pub AreReadBack : Type 0
 AreReadBack = (lines : List Line) → IsUnmarked (text_of lines) → records_of (text_of lines) ≡ map read_back lines
 
-records_read : AreReadBack → (m : List MRow) → records_of (manifest_text m) ≡ manifest_heading ∷ map manifest_line m
+records_read : AreReadBack
+    → (m : List MRow) → records_of (manifest_text m) ≡ manifest_heading ∷ map manifest_line m
 records_read law m =
-    law (manifest_heading ∷ map manifest_line m) (unmarked (rows_text m)) ∙ ap (λ (lines : List Line). manifest_heading ∷ lines) (lines_read m)
+    law (manifest_heading ∷ map manifest_line m) (unmarked (rows_text m))
+    ∙ ap (λ (lines : List Line). manifest_heading ∷ lines) (lines_read m)
 
 -- no line passes a test that no row's line passes
-none_first : (test : Line → Bool) (m : List MRow) → ((k : ℕ) → k < length m → test (manifest_line (row_at m k)) ≡ false)
+none_first : (test : Line → Bool) (m : List MRow)
+    → ((k : ℕ) → k < length m → test (manifest_line (row_at m k)) ≡ false)
     → position test (map manifest_line m) ≡ None
 none_first test m fails =
     no_first test (map manifest_line m) (manifest_line no_row)
@@ -77,7 +83,8 @@ module _ (m : List MRow) (a : IsAccepted m) (l : All IsLegible m) where
       ) refl
 
 -- the rows of the lines
-rows_read : (m : List MRow) → All (λ r. row_of (manifest_line r) ≡ Some r) m → filter_map row_of (map manifest_line m) ≡ m
+rows_read : (m : List MRow)
+    → All (λ r. row_of (manifest_line r) ≡ Some r) m → filter_map row_of (map manifest_line m) ≡ m
 rows_read [] h = refl
 rows_read (r ∷ m) h =
     let first : row_of (manifest_line r) ≡ Some r = h 0 r (omega arith) in

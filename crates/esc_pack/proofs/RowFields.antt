@@ -1,5 +1,6 @@
 -- What a row is written as is read as that row.
-use Rattle.std.proofs.Common.{◌≡◌, ℕ, ◌<◌, ◌≤◌, true, false, List, [], length, Option, Some, None, refl, arith, inl, inr}
+use Rattle.std.proofs.Common.{◌≡◌, ℕ, ◌<◌, ◌≤◌, true, false, List, [], length, Option, Some, None}
+use Rattle.std.proofs.Common.{refl, arith, inl, inr}
 use Rattle.std.specs.Prelude.{IsTrue, IsSome, IfSome, codes, ◌&&◌, ◌==◌, nat_le, unwrap_or}
 use Rattle.std.specs.Str.{bytes_eq}
 use Rattle.std.specs.Fmt.{decimal}
@@ -13,7 +14,8 @@ use Rattle.esc_envelope.specs.Id.{is_id}
 use Rattle.esc_envelope.specs.Members.{if_id, id_if_any, type_name, type_named}
 use Rattle.esc_manifest.specs.declared.row.MRow.{MRow}
 use Rattle.esc_manifest.specs.Fields.{resend_of, row_of}
-use Rattle.esc_manifest.specs.Manifest.{lacks_id, lacks_type, lacks_watermark, lacks_resend, lacks_digest, is_diff_alone}
+use Rattle.esc_manifest.specs.Manifest.{lacks_id, lacks_type, lacks_watermark, lacks_resend}
+use Rattle.esc_manifest.specs.Manifest.{lacks_digest, is_diff_alone}
 use Rattle.esc_pack.specs.Written.{resend_field, manifest_line, IsLegible}
 
 id_read : (id : List ℕ) → IsTrue (is_id id) → if_id id ≡ Some id
@@ -61,7 +63,8 @@ pub record Reads (r : MRow) : Type 0 where
   pub digest : lacks_digest (manifest_line r) ≡ false
   pub row : row_of (manifest_line r) ≡ Some r
 
-pub row_reads : (r : MRow) → IsTrue (is_id r.header.id) → HasIdOrNone r.header.prev → r.header.resend ≤ 999999 → IsLegible r
+pub row_reads : (r : MRow)
+    → IsTrue (is_id r.header.id) → HasIdOrNone r.header.prev → r.header.resend ≤ 999999 → IsLegible r
     → Reads r
 unfolding row_of
 row_reads r good prev_good few legible =

@@ -1,6 +1,8 @@
 -- The sections of tables, and what is read of them.
-use Rattle.std.proofs.Common.{◌≡◌, ◌≢◌, ◌∙◌, ℕ, suc, ◌+◌, ◌<◌, ◌≤◌, false, ◌++◌, get_or, Result, Err, Option, Bor, refl, sym, ap, subst, arith}
-use Rattle.std.specs.Prelude.{Bool, true, List, [], ◌∷◌, length, map, take, drop, Ok, All, AllPairs, nat_lt, ◌==◌, if◌then◌else◌, slice_get}
+use Rattle.std.proofs.Common.{◌≡◌, ◌≢◌, ◌∙◌, ℕ, suc, ◌+◌, ◌<◌, ◌≤◌, false, ◌++◌}
+use Rattle.std.proofs.Common.{get_or, Result, Err, Option, Bor, refl, sym, ap, subst, arith}
+use Rattle.std.specs.Prelude.{Bool, true, List, [], ◌∷◌, length, map, take, drop, Ok, All, AllPairs}
+use Rattle.std.specs.Prelude.{nat_lt, ◌==◌, if◌then◌else◌, slice_get}
 use Rattle.std.specs.List.{zip, list_all, flat_map}
 use Rattle.std.specs.Str.{bytes_eq}
 use Rattle.std.proofs.lemmas.Bool.Decides.{nat_tests}
@@ -32,7 +34,8 @@ use Rattle.esc_pack.specs.GivenRows.{GivenTable, given_rows, file_rows, has_widt
 use Rattle.esc_pack.specs.Bundling.{section_of, sections_of}
 
 -- a text that doesn't begin with the three bytes
-pub unmarked : (text : List ℕ) → (3 ≤ length text → is_bom (get_or text 0 0) (get_or text 1 0) (get_or text 2 0) ≡ false)
+pub unmarked : (text : List ℕ)
+    → (3 ≤ length text → is_bom (get_or text 0 0) (get_or text 1 0) (get_or text 2 0) ≡ false)
     → IsUnmarked text
 unfolding strip_bom
 unmarked [] other = refl
@@ -82,11 +85,13 @@ pub record IsFile (given : GivenTable) (i : ℕ) (heading : Bool) (text : List �
 
 -- a table's file, as the code reads it
 pub file_at : {given : GivenTable} {heading : Bool} {items slice : List (Bor (List ℕ))} {i : ℕ} (d : Bor (List ℕ))
-    → record { has_heading = heading; files = map (λ f. f.now) items } ≡ given → slice ≡ items → i < length slice
+    → record { has_heading = heading; files = map (λ f. f.now) items } ≡ given
+    → slice ≡ items → i < length slice
     → IsFile given i heading (get_or slice i d).now
 file_at {given} {heading} {items} {slice} {i} d view same lt =
     let among : i < length items = subst (λ (fs : List (Bor (List ℕ))). i < length fs) same lt in
-    let mapped : i < length (map (λ (f : Bor (List ℕ)). f.now) items) = omega (arith, among, length-map items (λ f. f.now)) in
+    let mapped : i < length (map (λ (f : Bor (List ℕ)). f.now) items) =
+    omega (arith, among, length-map items (λ f. f.now)) in
     record {
       inside = subst (λ (g : GivenTable). i < length g.files) view mapped;
       is =
@@ -102,11 +107,13 @@ rows_before given i = flat_map (file_rows given.has_heading) (take i given.files
 
 -- all files of a table were taken
 pub all_taken : {given : GivenTable} {heading : Bool} {items slice : List (Bor (List ℕ))} {i : ℕ}
-    → record { has_heading = heading; files = map (λ f. f.now) items } ≡ given → slice ≡ items → length slice ≤ i
+    → record { has_heading = heading; files = map (λ f. f.now) items } ≡ given
+    → slice ≡ items → length slice ≤ i
     → take i given.files ≡ given.files
 all_taken {given} {heading} {items} {slice} {i} view same le =
     let among : length items ≤ i = subst (λ (fs : List (Bor (List ℕ))). length fs ≤ i) same le in
-    let mapped : length (map (λ (f : Bor (List ℕ)). f.now) items) ≤ i = omega (arith, among, length-map items (λ f. f.now)) in
+    let mapped : length (map (λ (f : Bor (List ℕ)). f.now) items) ≤ i =
+    omega (arith, among, length-map items (λ f. f.now)) in
     take_all i given.files (subst (λ (g : GivenTable). length g.files ≤ i) view mapped)
 
 -- the rows of one more file
@@ -114,7 +121,8 @@ more_rows : {given : GivenTable} {i : ℕ} {heading : Bool} {text : List ℕ} �
     → rows_before given (i + 1) ≡ rows_before given i ++ file_rows heading text
 more_rows {given} {i} {heading} {text} file =
     let rows = file_rows given.has_heading in
-    ap (flat_map rows) (taken given.files [] file.inside file.is) ∙ flat_map-append rows (take i given.files) (text ∷ [])
+    ap (flat_map rows) (taken given.files [] file.inside file.is)
+    ∙ flat_map-append rows (take i given.files) (text ∷ [])
     ∙ ap (λ (last : List Line). rows_before given i ++ last) (append-nil (rows text))
     ∙ ap (λ (h : Bool). rows_before given i ++ file_rows h text) (sym file.same_heading)
 
@@ -176,13 +184,16 @@ named_bytes ps distinct k d lt =
     let at : (j : ℕ) → j < length ps → get_or sections j none ≡ section_of (get_or ps j d) =
     λ j l. get_or-map section_of ps j d none l in
     let inside : k < length sections = omega (arith, length-map ps section_of, lt) in
-    let hit : has_name (get_or sections k none) ≡ true = ap has_name (at k lt) ∙ (bytes_eq-Decides name name).1 refl in
+    let hit : has_name (get_or sections k none) ≡ true =
+    ap has_name (at k lt) ∙ (bytes_eq-Decides name name).1 refl in
     let others : (j : ℕ) → j < k → has_name (get_or sections j none) ≡ false =
     λ j l.
-    let differ = subst (λ (s : Named). (get_or sections j none).name ≢ s.name) (at k lt) (distinct j k none l inside) in
+    let differ = subst (λ (s : Named). (get_or sections j none).name ≢ s.name)
+    (at k lt) (distinct j k none l inside) in
     false_from_ne_true _ (λ same. differ ((bytes_eq-Decides (get_or sections j none).name name).0 same)) in
     let first = position_or_len_is has_name sections k none (omega arith) others (λ _. hit) in
-    let found = find_at has_name sections ∙ ap (slice_get sections) first ∙ slice_get-get_or sections k none inside in
+    let found = find_at has_name sections
+    ∙ ap (slice_get sections) first ∙ slice_get-get_or sections k none inside in
     ap (λ (o : Option Named). option_map_or (λ s. s.bytes) o []) found ∙ ap (λ (s : Named). s.bytes) (at k lt)
 
 tables_read : (files : List Named) (ts : List TableValue) (gs : List GivenTable) → length gs ≡ length ts

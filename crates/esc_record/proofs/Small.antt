@@ -1,5 +1,6 @@
 -- The objects of a deposit have records.
-use Rattle.std.proofs.Common.{◌≡◌, ℕ, ◌≤◌, ◌<◌, ◌^◌, Bool, true, List, [], ◌∷◌, length, refl, arith}
+use Rattle.std.proofs.Common.{◌≡◌, ℕ, ◌≤◌, ◌<◌, ◌^◌, Bool, true, List, [], ◌∷◌, length}
+use Rattle.std.proofs.Common.{refl, arith}
 use Rattle.std.specs.Prelude.{All, IsSome}
 use Rattle.std.specs.List.{list_all}
 use Rattle.std.proofs.lemmas.Bool.Decides.{nat_tests}
@@ -13,9 +14,11 @@ use Rattle.esc_record.specs.Record.{is_small, is_small_cell, is_small_row, is_sm
 fits : (n : ℕ) → n ≤ limit → is_small n ≡ true
 fits n h = let below : n < 2 ^ 32 = omega (arith, h) in grind (arith, nat_tests)
 
-all_pass : {A : Type 0} (P : A → Type 0) (test : A → Bool) → ((x : A) → P x → test x ≡ true) → (xs : List A) → All P xs → list_all test xs ≡ true
+all_pass : {A : Type 0} (P : A → Type 0) (test : A → Bool)
+    → ((x : A) → P x → test x ≡ true) → (xs : List A) → All P xs → list_all test xs ≡ true
 all_pass P test each [] all = refl
-all_pass P test each (x ∷ xs) all = rw (each x (all 0 x (omega arith))) (all_pass P test each xs (All-tail P x xs all))
+all_pass P test each (x ∷ xs) all =
+    rw (each x (all 0 x (omega arith))) (all_pass P test each xs (All-tail P x xs all))
 
 abbrev IsSmallCell : List ℕ × List ℕ → Type 0
 IsSmallCell c = (length c.0 ≤ 64) × (length c.1 ≤ limit)
@@ -41,5 +44,6 @@ has_record : (o : ObjectValue) → IsSmallObject o → IsSome (record_of o)
 unfolding record_of
 has_record o small = rw (object_fits o small) refl
 
-pub have_records : (contents : List (KeyName × ObjectValue)) → All (λ e. IsSmallObject e.1) contents → All (λ e. IsSome (record_of e.1)) contents
+pub have_records : (contents : List (KeyName × ObjectValue))
+    → All (λ e. IsSmallObject e.1) contents → All (λ e. IsSome (record_of e.1)) contents
 have_records contents all = λ k d below. has_record _ (all k d below)

@@ -15,7 +15,8 @@ use Rattle.esc_recovery.specs.ReadImages.{AreReadFor, IsReaderFrom}
 use Rattle.esc_recovery.proofs.Founds.{pick}
 
 -- trees that are read as the store of two files are read as one of the events for which that stands
-read_for : (image : Image) (trees : Trees) → ReadsStore image trees → (db : Trees) → ∥ HoldsDatabase image db ∥₁ → (e : List EventValue) → IsStoreFor db e → AreReadFor trees e
+read_for : (image : Image) (trees : Trees) → ReadsStore image trees → (db : Trees)
+    → ∥ HoldsDatabase image db ∥₁ → (e : List EventValue) → IsStoreFor db e → AreReadFor trees e
 read_for image trees reads db held e is = record {
   kept = is.kept;
   rows = are_read_as image trees db is.kept reads held is.store;
@@ -23,7 +24,9 @@ read_for image trees reads db held e is = record {
 }
 
 -- a reader over these trees is one of the store of the two files
-pub reader_from : {S : Type 0} (g : Ghosts S) (image : Image) (trees : Trees) (reader : StoreReader S) → ReadsStore image trees → ((e : List EventValue) → AreReadFor trees e → ReaderReflects g reader e) → IsReaderFrom g image reader
+pub reader_from : {S : Type 0} (g : Ghosts S) (image : Image) (trees : Trees) (reader : StoreReader S)
+    → ReadsStore image trees → ((e : List EventValue) → AreReadFor trees e → ReaderReflects g reader e)
+    → IsReaderFrom g image reader
 reader_from g image trees reader reads reflects = record {
   serves = λ e it. reflects e (read_for image trees reads it.0 it.1 e it.2);
   found = λ e doubtful one. ∥∥₁_map one (λ it.

@@ -22,7 +22,8 @@ AreListed = (ds : List DepositValue) → (es : List Entry) × InOrder es × IsEn
 
 -- so have those of the state after these events
 pub listing : (e : List EventValue) (kept : StoreState) → AreListed → TablesAreOfEvents
-    → IsStateAfter sha256 reading e kept → IsApart sha256 reading e → (es : List Entry) × AreEntries e es × InOrder es
+    → IsStateAfter sha256 reading e kept
+    → IsApart sha256 reading e → (es : List Entry) × AreEntries e es × InOrder es
 listing e kept listed of_events stands_for apart =
     let entries = listed (deposits_of reading (held_body sha256 reading e) kept.steps) in
     let latest = (of_events e kept stands_for apart).latest in
@@ -32,10 +33,14 @@ filter_again : {X : Type 0} (p : X → Bool) (xs : List X) → filter p (filter 
 filter_again p [] = refl
 filter_again {X} p (x ∷ xs) = by_test (p x) refl (filter_again p xs)
   where
-    by_test : (b : Bool) → p x ≡ b → filter p (filter p xs) ≡ filter p xs → filter p (cond b (x ∷ filter p xs) (filter p xs)) ≡ cond b (x ∷ filter p xs) (filter p xs)
-    by_test true e rest = ap (λ t. cond t (x ∷ filter p (filter p xs)) (filter p (filter p xs))) e ∙ ap (λ (ys : List X). x ∷ ys) rest
+    by_test : (b : Bool) → p x ≡ b → filter p (filter p xs) ≡ filter p xs
+        → filter p (cond b (x ∷ filter p xs) (filter p xs)) ≡ cond b (x ∷ filter p xs) (filter p xs)
+    by_test true e rest = ap (λ t. cond t (x ∷ filter p (filter p xs)) (filter p (filter p xs))) e
+        ∙ ap (λ (ys : List X). x ∷ ys) rest
     by_test false e rest = rest
 
 -- the export of a kind is made of the objects of that kind
-pub export_of_kind : (kind : Kind) (es : List Entry) → export_text kind (filter (is_of kind) es) ≡ export_text kind es
-export_of_kind kind es = ap (λ (kept : List Entry). text_of (export_heading ∷ flat_map (λ (e : Entry). object_lines e.0 e.1) kept)) (filter_again (is_of kind) es)
+pub export_of_kind : (kind : Kind) (es : List Entry)
+    → export_text kind (filter (is_of kind) es) ≡ export_text kind es
+export_of_kind kind es = ap (λ (kept : List Entry). text_of (export_heading
+    ∷ flat_map (λ (e : Entry). object_lines e.0 e.1) kept)) (filter_again (is_of kind) es)

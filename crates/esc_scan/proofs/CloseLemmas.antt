@@ -16,7 +16,8 @@ use Rattle.sqlite.proofs.OpenLemmas.{pool_files}
 use Rattle.esc_scan.specs.Opening.{IsHeldAt, IsRecovered}
 
 -- files that recover to the same pages hold the same
-pub still_held : (size : ℕ) (old new : Image) (pages : PageMap) → Recovers size old pages → Recovers size new pages → IsHeldAt size old new
+pub still_held : (size : ℕ) (old new : Image) (pages : PageMap)
+    → Recovers size old pages → Recovers size new pages → IsHeldAt size old new
 still_held size old new pages found again db held =
     let same = recovers_once size old held.pages pages held.found found in
     record {
@@ -37,12 +38,17 @@ module _ {D : Type 0} {g : Ghosts D} (it : Unopened D g) (log db : D) (are : (lo
   closed_image = ap (λ (p : D × D). seen_image g p.0 p.1) (sym are)
 
 -- once files were recovered, an open that fails leaves what they hold
-pub held_after : {D : Type 0} {g : Ghosts D} (stays : SeenMayStay g) (old mid left : Unopened D g) → IsRecovered old mid → Opens mid (state_of left)
+pub held_after : {D : Type 0} {g : Ghosts D} (stays : SeenMayStay g) (old mid left : Unopened D g)
+    → IsRecovered old mid → Opens mid (state_of left)
     → IsTrue (state_of left).is_clean → IsHeldAt (state_of old).page_size (image old) (image left)
 held_after stays old mid left was opens clean =
     let n = (state_of old).page_size in
-    let now : Recovers n (image left) was.pages = elim (opens.crash (image left) (seen_may_be_left left.pool stays clean)).same [
-      | inl may ↦ subst (Recovers n (image left)) was.shows.committed (subst (λ k. Recovers k (image left) (state_of mid).committed) was.size ((settled mid.pool stays was.shows.clean.is_open).durable (image left) may))
-      | inr same ↦ carried n (image mid) (image left) (subst (λ k. RecoversAs k (image mid) (image left)) was.size same) was.pages was.again
+    let now : Recovers n (image left) was.pages =
+    elim (opens.crash (image left) (seen_may_be_left left.pool stays clean)).same [
+      | inl may ↦ subst (Recovers n (image left))
+          was.shows.committed (subst (λ k. Recovers k (image left) (state_of mid).committed)
+          was.size ((settled mid.pool stays was.shows.clean.is_open).durable (image left) may))
+      | inr same ↦ carried n (image mid) (image left)
+          (subst (λ k. RecoversAs k (image mid) (image left)) was.size same) was.pages was.again
     ] in
     still_held n (image old) (image left) was.pages was.found now

@@ -1,5 +1,6 @@
 -- What the sixteen shapes give, joined to rows with the rowids from 1 to 16.
-use Rattle.std.proofs.Common.{◌≡◌, ℕ, zero, suc, ◌+◌, ◌<◌, pos, List, [], ◌∷◌, map, length, get_or, Less, Equal, refl, sym, ap, ◌∙◌, arith}
+use Rattle.std.proofs.Common.{◌≡◌, ℕ, zero, suc, ◌+◌, ◌<◌, pos, List, [], ◌∷◌, map, length}
+use Rattle.std.proofs.Common.{get_or, Less, Equal, refl, sym, ap, ◌∙◌, arith}
 use Rattle.std.proofs.lemmas.Bool.Decides.{nat_tests}
 use Rattle.std.proofs.lemmas.Int.{ints}
 use Rattle.sqlite_value.specs.declared.value.Value.TheVariants.{Int}
@@ -17,7 +18,8 @@ use Rattle.sqlite_store.specs.Listed.{is_listed}
 use Rattle.sqlite_store.specs.Listing.{listed_from, reals_if_present, all_shapes}
 use Rattle.sqlite_store.proofs.ListingLemmas.{named_shape, named_reals}
 use Rattle.sqlite.specs.Opening.{unrooted}
-use Rattle.esc_sql.specs.StoreTable.{StoreTable, Listed, Receipts, Held, Steps, Objects, Undo, Parked, Moment, schema_table}
+use Rattle.esc_sql.specs.StoreTable.{StoreTable, Listed, Receipts, Held, Steps, Objects, Undo, Parked}
+use Rattle.esc_sql.specs.StoreTable.{Moment, schema_table}
 use Rattle.esc_scan.specs.Reads.{HasTable}
 use Rattle.esc_scan.specs.Opening.{AreNumbered, HasTables}
 
@@ -35,7 +37,8 @@ index = (Index plain, 0)
 
 -- the shapes of a store's trees, by their numbers
 abbrev pub layouts : List Layout
-layouts = table ∷ table ∷ index ∷ index ∷ table ∷ index ∷ table ∷ table ∷ index ∷ table ∷ index ∷ table ∷ index ∷ table ∷ index ∷ table ∷ []
+layouts = table ∷ table ∷ index ∷ index ∷ table ∷ index
+    ∷ table ∷ table ∷ index ∷ table ∷ index ∷ table ∷ index ∷ table ∷ index ∷ table ∷ []
 
 id_below : (a b : ℕ) → a < b → value_cmp (Int (pos a)) (Int (pos b)) ≡ Less
 id_below a b h = value_cmp-Int (pos a) (pos b) ∙ grind (arith, ints, nat_tests)
@@ -50,7 +53,8 @@ abbrev Tells : Row → Layout → Type 0
 Tells row layout = (number_in (column row 5) ≡ shape_code layout.0) × (number_in (column row 6) ≡ layout.1)
 
 -- the row of a tree tells the shape at its place
-row_tells : (from : ℕ) (rows : List Row) (all : List Layout) (at t : ℕ) → length all ≡ length rows → AreNumberedFrom from rows → at < length rows → t ≡ from + at
+row_tells : (from : ℕ) (rows : List Row) (all : List Layout) (at t : ℕ)
+    → length all ≡ length rows → AreNumberedFrom from rows → at < length rows → t ≡ from + at
     → Tells (row_for (joined (map unrooted rows) all) t) (get_or all at none)
 row_tells from [] all at t len ids low is = absurd (omega arith)
 row_tells from (r ∷ rows) [] at t len ids low is = absurd (omega arith)
@@ -58,11 +62,15 @@ row_tells from (r ∷ rows) (x ∷ all) zero t len ids low is =
     rw (ids 0 (omega arith), id_same (from + 0 + 1) (t + 1) (omega arith)) (refl, refl)
 row_tells from (r ∷ rows) (x ∷ all) (suc at) t len ids low is =
     rw (ids 0 (omega arith), id_below (from + 0 + 1) (t + 1) (omega arith))
-    (row_tells (from + 1) rows all at t (omega arith) (λ k h. let e : from + 1 + k + 1 ≡ from + suc k + 1 = omega arith in rw e (ids (suc k) (omega arith))) (omega arith) (omega arith))
+    (row_tells (from + 1) rows all at t (omega arith) (λ k h. let e : from + 1 + k + 1 ≡ from
+    + suc k + 1 = omega arith in rw e (ids (suc k) (omega arith))) (omega arith) (omega arith))
 
-module _ (ours : List Wanted) (listed : List Row) (numbered : AreNumbered listed) (same : listed_from 0 ours ≡ joined (map unrooted listed) layouts) where
+module _ (ours : List Wanted) (listed : List Row) (numbered : AreNumbered listed)
+    (same : listed_from 0 ours ≡ joined (map unrooted listed) layouts) where
   tells : (t : ℕ) → t < 16 → Tells (row_for (listed_from 0 ours) t) (get_or layouts t none)
-  tells t low = rw same (row_tells 0 listed layouts t t (sym numbered.0) (λ k h. let e : 0 + k + 1 ≡ k + 1 = omega arith in rw e (numbered.1 k (omega (arith, numbered.0)))) (omega (arith, numbered.0)) (omega arith))
+  tells t low = rw same (row_tells 0 listed layouts t t (sym numbered.0)
+      (λ k h. let e : 0 + k + 1 ≡ k + 1 = omega arith in
+      rw e (numbered.1 k (omega (arith, numbered.0)))) (omega (arith, numbered.0)) (omega arith))
 
   abbrev IsTable : ℕ → Type 0
   IsTable t = (shape_at ours t ≡ Table) × (reals_at ours t ≡ 0)
@@ -70,14 +78,19 @@ module _ (ours : List Wanted) (listed : List Row) (numbered : AreNumbered listed
   is_table : (t : ℕ) → t < 16 → get_or layouts t none ≡ table → IsTable t
   is_table t low is =
       let told = tells t low in
-      let code = (is_listed ours).shapes t (omega arith) (omega arith) ∙ told.0 ∙ ap (λ (l : Layout). shape_code l.0) is in
+      let code = (is_listed ours).shapes t (omega arith) (omega arith)
+      ∙ told.0 ∙ ap (λ (l : Layout). shape_code l.0) is in
       let shape = sym (named_shape t (omega arith) ours) ∙ same_code (all_shapes ours t) Table code in
-      let reals = (is_listed ours).columns t (omega arith) (omega arith) ∙ told.1 ∙ ap (λ (l : Layout). l.1) is in
-      (shape, sym (ap (λ s. reals_if_present s (reals_at ours t)) shape) ∙ sym (named_reals t (omega arith) ours) ∙ reals)
+      let reals = (is_listed ours).columns t (omega arith) (omega arith) ∙ told.1 ∙ ap (λ (l : Layout). l.1) is in (
+        shape,
+        sym (ap (λ s. reals_if_present s (reals_at ours t)) shape)
+            ∙ sym (named_reals t (omega arith) ours) ∙ reals,
+      )
 
   has_table : (t : StoreTable) → HasTable ours (schema_table t)
   has_table Listed = let it = is_table 1 (omega arith) refl in record { low = omega arith; shape = it.0; reals = it.1 }
-  has_table Receipts = let it = is_table 4 (omega arith) refl in record { low = omega arith; shape = it.0; reals = it.1 }
+  has_table Receipts = let it = is_table 4 (omega arith) refl in
+      record { low = omega arith; shape = it.0; reals = it.1 }
   has_table Held = let it = is_table 6 (omega arith) refl in record { low = omega arith; shape = it.0; reals = it.1 }
   has_table Steps = let it = is_table 7 (omega arith) refl in record { low = omega arith; shape = it.0; reals = it.1 }
   has_table Objects = let it = is_table 9 (omega arith) refl in record { low = omega arith; shape = it.0; reals = it.1 }

@@ -1,5 +1,6 @@
 -- How a cursor moves, and what has been read on its way.
-use Rattle.std.proofs.Common.{◌≡◌, ℕ, List, [], ◌∷◌, ◌++◌, Option, Some, None, refl, sym, ap, ◌∙◌}
+use Rattle.std.proofs.Common.{◌≡◌, ℕ, List, [], ◌∷◌, ◌++◌, Option, Some, None, refl, sym, ap}
+use Rattle.std.proofs.Common.{◌∙◌}
 use Rattle.std.proofs.lemmas.List.{append_assoc}
 use Rattle.sqlite_value.specs.Order.{Row}
 use Rattle.sqlite_value.specs.declared.keys.Order.{Order}
@@ -14,9 +15,11 @@ from_all : (o : Order) (rows : List Row) → from_key o [] rows ≡ rows
 from_all o [] = refl
 from_all o (r ∷ rows) = refl
 
-pub begins : (start now : View) (o : Order) (key : Row) (tree : ℕ) → key ≡ [] → now ≡ with_cursor start 0 (sought o Forward key (start.trees tree)) → left_of now ≡ start.trees tree
+pub begins : (start now : View) (o : Order) (key : Row) (tree : ℕ) → key ≡ [] → now
+    ≡ with_cursor start 0 (sought o Forward key (start.trees tree)) → left_of now ≡ start.trees tree
 begins start now o key tree none was =
-    ap left_of (was ∙ ap (λ k. with_cursor start 0 (sought o Forward k (start.trees tree))) none) ∙ from_all o (start.trees tree)
+    ap left_of (was ∙ ap (λ k. with_cursor start 0 (sought o Forward k (start.trees tree))) none)
+    ∙ from_all o (start.trees tree)
 
 -- where nothing has moved at all
 pub only_same : (old new : View) → new ≡ old → OnlyCursors old new
@@ -26,18 +29,22 @@ pub only_then : (a b c : View) → OnlyCursors a b → OnlyCursors b c → OnlyC
 only_then a b c p q = q ∙ ap (λ (v : View). let w : View = record v { cursors = c.cursors } in w) p
 
 -- one more row, and what it was read as
-pub one_more : {V : Type 0} (IsRead : Row → V → Type 0) (rows : List Row) (vs : List V) (row : Row) (v : V) → AreRead IsRead rows vs → IsRead row v → AreRead IsRead (rows ++ row ∷ []) (vs ++ v ∷ [])
+pub one_more : {V : Type 0} (IsRead : Row → V → Type 0) (rows : List Row) (vs : List V) (row : Row)
+    (v : V) → AreRead IsRead rows vs → IsRead row v → AreRead IsRead (rows ++ row ∷ []) (vs ++ v ∷ [])
 one_more IsRead [] [] row v all last = (last, tt)
 one_more IsRead (r ∷ rows) (w ∷ vs) row v all last = (all.0, one_more IsRead rows vs row v all.1 last)
 one_more IsRead _ _ row v all last = absurd all
 
 -- a scan of these rows, begun at a view, has read these values of those that it has given
-pub record HasRead {V : Type 0} (IsRead : Row → V → Type 0) (rows : List Row) (now : View) (vs : List V) : Type 0 where
+pub record HasRead {V : Type 0} (IsRead : Row → V → Type 0)
+    (rows : List Row) (now : View) (vs : List V) : Type 0 where
   pub given : List Row
   pub whole : given ++ left_of now ≡ rows
   pub read : AreRead IsRead given vs
 
-pub read_more : {V : Type 0} (IsRead : Row → V → Type 0) (rows : List Row) (old new : View) (vs : List V) (v : V) → HasRead IsRead rows old vs → ReadsNext IsRead old new (Some v) → HasRead IsRead rows new (vs ++ v ∷ [])
+pub read_more : {V : Type 0} (IsRead : Row → V → Type 0)
+    (rows : List Row) (old new : View) (vs : List V) (v : V) → HasRead IsRead rows old vs
+    → ReadsNext IsRead old new (Some v) → HasRead IsRead rows new (vs ++ v ∷ [])
 read_more IsRead rows old new vs v h next = record {
   given = h.given ++ next.0 ∷ [];
   whole = append_assoc h.given (next.0 ∷ []) (left_of new) ∙ ap (λ l. h.given ++ l) (sym next.1) ∙ h.whole;
@@ -45,6 +52,8 @@ read_more IsRead rows old new vs v h next = record {
 }
 
 -- the first of the rows left
-pub first_read : {V : Type 0} (IsRead : Row → V → Type 0) (rows : List Row) (old new : View) (found : Option V) → left_of old ≡ rows → ReadsNext IsRead old new found → ReadsFirst IsRead rows found
+pub first_read : {V : Type 0} (IsRead : Row → V → Type 0)
+    (rows : List Row) (old new : View) (found : Option V)
+    → left_of old ≡ rows → ReadsNext IsRead old new found → ReadsFirst IsRead rows found
 first_read IsRead rows old new None is next = sym is ∙ next.0
 first_read IsRead rows old new (Some v) is next = (next.0, left_of new, sym is ∙ next.1, next.2)

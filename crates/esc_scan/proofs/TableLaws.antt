@@ -5,7 +5,8 @@ use Rattle.sqlite_rules.specs.Lists.{Has}
 use Rattle.sqlite_trees.specs.Tree.{Trees}
 use Rattle.sqlite_store.specs.declared.catalog.Wanted.{Wanted}
 use Rattle.esc_sql.specs.Schema.{store_schema, info_table}
-use Rattle.esc_sql.specs.StoreTable.{StoreTable, Listed, Receipts, Held, Steps, Objects, Undo, Parked, Moment, schema_table}
+use Rattle.esc_sql.specs.StoreTable.{StoreTable, Listed, Receipts, Held, Steps, Objects, Undo, Parked}
+use Rattle.esc_sql.specs.StoreTable.{Moment, schema_table}
 use Rattle.esc_scan.specs.Reads.{ReadsTables}
 use Rattle.esc_scan.specs.Opening.{HasTables, ReadsStoreAt}
 
@@ -19,8 +20,10 @@ is_listed Undo = inr (inr (inr (inr (inr (inr (inl refl))))))
 is_listed Parked = inr (inr (inr (inr (inr (inr (inr (inl refl)))))))
 is_listed Moment = inr (inr (inr (inr (inr (inr (inr (inr (inl refl))))))))
 
-pub reads_store : (size : ℕ) (image : Image) (ours : List Wanted) (trees : Trees) → ReadsTables size image ours trees → HasTables ours → ReadsStoreAt size image trees
+pub reads_store : (size : ℕ) (image : Image) (ours : List Wanted) (trees : Trees)
+    → ReadsTables size image ours trees → HasTables ours → ReadsStoreAt size image trees
 reads_store size image ours trees reads has db c held store = record {
   info = reads db store_schema held store.sound info_table (inl refl) has.info ∙ store.rows.info;
-  tables = λ t. reads db store_schema held store.sound (schema_table t) (is_listed t) (has.tables t) ∙ store.rows.tables t;
+  tables = λ t. reads db store_schema held store.sound (schema_table t)
+      (is_listed t) (has.tables t) ∙ store.rows.tables t;
 }

@@ -1,7 +1,16 @@
 -- What the fixed texts compile to, by running the resolver's meaning.
-use Rattle.esc_sql.proofs.Common.{◌≡◌, ℕ, zero, suc, ◌<◌, ◌+◌, pos, true, false, Bool, List, [], ◌∷◌, ◌++◌, Ok, Err, Result, refl, arith, inl, inr, sym, ap, ◌∙◌, get_or, map, find, Option, Some, None, option_map, cases_Bool, bytes_eq}
-use Rattle.esc_sql.proofs.Common.{bytes_eq-Decides, IsPlain, command_of, statement_of, created, next_tree, Binary, Select, Insert, Update, Delete, CreateTable, lacks_sequence, reads_listing, understood, Query, Schema, Values, Table, Term}
-use Rattle.esc_sql.proofs.Common.{col, lit, op1, op2, Program, Compare, Eq, Ge, ToNumeric, Key, Null, Int, Command, Compiled, Returning, is_write_text, is_read_text, table_at, schema_of, store_schema, first_schema, info_tree, receipt_tree}
+use Rattle.esc_sql.proofs.Common.{◌≡◌, ℕ, zero, suc, ◌<◌, ◌+◌, pos, true, false, Bool, List, []}
+use Rattle.esc_sql.proofs.Common.{◌∷◌, ◌++◌, Ok, Err, Result, refl, arith, inl, inr, sym, ap, ◌∙◌}
+use Rattle.esc_sql.proofs.Common.{get_or, map, find, Option, Some, None, option_map, cases_Bool}
+use Rattle.esc_sql.proofs.Common.{bytes_eq}
+use Rattle.esc_sql.proofs.Common.{bytes_eq-Decides, IsPlain, command_of, statement_of, created}
+use Rattle.esc_sql.proofs.Common.{next_tree, Binary, Select, Insert, Update, Delete, CreateTable}
+use Rattle.esc_sql.proofs.Common.{lacks_sequence, reads_listing, understood, Query, Schema, Values}
+use Rattle.esc_sql.proofs.Common.{Table, Term}
+use Rattle.esc_sql.proofs.Common.{col, lit, op1, op2, Program, Compare, Eq, Ge, ToNumeric, Key, Null}
+use Rattle.esc_sql.proofs.Common.{Int, Command, Compiled, Returning, is_write_text, is_read_text}
+use Rattle.esc_sql.proofs.Common.{table_at, schema_of, store_schema, first_schema, info_tree}
+use Rattle.esc_sql.proofs.Common.{receipt_tree}
 use Rattle.esc_sql.proofs.Common.{object_tree, undo_tree, parked_tree, moment_tree, ROWS_AT_ONCE}
 use Rattle.std.specs.Fmt.{digits}
 use Rattle.std.specs.List.{range_with_len}
@@ -91,9 +100,19 @@ parked_tests = equals (col 1 1) (col 0 0) ∷ []
 abbrev writes : List (List ℕ × Command)
 writes =
     (texts.insert_info_text, Insert 0 (Values (lit (Int (pos 1)) ∷ lit Null ∷ lit (Int (pos 2)) ∷ []) 3))
-    ∷ (texts.raise_version_text, Update 0 (program_of (scan info_tree [] (col 1 0 ∷ col 1 0 ∷ lit Null ∷ lit (Int (pos 2)) ∷ []) [] no_limit)))
-    ∷ (texts.insert_listed_text, Insert 1 (Values (col 0 0 ∷ lit Null ∷ given (1 ∷ 2 ∷ 3 ∷ 4 ∷ 5 ∷ 6 ∷ [])) 8))
-    ∷ (texts.insert_receipt_text, Insert 2 (Values (col 0 0 ∷ lit Null ∷ given (1 ∷ 2 ∷ 3 ∷ 4 ∷ 5 ∷ 6 ∷ 7 ∷ [])) 9))
+    ∷ (
+      texts.raise_version_text,
+      Update 0 (program_of
+          (scan info_tree [] (col 1 0 ∷ col 1 0 ∷ lit Null ∷ lit (Int (pos 2)) ∷ []) [] no_limit)),
+    )
+    ∷ (
+      texts.insert_listed_text,
+      Insert 1 (Values (col 0 0 ∷ lit Null ∷ given (1 ∷ 2 ∷ 3 ∷ 4 ∷ 5 ∷ 6 ∷ [])) 8),
+    )
+    ∷ (
+      texts.insert_receipt_text,
+      Insert 2 (Values (col 0 0 ∷ lit Null ∷ given (1 ∷ 2 ∷ 3 ∷ 4 ∷ 5 ∷ 6 ∷ 7 ∷ [])) 9),
+    )
     ∷ (texts.insert_held_text, Insert 3 (Values (col 0 0 ∷ lit Null ∷ col 0 1 ∷ []) 3))
     ∷ (texts.clear_steps_from_text, cut 4 step_tree (from (col 1 0) (col 0 0) ∷ []))
     ∷ (texts.insert_step_text, Insert 4 (Values (col 0 0 ∷ lit Null ∷ col 0 1 ∷ []) 3))
@@ -117,18 +136,46 @@ writes =
 abbrev queries : List (List ℕ × Query)
 queries =
     (texts.select_version_text, scan info_tree [] (shown (2 ∷ [])) [] no_limit)
-    ∷ (texts.select_listed_text, scan listed_tree [] (shown (0 ∷ 2 ∷ 3 ∷ 4 ∷ 5 ∷ 6 ∷ 7 ∷ [])) (up (col 1 0) ∷ []) no_limit)
-    ∷ (texts.find_receipt_text, scan receipt_tree (equals (col 1 2) (col 0 0) ∷ equals (col 1 3) (col 0 1) ∷ []) (shown (0 ∷ 2 ∷ 3 ∷ 4 ∷ 5 ∷ 6 ∷ 7 ∷ 8 ∷ [])) [] no_limit)
-    ∷ (texts.select_receipts_text, scan receipt_tree [] (shown (0 ∷ 2 ∷ 3 ∷ 4 ∷ 5 ∷ 6 ∷ 7 ∷ 8 ∷ [])) (up (col 1 0) ∷ []) no_limit)
-    ∷ (texts.last_receipt_text, scan receipt_tree [] (shown (0 ∷ [])) ((col 1 0, record { collation = Binary; descending = true }) ∷ []) (pos 1))
+    ∷ (
+      texts.select_listed_text,
+      scan listed_tree [] (shown (0 ∷ 2 ∷ 3 ∷ 4 ∷ 5 ∷ 6 ∷ 7 ∷ [])) (up (col 1 0) ∷ []) no_limit,
+    )
+    ∷ (
+      texts.find_receipt_text,
+      scan receipt_tree (equals (col 1 2) (col 0 0) ∷ equals (col 1 3)
+          (col 0 1) ∷ []) (shown (0 ∷ 2 ∷ 3 ∷ 4 ∷ 5 ∷ 6 ∷ 7 ∷ 8 ∷ [])) [] no_limit,
+    )
+    ∷ (
+      texts.select_receipts_text,
+      scan receipt_tree [] (shown (0 ∷ 2 ∷ 3 ∷ 4 ∷ 5 ∷ 6 ∷ 7 ∷ 8 ∷ []))
+          (up (col 1 0) ∷ []) no_limit,
+    )
+    ∷ (
+      texts.last_receipt_text,
+      scan receipt_tree [] (shown (0 ∷ []))
+          ((col 1 0, record { collation = Binary; descending = true }) ∷ []) (pos 1),
+    )
     ∷ (texts.verdict_rows_text, scan receipt_tree (is_of 4 ∷ []) (shown (6 ∷ [])) (up (col 1 6) ∷ []) no_limit)
-    ∷ (texts.verdict_digests_text, scan receipt_tree (is_of 4 ∷ []) (shown (3 ∷ [])) (up (col 1 0) ∷ []) no_limit)
+    ∷ (
+      texts.verdict_digests_text,
+      scan receipt_tree (is_of 4 ∷ []) (shown (3 ∷ [])) (up (col 1 0) ∷ []) no_limit,
+    )
     ∷ (texts.find_body_text, scan held_tree (equals (col 1 0) (col 0 0) ∷ []) (shown (2 ∷ [])) [] no_limit)
     ∷ (texts.select_steps_text, scan step_tree [] (shown (0 ∷ 2 ∷ [])) (up (col 1 0) ∷ []) no_limit)
     ∷ (texts.find_object_text, scan object_tree object_tests (shown (3 ∷ [])) [] no_limit)
-    ∷ (texts.objects_from_text, scan object_tree (is_of 1 ∷ from (col 1 2) (col 0 1) ∷ []) (shown (1 ∷ 2 ∷ 3 ∷ [])) (up (col 1 1) ∷ up (col 1 2) ∷ []) (pos 256))
-    ∷ (texts.select_kinds_text, scan object_tree [] (shown (1 ∷ [])) (up (col 1 1) ∷ up (col 1 2) ∷ []) no_limit)
-    ∷ (texts.select_undo_text, scan undo_tree undo_tests (shown (2 ∷ 3 ∷ 4 ∷ [])) (up (col 1 2) ∷ up (col 1 3) ∷ []) no_limit)
+    ∷ (
+      texts.objects_from_text,
+      scan object_tree (is_of 1 ∷ from (col 1 2) (col 0 1) ∷ [])
+          (shown (1 ∷ 2 ∷ 3 ∷ [])) (up (col 1 1) ∷ up (col 1 2) ∷ []) (pos 256),
+    )
+    ∷ (
+      texts.select_kinds_text,
+      scan object_tree [] (shown (1 ∷ [])) (up (col 1 1) ∷ up (col 1 2) ∷ []) no_limit,
+    )
+    ∷ (
+      texts.select_undo_text,
+      scan undo_tree undo_tests (shown (2 ∷ 3 ∷ 4 ∷ [])) (up (col 1 2) ∷ up (col 1 3) ∷ []) no_limit,
+    )
     ∷ (texts.find_parked_text, scan parked_tree parked_tests (shown (2 ∷ [])) [] no_limit)
     ∷ (texts.parked_digests_text, scan parked_tree [] (shown (1 ∷ [])) (up (col 1 1) ∷ []) no_limit)
     ∷ (texts.find_moment_text, scan moment_tree [] (shown (2 ∷ [])) [] no_limit)
@@ -139,10 +186,12 @@ queries =
 abbrev said : {A : Type 0} → List (List ℕ × A) → List ℕ → Option A
 said table text = option_map (λ w. w.1) (find (λ w. bytes_eq text w.0) table)
 
-each : {A B : Type 0} (f g : List ℕ × A → B) (table : List (List ℕ × A)) → map f table ≡ map g table → (text : List ℕ) (a : A) → said table text ≡ Some a → f (text, a) ≡ g (text, a)
+each : {A B : Type 0} (f g : List ℕ × A → B) (table : List (List ℕ × A)) → map f table ≡ map g table
+    → (text : List ℕ) (a : A) → said table text ≡ Some a → f (text, a) ≡ g (text, a)
 each f g [] all text a is = absurd cc
 each f g (w ∷ table) all text a is = elim (cases_Bool (bytes_eq text w.0)) [
-  | inl here ↦ let same : w.1 ≡ a = (let e = rw here at is in cc) in let it : f w ≡ g w = cc in rw ((bytes_eq-Decides text w.0).0 here, ← same) it
+  | inl here ↦ let same : w.1 ≡ a = (let e = rw here at is in cc) in
+      let it : f w ≡ g w = cc in rw ((bytes_eq-Decides text w.0).0 here, ← same) it
   | inr other ↦ each f g table (cc) text a (rw other at is)
 ]
 
@@ -154,14 +203,19 @@ abbrev pub parts : Result Compiled CompileError → Option Parts
 parts (Ok c) = Some (c.command, c.returning, c.formats)
 parts (Err e) = None
 
-pub parted : (r : Result Compiled CompileError) (command : Command) → parts r ≡ Some (command, None, []) → (command_of r ≡ command) × IsPlain r
-parted (Ok c) command is = let e : ◌≡◌ {A = Parts} (c.command, c.returning, c.formats) (command, None, []) = cc in (ap (λ p. p.0) e, (ap (λ p. p.1) e, ap (λ p. p.2) e))
+pub parted : (r : Result Compiled CompileError) (command : Command)
+    → parts r ≡ Some (command, None, []) → (command_of r ≡ command) × IsPlain r
+parted (Ok c) command is = let e : ◌≡◌ {A = Parts} (c.command, c.returning, c.formats)
+    (command, None, []) = cc in (ap (λ p. p.0) e, (ap (λ p. p.1) e, ap (λ p. p.2) e))
 parted (Err e) command is = absurd cc
 
 pub write_is : {text : List ℕ} {command : Command} → said writes text ≡ Some command → IsWrite text command
 unfolding understood is_write_text everything
 write_is {text} {command} is =
-    let h = each {B = Option Parts × Bool} (λ w. (parts (understood store_schema w.0), is_write_text w.0)) (λ w. (Some (w.1, None, []), true)) writes refl text command is in
+    let h = each {B = Option Parts × Bool} (λ w. (
+      parts (understood store_schema w.0),
+      is_write_text w.0,
+    )) (λ w. (Some (w.1, None, []), true)) writes refl text command is in
     let both = parted (understood store_schema text) command (ap (λ p. p.0) h) in
     record { is = both.0; plain = both.1; writes = ap (λ p. p.1) h }
 
@@ -173,18 +227,26 @@ abbrev asked : Schema → List ℕ × Query → Option Parts × Bool × Bool
 asked schema w = (parts (understood schema w.0), reads_listing schema w.0, is_read_text w.0)
 
 abbrev select : Schema → List ℕ × Query → Option Parts × Bool × Bool
-select schema w = (Some (Select (program_of w.1) (names_of (command_of (understood schema w.0))), None, []), false, true)
+select schema w = (
+  Some
+      (Select (program_of w.1) (names_of (command_of (understood schema w.0))), None, []),
+  false,
+  true,
+)
 
-query_over : (schema : Schema) (text : List ℕ) (q : Query) → asked schema (text, q) ≡ select schema (text, q) → IsQueryOver schema text q
+query_over : (schema : Schema) (text : List ℕ) (q : Query)
+    → asked schema (text, q) ≡ select schema (text, q) → IsQueryOver schema text q
 query_over schema text q h =
     let both = parted (understood schema text) _ (ap (λ p. p.0) h) in
     record { names = _; is = both.0; plain = both.1; unlisted = ap (λ p. p.1) h; reads = ap (λ p. p.2) h }
 
 pub query_is : {text : List ℕ} {q : Query} → said queries text ≡ Some q → IsQuery text q
 unfolding understood is_read_text everything
-query_is {text} {q} is = query_over store_schema text q (each (asked store_schema) (select store_schema) queries refl text q is)
+query_is {text} {q} is = query_over
+    store_schema text q (each (asked store_schema) (select store_schema) queries refl text q is)
 
-pub select_version_is : (schema : Schema) → IsOfSomeVersion schema → IsQueryOver schema texts.select_version_text (scan info_tree [] (shown (2 ∷ [])) [] no_limit)
+pub select_version_is : (schema : Schema) → IsOfSomeVersion schema
+    → IsQueryOver schema texts.select_version_text (scan info_tree [] (shown (2 ∷ [])) [] no_limit)
 unfolding understood is_read_text everything
 select_version_is schema (inl now) = rw now (query_is refl)
 select_version_is schema (inr first) = rw first (query_over first_schema texts.select_version_text _ refl)
@@ -198,15 +260,33 @@ Made = Result Table CompileError × Schema × Option Parts × List ℕ × Bool �
 abbrev pub made : ℕ → Made
 made at =
     let text = texts.table_text at in
-    let r = understood (schema_of at) text in
-    (table_defined_by text, created (schema_of at) (record (table_at at) { tree = 0 }), parts r, statement_of text r, is_write_text text, lacks_sequence (schema_of (at + 1)), (schema_of (at + 1)).tables, next_tree (schema_of at))
+    let r = understood (schema_of at) text in (
+      table_defined_by text,
+      created (schema_of at) (record (table_at at) { tree = 0 }),
+      parts r,
+      statement_of text r,
+      is_write_text text,
+      lacks_sequence (schema_of (at + 1)),
+      (schema_of (at + 1)).tables,
+      next_tree (schema_of at),
+    )
 
 abbrev pub one_more : ℕ → Made
-one_more at = (Ok (record (table_at at) { tree = 0 }), schema_of (at + 1), Some (CreateTable, None, []), texts.table_text at, true, false, (schema_of at).tables ++ table_at at ∷ [], (table_at at).tree)
+one_more at = (
+  Ok (record (table_at at) { tree = 0 }),
+  schema_of (at + 1),
+  Some (CreateTable, None, []),
+  texts.table_text at,
+  true,
+  false,
+  (schema_of at).tables ++ table_at at ∷ [],
+  (table_at at).tree,
+)
 
 pub create_is : (at : ℕ) → at < 9 → made at ≡ one_more at
 unfolding understood is_write_text everything digits
 create_is at low =
     let all : map made (range_with_len 0 9) ≡ map one_more (range_with_len 0 9) = refl in
     let same = ap (λ l. get_or l at (made 0)) all in
-    sym (get_or-map-range_with_len made 0 9 at at (made 0) low (omega arith)) ∙ same ∙ get_or-map-range_with_len one_more 0 9 at at (made 0) low (omega arith)
+    sym (get_or-map-range_with_len made 0 9 at at (made 0) low (omega arith))
+    ∙ same ∙ get_or-map-range_with_len one_more 0 9 at at (made 0) low (omega arith)

@@ -1,5 +1,6 @@
 -- What a column makes of a value of its own type, and what a parameter is.
-use Rattle.esc_sql.proofs.Common.{◌≡◌, ℕ, ℤ, List, Option, option_map, Null, Int, Text, Blob, number_or_null, blob_or_null, arith}
+use Rattle.esc_sql.proofs.Common.{◌≡◌, ℕ, ℤ, List, Option, option_map, Null, Int, Text, Blob}
+use Rattle.esc_sql.proofs.Common.{number_or_null, blob_or_null, arith}
 use Rattle.sqlite.specs.Ops.{unary}
 use Rattle.sqlite.specs.Cast.{cast}
 use Rattle.sqlite_rules.specs.Cast.{as_integer}
@@ -31,8 +32,10 @@ cast_blob o = grind arith
 pub bound_number : (o : Option ℕ) → bound_value (number_or_null o) ≡ number_or_null o
 bound_number o = grind arith
 
-pub bound_text : {X : Type 0} (f : X → List ℕ) (o : Option X) → bound_value (or_null (λ x. Text (f x)) o) ≡ text_or_null (option_map f o)
+pub bound_text : {X : Type 0} (f : X → List ℕ) (o : Option X)
+    → bound_value (or_null (λ x. Text (f x)) o) ≡ text_or_null (option_map f o)
 bound_text f o = grind arith
 
-pub bound_blob : {X : Type 0} (f : X → List ℕ) (o : Option X) → bound_value (or_null (λ x. Blob (f x)) o) ≡ blob_or_null (option_map f o)
+pub bound_blob : {X : Type 0} (f : X → List ℕ) (o : Option X)
+    → bound_value (or_null (λ x. Blob (f x)) o) ≡ blob_or_null (option_map f o)
 bound_blob f o = grind arith

@@ -5,7 +5,8 @@ use Rattle.std.specs.Ordering.{nat_cmp, ordering_then, is_le, is_ge}
 use Rattle.std.specs.declared.cmp.Ordering.{Ordering}
 use Rattle.std.specs.declared.cmp.Ordering.TheVariants.{Less}
 use Rattle.std.specs.Cmp.Lexicographic.{slice_cmp}
-use Rattle.std.specs.Prelude.{◌≡◌, ◌<◌, ltb, ◌==◌, ◌&&◌, ℕ, pos, false, List, [], ◌∷◌, ◌++◌, map}
+use Rattle.std.specs.Prelude.{◌≡◌, ◌<◌, ltb, ◌==◌, ◌&&◌, ℕ, pos, false, List, [], ◌∷◌}
+use Rattle.std.specs.Prelude.{◌++◌, map}
 use Rattle.std.specs.Prelude.{filter, find, length, take, Bool, true, Option, Some, None}
 use Rattle.std.specs.Prelude.{option_map, bytes_eq, is_some, if◌then◌else◌, IsPermutation, IsSorted}
 use Rattle.sqlite.specs.Effect.{Database}

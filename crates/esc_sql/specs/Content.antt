@@ -1,5 +1,6 @@
 -- What a store holds, as typed rows.
-use Rattle.std.specs.Prelude.{◌≡◌, ◌==◌, ◌&&◌, ℕ, ℤ, pos, negsuc, Bool, List, [], ◌∷◌, map, find}
+use Rattle.std.specs.Prelude.{◌≡◌, ◌==◌, ◌&&◌, ℕ, ℤ, pos, negsuc, Bool, List, [], ◌∷◌, map}
+use Rattle.std.specs.Prelude.{find}
 use Rattle.std.specs.Prelude.{Option, Some, None, option_map, bytes_eq}
 use Rattle.sqlite_value.specs.declared.value.Value.{Value}
 use Rattle.sqlite_value.specs.declared.value.Value.TheVariants.{Null, Int, Real, Text, Blob}

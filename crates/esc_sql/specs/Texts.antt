@@ -36,11 +36,13 @@ select_listed_text
 
 abbrev pub insert_receipt_text : List ℕ
 insert_receipt_text
-    = codes "INSERT INTO receipt (receipt, number, digest, verdict, fault, row, again, orphans) VALUES (?1, ?2, ?3, ?4, ?5, ?6, ?7, ?8)"
+    = codes
+    "INSERT INTO receipt (receipt, number, digest, verdict, fault, row, again, orphans) VALUES (?1, ?2, ?3, ?4, ?5, ?6, ?7, ?8)"
 
 abbrev pub find_receipt_text : List ℕ
 find_receipt_text
-    = codes "SELECT receipt, number, digest, verdict, fault, row, again, orphans FROM receipt WHERE number = ?1 AND digest = ?2"
+    = codes
+    "SELECT receipt, number, digest, verdict, fault, row, again, orphans FROM receipt WHERE number = ?1 AND digest = ?2"
 
 abbrev pub select_receipts_text : List ℕ
 select_receipts_text

@@ -1,10 +1,15 @@
 -- The names that most proofs of this crate cite, passed on from one place. Declares nothing.
-pub use Rattle.std.proofs.Common.{◌≡◌, ℕ, suc, Bool, true, false, cond, List, [], ◌∷◌, length, filter, Option, None, Some, refl, sym, ap, subst, ◌∙◌, arith, inl, inr, ◌==◌, ◌&&◌, bytes_eq, find, option_map, IsSome, IfSome, if◌then◌else◌}
-pub use Rattle.std.proofs.Common.{zero, ◌+◌, ◌<◌, ◌++◌, take, get_or, map, IsTrue, Result, Ok, Err, OnErr, IsErr, is_some, OnOk, pos, IfErr, ◌<ℤ◌, ◌≤◌, slice_get, ℤ, not, ◌↔◌, ◌⊎◌, eqb, true≢false, IsSorted, drop, int_eq, ap₂}
+pub use Rattle.std.proofs.Common.{◌≡◌, ℕ, suc, Bool, true, false, cond, List, [], ◌∷◌, length, filter}
+pub use Rattle.std.proofs.Common.{Option, None, Some, refl, sym, ap, subst, ◌∙◌, arith, inl, inr, ◌==◌}
+pub use Rattle.std.proofs.Common.{◌&&◌, bytes_eq, find, option_map, IsSome, IfSome, if◌then◌else◌}
+pub use Rattle.std.proofs.Common.{zero, ◌+◌, ◌<◌, ◌++◌, take, get_or, map, IsTrue, Result, Ok, Err}
+pub use Rattle.std.proofs.Common.{OnErr, IsErr, is_some, OnOk, pos, IfErr, ◌<ℤ◌, ◌≤◌, slice_get, ℤ, not}
+pub use Rattle.std.proofs.Common.{◌↔◌, ◌⊎◌, eqb, true≢false, IsSorted, drop, int_eq, ap₂}
 pub use Rattle.std.proofs.lemmas.Bool.{cases_Bool, eqb-true, and_parts, both_ways}
 pub use Rattle.std.proofs.lemmas.Bool.Decides.{nat_tests}
 pub use Rattle.std.proofs.lemmas.Int.{ints}
-pub use Rattle.std.proofs.lemmas.List.{length-map, length-take-le, get_or-map, take_more, map-append, append-nil, take_all, drop_all, drop_more, map_more, map_push}
+pub use Rattle.std.proofs.lemmas.List.{length-map, length-take-le, get_or-map, take_more, map-append}
+pub use Rattle.std.proofs.lemmas.List.{append-nil, take_all, drop_all, drop_more, map_more, map_push}
 pub use Rattle.std.proofs.lemmas.List.Elements.{All-from_recursion}
 pub use Rattle.std.proofs.lemmas.Map.Keys.{IsDistinct-from_sorted}
 pub use Rattle.std.proofs.lemmas.Result.{IfOk-at_ok, IfErr-at_err, IfOk-weaker, IfErr-weaker, on_ok_weaker}
@@ -37,11 +42,14 @@ pub use Rattle.esc_envelope.specs.declared.kind.Kind.TheVariants.{Registrar, Con
 pub use Rattle.esc_manifest.specs.ManifestRows.{no_row}
 pub use Rattle.esc_manifest.specs.declared.row.MRow.{MRow}
 pub use Rattle.esc_record.specs.Record.{record_of}
-pub use Rattle.esc_sql.specs.Changes.{receipt_of, ObjectEntry, ImageEntry, is_entry_at, entry_at, Tells, last_number, ListsRows, Becomes, verdict_digests, GainsImages, GainsObjects, body_of}
+pub use Rattle.esc_sql.specs.Changes.{receipt_of, ObjectEntry, ImageEntry, is_entry_at, entry_at, Tells}
+pub use Rattle.esc_sql.specs.Changes.{last_number, ListsRows, Becomes, verdict_digests, GainsImages}
+pub use Rattle.esc_sql.specs.Changes.{GainsObjects, body_of}
 pub use Rattle.esc_sql.specs.Content.{Content, object_at, content_in, image_at, HoldsContent, parked_at}
 pub use Rattle.esc_sql.specs.ContentIs.{content_is}
 pub use Rattle.esc_sql.specs.Creation.{TellsVersion}
-pub use Rattle.esc_sql.specs.Entries.{step_row, new_entry, new_image, stored_image, stored_entry, receipt_row, listed_row}
+pub use Rattle.esc_sql.specs.Entries.{step_row, new_entry, new_image, stored_image, stored_entry}
+pub use Rattle.esc_sql.specs.Entries.{receipt_row, listed_row}
 pub use Rattle.esc_sql.specs.Part.{IsPart, IsRead}
 pub use Rattle.esc_sql.specs.ResultLaws.{if_goes}
 pub use Rattle.esc_sql.specs.Rows.{ObjectRow, ReceiptRow, StepRow, ListedRow, listed_number}
@@ -53,17 +61,24 @@ pub use Rattle.esc_store.specs.ChangeParts.{ContinuesSteps}
 pub use Rattle.esc_store.specs.Decoded.{tallies, AreImagesOf, AreOnce}
 pub use Rattle.esc_store.specs.Filling.{after_filling, after_noting, image_now, AreFree}
 pub use Rattle.esc_store.specs.FirstVersion.{IsFirstDatabase}
-pub use Rattle.esc_store.specs.StoreState.{AreCounts, step_at, StoreState, fresh, with_listed, with_parked, AreParked, with_body}
+pub use Rattle.esc_store.specs.StoreState.{AreCounts, step_at, StoreState, fresh, with_listed}
+pub use Rattle.esc_store.specs.StoreState.{with_parked, AreParked, with_body}
 pub use Rattle.esc_store.specs.ListLaws.{any_weaker}
 pub use Rattle.esc_store.specs.Opening.{IsSettled}
 pub use Rattle.esc_store.specs.Pages.{entry_row, record_row, AreRowsOf}
 pub use Rattle.esc_store.specs.Remembered.{IsRemembered, nothing_read}
 pub use Rattle.esc_store.specs.ReplyValue.{ReceiptValue, ReplyValue, replies_from, reply_alike}
 pub use Rattle.esc_store.specs.ResultLaws.{if_ok}
-pub use Rattle.esc_store.specs.Representation.{IsAtRest, IsAtRestIfClean, IsStanding, IsBegun, IsMade, IsUnderWay, ChangeOf, ChangeFollows, IsStep, IsUncommitted, IsChangePart, listed_by, IsLook, IsStoreRead, IsTold, IsHonest, HasMadeTables, store_in, Settles}
+pub use Rattle.esc_store.specs.Representation.{IsAtRest, IsAtRestIfClean, IsStanding, IsBegun, IsMade}
+pub use Rattle.esc_store.specs.Representation.{IsUnderWay, ChangeOf, ChangeFollows, IsStep}
+pub use Rattle.esc_store.specs.Representation.{IsUncommitted, IsChangePart, listed_by, IsLook}
+pub use Rattle.esc_store.specs.Representation.{IsStoreRead, IsTold, IsHonest, HasMadeTables, store_in}
+pub use Rattle.esc_store.specs.Representation.{Settles}
 pub use Rattle.esc_store.specs.StandingLaws.{was_clean, goes_then, survives_same}
 pub use Rattle.esc_store.specs.StoreTables.{IsStoreDatabase, HoldsTables}
-pub use Rattle.esc_store.specs.TypedRows.{record_at_key, IsRegistry, receipts_from, steps_from, IsBooks, kind_numbered, image_kept, listed_from, indexed_row, verdict_number}
+pub use Rattle.esc_store.specs.TypedRows.{record_at_key, IsRegistry, receipts_from, steps_from, IsBooks}
+pub use Rattle.esc_store.specs.TypedRows.{kind_numbered, image_kept, listed_from, indexed_row}
+pub use Rattle.esc_store.specs.TypedRows.{verdict_number}
 pub use Rattle.esc_store.specs.declared.remembered.Remembered.{Remembered}
 pub use Rattle.esc_store.specs.declared.fault.StoreFault.{StoreFault}
 pub use Rattle.esc_store.specs.declared.reply.Verdict.{Verdict}
@@ -75,5 +90,13 @@ pub use Rattle.esc_tables.specs.ObjectValue.{ObjectValue}
 pub use Rattle.std.proofs.Common.{IfOk}
 pub use Rattle.std.proofs.lemmas.Option.{same_Some}
 pub use Rattle.esc_sql.specs.StoreTable.{Objects, Undo}
-unfoldable pub use Rattle.esc_store.specs.Representation.{Represents, BeganIn, HasMadeBooksIn, HasMadeTablesIn, HoldsKept, LeavesOr, LeavesOnly}
+unfoldable pub use Rattle.esc_store.specs.Representation.{
+  Represents,
+  BeganIn,
+  HasMadeBooksIn,
+  HasMadeTablesIn,
+  HoldsKept,
+  LeavesOr,
+  LeavesOnly,
+}
 unfoldable pub use Rattle.esc_store.specs.StoreTables.{IsStore}

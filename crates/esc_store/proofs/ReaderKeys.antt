@@ -1,6 +1,12 @@
 -- What the keys and the objects that a reader finds say.
-use Rattle.esc_store.proofs.Common.{◌≡◌, ℕ, ℤ, ◌≤◌, Bool, true, false, cond, List, [], ◌∷◌, length, filter, map, find, Option, None, Some, refl, sym, ap, subst, ◌∙◌, arith, inl, inr, cases_Bool, same_Some, option_map, is_some, IsSome, IfSome, IsSorted, int_eq}
-use Rattle.esc_store.proofs.Common.{Contains, IsAscending, slice_cmp, Less, option_and_then, kind_rank, Kind, KeyName, key_cmp, key_eq, keys_alike, same_key, ObjectValue, record_of, State, Database, HoldsContent, Content, ObjectRow, ObjectEntry}
+use Rattle.esc_store.proofs.Common.{◌≡◌, ℕ, ℤ, ◌≤◌, Bool, true, false, cond, List, [], ◌∷◌}
+use Rattle.esc_store.proofs.Common.{length, filter, map, find, Option, None, Some, refl, sym, ap, subst}
+use Rattle.esc_store.proofs.Common.{◌∙◌, arith, inl, inr, cases_Bool, same_Some, option_map, is_some}
+use Rattle.esc_store.proofs.Common.{IsSome, IfSome, IsSorted, int_eq}
+use Rattle.esc_store.proofs.Common.{Contains, IsAscending, slice_cmp, Less, option_and_then, kind_rank}
+use Rattle.esc_store.proofs.Common.{Kind, KeyName, key_cmp, key_eq, keys_alike, same_key, ObjectValue}
+use Rattle.esc_store.proofs.Common.{record_of, State, Database, HoldsContent, Content, ObjectRow}
+use Rattle.esc_store.proofs.Common.{ObjectEntry}
 use Rattle.esc_store.proofs.Common.{object_at, stored_entry, IsRegistry, entry_row, record_row}
 use Rattle.std.specs.Prelude.{IsPermutation}
 use Rattle.std.specs.List.{list_any}
@@ -14,7 +20,8 @@ use Rattle.std.proofs.lemmas.List.Sorted.{IsPermutation-map, list_any-IsPermutat
 use Rattle.std.proofs.lemmas.Map.Views.{Contains-from_any, list_any-from_Contains}
 use Rattle.sqlite_keyed.specs.Keyed.{get_by}
 use Rattle.sqlite_keyed.specs.Lists.{sort_by}
-use Rattle.sqlite_keyed.proofs.ListLemmas.{map-map, filter-map, all_map, ascending-map, ascending_from_map, ascending_weaker, ascending-filter}
+use Rattle.sqlite_keyed.proofs.ListLemmas.{map-map, filter-map, all_map, ascending-map}
+use Rattle.sqlite_keyed.proofs.ListLemmas.{ascending_from_map, ascending_weaker, ascending-filter}
 use Rattle.sqlite_keyed.proofs.SortLemmas.{sorted_is-sort_by}
 use Rattle.esc_tables.specs.KeyLaws.{keys_total}
 use Rattle.esc_sql.specs.Content.{is_object_at, is_same_key}
@@ -38,7 +45,8 @@ one_passes p [] x found = let never : None ≡ Some x = found in absurd cc
 one_passes p (y ∷ xs) x found = grind (arith, one_passes p xs x, found)
 
 -- the row that another test finds, where one row at most passes this one
-found_too : {X : Type 0} (p q : X → Bool) (xs : List X) (x : X) → find q xs ≡ Some x → p x ≡ true → length (filter p xs) ≤ 1 → find p xs ≡ Some x
+found_too : {X : Type 0} (p q : X → Bool) (xs : List X) (x : X)
+    → find q xs ≡ Some x → p x ≡ true → length (filter p xs) ≤ 1 → find p xs ≡ Some x
 found_too p q [] x found passes short = found
 found_too p q (y ∷ xs) x found passes short = elim (cases_Bool (q y)) [
   | inl is ↦
@@ -53,30 +61,43 @@ found_too p q (y ∷ xs) x found passes short = elim (cases_Bool (q y)) [
 ]
 
 -- the row with a rowid is the one at its key
-at_its_key : (db : Database) (c : Content) (id : ℤ) (o : ObjectRow) → HoldsContent db c → get_by object_number c.objects id ≡ Some o → object_at o.kind o.key c.objects ≡ Some o.bytes
+at_its_key : (db : Database) (c : Content) (id : ℤ) (o : ObjectRow) → HoldsContent db c
+    → get_by object_number c.objects id ≡ Some o → object_at o.kind o.key c.objects ≡ Some o.bytes
 at_its_key db c id o holds found =
     ap (option_map (λ (o : ObjectRow). o.bytes))
-    (found_too (is_object_at o.kind o.key) (λ (x : ObjectRow). int_eq (object_number x) id) c.objects o found (itself o.kind o.key) (few object_keys (λ _. true) (o.kind, o.key) db c holds))
+    (found_too (is_object_at o.kind o.key) (λ (x : ObjectRow). int_eq (object_number x) id) c.objects
+    o found (itself o.kind o.key) (few object_keys (λ _. true) (o.kind, o.key) db c holds))
 
-object_read : AreAlone → (db : Database) (s : State) (c : Content) (id : ℤ) (key : KeyName) (stored : ObjectEntry) (object : ObjectValue) → HoldsContent db c → IsRegistry c s
-    → Some stored ≡ object_with id c.objects → entry_row (key, object) ≡ record_row stored → s.content key ≡ Some object
-object_read alone db s c id key stored object holds registry found is = at (get_by object_number c.objects id) refl where
-  at : (o : Option ObjectRow) → get_by object_number c.objects id ≡ o → s.content key ≡ Some object
-  at None none = let never : Some stored ≡ None = found ∙ ap (option_map object_entry) none in absurd cc
-  at (Some o) some =
-      let same : Some stored ≡ Some (object_entry o) = found ∙ ap (option_map object_entry) some in
-      let row : entry_row (key, object) ≡ record_row (object_entry o) = is ∙ ap record_row (same_Some stored (object_entry o) same) in
-      let kinds : kind_rank key.kind ≡ o.kind = ap (λ (p : ℕ × List ℕ × Option (List ℕ)). p.0) row in
-      let texts : key.text ≡ o.key = ap (λ (p : ℕ × List ℕ × Option (List ℕ)). p.1) row in
-      let records : record_of object ≡ Some o.bytes = ap (λ (p : ℕ × List ℕ × Option (List ℕ)). p.2) row in
-      let there : object_at (kind_rank key.kind) key.text c.objects ≡ Some o.bytes = rw (kinds, texts) (at_its_key db c id o holds some) in
-      sym (one_object alone object o.bytes (s.content key) records (sym there ∙ (registry.objects (kind_rank key.kind) key.text ∙ record_here s.content key)))
+object_read : AreAlone → (db : Database) (s : State) (c : Content) (id : ℤ)
+    (key : KeyName) (stored : ObjectEntry) (object : ObjectValue) → HoldsContent db c → IsRegistry c s
+    → Some stored ≡ object_with id c.objects
+    → entry_row (key, object) ≡ record_row stored → s.content key ≡ Some object
+object_read alone db s c id key stored object holds registry found is =
+    at (get_by object_number c.objects id) refl where
+      at : (o : Option ObjectRow) → get_by object_number c.objects id ≡ o → s.content key ≡ Some object
+      at None none = let never : Some stored ≡ None = found ∙ ap (option_map object_entry) none in absurd cc
+      at (Some o) some =
+          let same : Some stored ≡ Some (object_entry o) = found ∙ ap (option_map object_entry) some in
+          let row : entry_row (key, object) ≡ record_row (object_entry o) =
+          is ∙ ap record_row (same_Some stored (object_entry o) same) in
+          let kinds : kind_rank key.kind ≡ o.kind = ap (λ (p : ℕ × List ℕ × Option (List ℕ)). p.0) row in
+          let texts : key.text ≡ o.key = ap (λ (p : ℕ × List ℕ × Option (List ℕ)). p.1) row in
+          let records : record_of object ≡ Some o.bytes = ap (λ (p : ℕ × List ℕ × Option (List ℕ)). p.2) row in
+          let there : object_at (kind_rank key.kind) key.text c.objects ≡ Some o.bytes =
+          rw (kinds, texts) (at_its_key db c id o holds some) in
+          sym (one_object alone object o.bytes (s.content key) records
+          (sym there ∙ (registry.objects (kind_rank key.kind) key.text ∙ record_here s.content key)))
 
-pub object_found : AreAlone → (db : Database) (s : State) (c : Content) (id : ℤ) (key : KeyName) (found : Option StoredObject) (object : ObjectValue) → HoldsContent db c → IsRegistry c s
-    → option_map stored_entry found ≡ object_with id c.objects → option_map (λ it. record_row (stored_entry it)) found ≡ Some (entry_row (key, object)) → s.content key ≡ Some object
-object_found alone db s c id key None object holds registry says is = let never : None ≡ Some (entry_row (key, object)) = is in absurd cc
+pub object_found : AreAlone → (db : Database) (s : State) (c : Content) (id : ℤ) (key : KeyName)
+    (found : Option StoredObject) (object : ObjectValue) → HoldsContent db c → IsRegistry c s
+    → option_map stored_entry found ≡ object_with id c.objects
+    → option_map (λ it. record_row (stored_entry it)) found ≡ Some (entry_row (key, object))
+    → s.content key ≡ Some object
+object_found alone db s c id key None object holds registry says is =
+    let never : None ≡ Some (entry_row (key, object)) = is in absurd cc
 object_found alone db s c id key (Some stored) object holds registry says is =
-    object_read alone db s c id key (stored_entry stored) object holds registry says (sym (same_Some (record_row (stored_entry stored)) (entry_row (key, object)) is))
+    object_read alone db s c id key (stored_entry stored) object holds
+    registry says (sym (same_Some (record_row (stored_entry stored)) (entry_row (key, object)) is))
 
 -- ---- the keys
 
@@ -105,10 +126,12 @@ key_first Less p h = h
 key_first Equal p h = refl
 key_first Greater p h = refl
 
-pub sorted_by_key : (next : TableKey → TableKey → Ordering) (keys : List TableKey) → IsSorted (λ a b. ordering_then (key_cmp a.key b.key) (next a b)) keys → IsSorted by_name keys
+pub sorted_by_key : (next : TableKey → TableKey → Ordering) (keys : List TableKey)
+    → IsSorted (λ a b. ordering_then (key_cmp a.key b.key) (next a b)) keys → IsSorted by_name keys
 sorted_by_key next keys up k d low high = key_first _ _ (up k d low high)
 
-in_order : (keys : List TableKey) → IsAscending (λ a b. by_name a b ≡ Less) keys → IsStrictlySortedBy key_cmp (map key_at keys)
+in_order : (keys : List TableKey)
+    → IsAscending (λ a b. by_name a b ≡ Less) keys → IsStrictlySortedBy key_cmp (map key_at keys)
 unfolding IsStrictlySortedBy
 in_order [] up = tt
 in_order (k ∷ keys) up = (all_map (λ q. key_cmp k.key q ≡ Less) key_at keys up.0, in_order keys up.1)
@@ -116,19 +139,23 @@ in_order (k ∷ keys) up = (all_map (λ q. key_cmp k.key q ≡ Less) key_at keys
 abbrev at_name : ℕ → List ℕ → Name → Bool
 at_name n text x = is_same_key n text x.0 x.1
 
-any_named : (q : KeyName) (keys : List TableKey) → list_any (key_eq q) (map key_at keys) ≡ list_any (at_name (kind_rank q.kind) q.text) (map name_of keys)
+any_named : (q : KeyName) (keys : List TableKey) → list_any (key_eq q) (map key_at keys)
+    ≡ list_any (at_name (kind_rank q.kind) q.text) (map name_of keys)
 any_named q [] = refl
 any_named q (k ∷ keys) = rw (same_tests q k.key, any_named q keys) refl
 
-any_at : (n : ℕ) (text : List ℕ) (os : List ObjectRow) → list_any (at_name n text) (map row_name os) ≡ is_some (object_at n text os)
+any_at : (n : ℕ) (text : List ℕ) (os : List ObjectRow)
+    → list_any (at_name n text) (map row_name os) ≡ is_some (object_at n text os)
 any_at n text [] = refl
 any_at n text (o ∷ os) = grind (arith, nat_list_eq_equiv.symm text o.key, any_at n text os)
 
-still_some : (o : Option ObjectValue) → IfSome o (λ x. IsSome (record_of x)) → is_some (option_and_then record_of o) ≡ is_some o
+still_some : (o : Option ObjectValue)
+    → IfSome o (λ x. IsSome (record_of x)) → is_some (option_and_then record_of o) ≡ is_some o
 still_some None has = refl
 still_some (Some x) has = has
 
-module _ (db : Database) (s : State) (c : Content) (kind : Option Kind) (holds : HoldsContent db c) (registry : IsRegistry c s) where
+module _ (db : Database) (s : State)
+    (c : Content) (kind : Option Kind) (holds : HoldsContent db c) (registry : IsRegistry c s) where
   abbrev wanted : ObjectRow → Bool
   wanted o = is_number_wanted kind o.kind
 
@@ -137,37 +164,53 @@ module _ (db : Database) (s : State) (c : Content) (kind : Option Kind) (holds :
   rows = filter wanted c.objects
 
   apart : IsAscending (λ a b. is_eq (by_key a b) ≡ false) rows
-  apart = ascending-filter _ wanted c.objects (ascending_weaker _ (λ a b. is_eq (by_key a b) ≡ false) (λ a b other. both_eq a.kind a.key b.kind b.key ∙ other) c.objects (object_keys.apart db c holds))
+  apart = ascending-filter _ wanted c.objects (ascending_weaker _ (λ a b. is_eq (by_key a b) ≡ false)
+      (λ a b other. both_eq a.kind a.key b.kind b.key ∙ other) c.objects (object_keys.apart db c holds))
 
   there : (q : KeyName) → is_some (object_at (kind_rank q.kind) q.text rows) ≡ is_some (wanted_of kind s.content q)
   there q =
       let n = kind_rank q.kind in
       let kept : object_at n q.text rows ≡ cond (is_number_wanted kind n) (object_at n q.text c.objects) None =
       ap (option_map (λ (o : ObjectRow). o.bytes)) (find-filter (is_object_at n q.text) wanted c.objects)
-      ∙ found-and (λ (o : ObjectRow). o.bytes) wanted (is_object_at n q.text) (is_number_wanted kind n) (λ o here. ap (is_number_wanted kind) (keys_are o.kind o.key n q.text here).0) c.objects in
+      ∙ found-and (λ (o : ObjectRow). o.bytes) wanted (is_object_at n q.text) (is_number_wanted kind n)
+      (λ o here. ap (is_number_wanted kind) (keys_are o.kind o.key n q.text here).0) c.objects in
       ap is_some kept
-      ∙ at_branch (λ (x : Option (List ℕ)) (y : Option ObjectValue). is_some x ≡ is_some y) (is_number_wanted kind n)
-      (ap is_some (registry.objects n q.text ∙ record_here s.content q) ∙ still_some (s.content q) (registry.recorded q)) refl
+      ∙ at_branch (λ (x : Option (List ℕ)) (y : Option ObjectValue). is_some x ≡ is_some y)
+      (is_number_wanted kind n)
+      (ap is_some (registry.objects n q.text ∙ record_here s.content q)
+      ∙ still_some (s.content q) (registry.recorded q)) refl
 
-  module _ (found : List ObjectKey) (keys sorted : List TableKey) (says : map key_read found ≡ map key_of_object c.objects) (are : map numbered_key keys ≡ filter (is_key_wanted kind) (map key_read found)) where
+  module _ (found : List ObjectKey)
+      (keys sorted : List TableKey) (says : map key_read found ≡ map key_of_object c.objects)
+      (are : map numbered_key keys ≡ filter (is_key_wanted kind) (map key_read found)) where
     names : map name_of keys ≡ map row_name rows
     names =
         let name : ℤ × ℕ × List ℕ → Name = λ p. (p.1, p.2) in
         sym (map-map name numbered_key keys)
-        ∙ ap (map name) (are ∙ ap (filter (is_key_wanted kind)) says ∙ filter-map (is_key_wanted kind) key_of_object c.objects)
+        ∙ ap (map name) (are ∙ ap (filter (is_key_wanted kind)) says
+        ∙ filter-map (is_key_wanted kind) key_of_object c.objects)
         ∙ map-map name key_of_object rows
 
     alone : IsAscending (λ a b. is_eq (by_name a b) ≡ false) keys
     alone =
         let Apart : Name → Name → Type 0 = λ x y. is_eq (name_cmp x y) ≡ false in
-        ascending_from_map Apart name_of keys (subst (IsAscending Apart) (sym names) (ascending-map Apart row_name rows apart))
+        ascending_from_map Apart name_of
+        keys (subst (IsAscending Apart) (sym names) (ascending-map Apart row_name rows apart))
 
-    pub keys_read : IsPermutation keys sorted → IsSorted by_name sorted → AreKeysOf (wanted_of kind s.content) (map key_at sorted)
+    pub keys_read : IsPermutation keys sorted
+        → IsSorted by_name sorted → AreKeysOf (wanted_of kind s.content) (map key_at sorted)
     keys_read turned up = record {
-      order = in_order sorted (subst (IsAscending (λ a b. by_name a b ≡ Less)) (sym (sorted_is-sort_by by_name by_name_total keys sorted alone turned up)) (rises-sorted by_name by_name_total keys alone));
-      each = λ q. (λ has. sym (are_at q) ∙ list_any-from_Contains keys_alike q _ has, λ some. Contains-from_any same_key q _ (are_at q ∙ some));
+      order = in_order sorted (subst (IsAscending (λ a b. by_name a b ≡ Less))
+          (sym (sorted_is-sort_by by_name by_name_total keys sorted alone turned up))
+          (rises-sorted by_name by_name_total keys alone));
+      each = λ q. (
+        λ has. sym (are_at q) ∙ list_any-from_Contains keys_alike q _ has,
+        λ some. Contains-from_any same_key q _ (are_at q ∙ some),
+      );
     } where
       are_at : (q : KeyName) → list_any (key_eq q) (map key_at sorted) ≡ is_some (wanted_of kind s.content q)
       are_at q =
           let test = at_name (kind_rank q.kind) q.text in
-          any_named q sorted ∙ sym (list_any-IsPermutation test _ _ (IsPermutation-map name_of keys sorted turned)) ∙ ap (list_any test) names ∙ any_at (kind_rank q.kind) q.text rows ∙ there q
+          any_named q sorted
+          ∙ sym (list_any-IsPermutation test _ _ (IsPermutation-map name_of keys sorted turned))
+          ∙ ap (list_any test) names ∙ any_at (kind_rank q.kind) q.text rows ∙ there q

@@ -1,5 +1,8 @@
 -- Reads of a store's trees.
-use Rattle.esc_store.proofs.Common.{◌≡◌, inl, List, refl, sym, ap, subst, ◌∙◌, arith, Result, Ok, Err, IfOk, IfOk-at_ok, Ghosts, Database, Content, content_in, HoldsContent, StoreState, IsBooks, IsRegistry, MRow, listed_from, IsStore}
+use Rattle.esc_store.proofs.Common.{◌≡◌, inl, List, refl, sym, ap, subst, ◌∙◌, arith, Result, Ok, Err}
+use Rattle.esc_store.proofs.Common.{IfOk, IfOk-at_ok, Ghosts, Database, Content, content_in}
+use Rattle.esc_store.proofs.Common.{HoldsContent, StoreState, IsBooks, IsRegistry, MRow, listed_from}
+use Rattle.esc_store.proofs.Common.{IsStore}
 use Rattle.sqlite_catalog.proofs.QuietLemmas.{quiet_then}
 use Rattle.sqlite_trees.specs.View.{View, IsClean}
 use Rattle.esc_sql.specs.Content.{HoldsRows}
@@ -25,7 +28,8 @@ module _ {S X E : Type 0} {g : Ghosts S} {old new : S} {P : Content → X → Ty
   was_honest scan clean = omega (arith, clean, scan.quiet.clean)
 
   -- what a scan says, of the rows of the store that the trees are read as
-  pub said_of : {r : Result X E} → IsScan g old new P r → AreHonest g new → (k : StoreState) → AreReadAs (g.view old).trees k → IfOk r (λ x. IsSaid k (λ c. P c x))
+  pub said_of : {r : Result X E} → IsScan g old new P r → AreHonest g new
+      → (k : StoreState) → AreReadAs (g.view old).trees k → IfOk r (λ x. IsSaid k (λ c. P c x))
   unfolding IsStore
   said_of {r = Ok x} scan clean k read = record {
     database = record { schema = store_schema; trees = read.store };
@@ -38,58 +42,86 @@ module _ {S X E : Type 0} {g : Ghosts S} {old new : S} {P : Content → X → Ty
   said_of {r = Err e} scan clean k read = tt
 
 -- a scan that succeeded has changed no tree
-pub same_trees : {S X E : Type 0} {g : Ghosts S} {old new : S} {P : Content → X → Type 0} {x : X} → IsScan {E = E} g old new P (Ok x) → AreHonest g new → (g.view new).trees ≡ (g.view old).trees
+pub same_trees : {S X E : Type 0} {g : Ghosts S} {old new : S} {P : Content → X → Type 0} {x : X}
+    → IsScan {E = E} g old new P (Ok x) → AreHonest g new → (g.view new).trees ≡ (g.view old).trees
 same_trees scan clean = ap (λ (v : View). v.trees) (scan.only clean)
 
 module _ {S : Type 0} {g : Ghosts S} where
   module _ {X E : Type 0} {old new : StoreReader S} {P : Content → X → Type 0} where
     -- after a scan that succeeded
-    pub read_only : {Y F : Type 0} {x : X} {result : Result Y F} → new.manifest ≡ old.manifest → IsScan {E = E} g old.trees new.trees P (Ok x) → IsReadOnly g old new result
+    pub read_only : {Y F : Type 0} {x : X} {result : Result Y F} → new.manifest ≡ old.manifest
+        → IsScan {E = E} g old.trees new.trees P (Ok x) → IsReadOnly g old new result
     unfolding ReaderRepresents
     read_only {result = result} manifest scan = record {
       manifest = manifest;
       unwritten = scan.quiet;
       stands = on_any result (λ k was. record {
         listed = manifest ∙ was.listed;
-        rows = λ clean. subst (λ trees. AreReadAs trees k) (sym (same_trees scan clean)) (was.rows (was_honest scan clean));
+        rows = λ clean. subst (λ trees. AreReadAs trees k)
+            (sym (same_trees scan clean)) (was.rows (was_honest scan clean));
       });
     }
 
   -- a scan, and what is made of what it says
-  pub scan_then : {X Y E F : Type 0} {old new : S} {P : Content → X → Type 0} {Q : Content → Y → Type 0} {x : X} {result : Result Y F} → IsScan {E = E} g old new P (Ok x) → IfOk result (λ y. (c : Content) → P c x → Q c y) → IsScan g old new Q result
-  scan_then {result = Ok y} scan made = record { quiet = scan.quiet; only = scan.only; said = λ clean c rows. made c (scan.said clean c rows) }
+  pub scan_then : {X Y E F : Type 0} {old new : S} {P : Content → X → Type 0}
+      {Q : Content → Y → Type 0} {x : X} {result : Result Y F} → IsScan {E = E} g old new P (Ok x)
+      → IfOk result (λ y. (c : Content) → P c x → Q c y) → IsScan g old new Q result
+  scan_then {result = Ok y} scan made = record {
+    quiet = scan.quiet;
+    only = scan.only;
+    said = λ clean c rows. made c (scan.said clean c rows);
+  }
   scan_then {result = Err e} scan made = record { quiet = scan.quiet; only = λ clean. tt; said = λ clean. tt }
 
   -- a scan after another that succeeded
-  pub scan_after : {X Y E F : Type 0} {old mid new : S} {P : Content → X → Type 0} {Q : Content → Y → Type 0} {x : X} {result : Result Y F} → IsScan {E = E} g old mid P (Ok x) → IsScan g mid new Q result → IsScan g old new Q result
+  pub scan_after : {X Y E F : Type 0} {old mid new : S}
+      {P : Content → X → Type 0} {Q : Content → Y → Type 0} {x : X} {result : Result Y F}
+      → IsScan {E = E} g old mid P (Ok x) → IsScan g mid new Q result → IsScan g old new Q result
   scan_after {old = old} {mid = mid} {new = new} {result = Ok y} first scan = record {
     quiet = quiet_then first.quiet scan.quiet;
-    only = λ clean. only_then (g.view old) (g.view mid) (g.view new) (first.only (was_honest scan clean)) (scan.only clean);
-    said = λ clean c rows. scan.said clean c (subst (λ trees. HoldsRows trees c) (sym (same_trees first (was_honest scan clean))) rows);
+    only = λ clean. only_then (g.view old)
+        (g.view mid) (g.view new) (first.only (was_honest scan clean)) (scan.only clean);
+    said = λ clean c rows. scan.said clean
+        c (subst (λ trees. HoldsRows trees c) (sym (same_trees first (was_honest scan clean))) rows);
   }
-  scan_after {result = Err e} first scan = record { quiet = quiet_then first.quiet scan.quiet; only = λ clean. tt; said = λ clean. tt }
+  scan_after {result = Err e} first scan =
+      record { quiet = quiet_then first.quiet scan.quiet; only = λ clean. tt; said = λ clean. tt }
 
   -- a reader of the manifest that was read
-  pub starts : {E : Type 0} {old new : S} {manifest : List MRow} → IsScan {E = E} g old new (λ c m. (rows : List MRow) → c.listed ≡ listed_from 0 rows → m ≡ rows) (Ok manifest)
-      → AreHonest g new → (k : StoreState) → AreReadAs (g.view old).trees k → ReaderRepresents g (record { trees = new; manifest = manifest }) k
+  pub starts : {E : Type 0} {old new : S} {manifest : List MRow} → IsScan {E = E}
+      g old new (λ c m. (rows : List MRow) → c.listed ≡ listed_from 0 rows → m ≡ rows) (Ok manifest)
+      → AreHonest g new → (k : StoreState) → AreReadAs (g.view old).trees k
+      → ReaderRepresents g (record { trees = new; manifest = manifest }) k
   unfolding ReaderRepresents
   starts scan clean k read =
       let said = said_of scan clean k read in
-      record { listed = said.says k.listed said.books.listed; rows = λ clean. subst (λ trees. AreReadAs trees k) (sym (same_trees scan clean)) read }
+      record {
+        listed = said.says k.listed said.books.listed;
+        rows = λ clean. subst (λ trees. AreReadAs trees k) (sym (same_trees scan clean)) read;
+      }
 
   -- nothing was read
   pub unread : {Y F : Type 0} {reader : StoreReader S} {result : Result Y F} → IsReadOnly g reader reader result
   unread {result = result} = record {
     manifest = refl;
-    unwritten = record { shield = λ h. h; clean = omega arith; counts = omega arith; closes = λ clean up. inl up; outcomes = λ db h. h };
+    unwritten = record {
+      shield = λ h. h;
+      clean = omega arith;
+      counts = omega arith;
+      closes = λ clean up. inl up;
+      outcomes = λ db h. h;
+    };
     stands = on_any result (λ k h. h);
   }
 
   -- what a scan says, of the rows of the store that a reader stands for
-  pub told_of : {X E : Type 0} {new : S} {P : Content → X → Type 0} {r : Result X E} (old : StoreReader S) → IsScan g old.trees new P r → AreHonest g new → (k : StoreState) → ReaderRepresents g old k → IfOk r (λ x. IsSaid k (λ c. P c x))
+  pub told_of : {X E : Type 0} {new : S} {P : Content → X → Type 0}
+      {r : Result X E} (old : StoreReader S) → IsScan g old.trees new P r → AreHonest g new
+      → (k : StoreState) → ReaderRepresents g old k → IfOk r (λ x. IsSaid k (λ c. P c x))
   unfolding ReaderRepresents
   told_of old scan clean k stands = said_of scan clean k (stands.rows (was_honest scan clean))
 
-pub listed_is : {S : Type 0} (g : Ghosts S) (reader : StoreReader S) (k : StoreState) → ReaderRepresents g reader k → reader.manifest ≡ k.listed
+pub listed_is : {S : Type 0} (g : Ghosts S) (reader : StoreReader S) (k : StoreState)
+    → ReaderRepresents g reader k → reader.manifest ≡ k.listed
 unfolding ReaderRepresents
 listed_is g reader k stands = stands.listed

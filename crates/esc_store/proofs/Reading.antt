@@ -1,7 +1,9 @@
 -- How many receipts there are.
-use Rattle.esc_store.proofs.Common.{◌≡◌, ℕ, suc, ◌+◌, List, [], ◌∷◌, length, refl, ◌∙◌, arith, last_number, ReceiptValue, receipts_from}
+use Rattle.esc_store.proofs.Common.{◌≡◌, ℕ, suc, ◌+◌, List, [], ◌∷◌, length, refl, ◌∙◌, arith}
+use Rattle.esc_store.proofs.Common.{last_number, ReceiptValue, receipts_from}
 
-last_is : (n : ℕ) (rs : List ReceiptValue) (r : ReceiptValue) → last_number (receipts_from n (r ∷ rs)) ≡ length rs + n
+last_is : (n : ℕ) (rs : List ReceiptValue) (r : ReceiptValue)
+    → last_number (receipts_from n (r ∷ rs)) ≡ length rs + n
 last_is n [] r = omega arith
 last_is n (x ∷ rs) r = last_is (suc n) rs x ∙ omega arith
 

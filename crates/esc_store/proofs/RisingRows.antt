@@ -1,9 +1,12 @@
 -- Rows that rise, and one row more in its place.
-use Rattle.std.proofs.Common.{◌≡◌, ◌⊎◌, inl, inr, ℕ, zero, suc, ◌<◌, ◌≤◌, true, List, [], ◌∷◌, length, get_or, Result, Ok, Err, is_ok, refl, sym, subst, true≢false, arith}
+use Rattle.std.proofs.Common.{◌≡◌, ◌⊎◌, inl, inr, ℕ, zero, suc, ◌<◌, ◌≤◌, true, List, []}
+use Rattle.std.proofs.Common.{◌∷◌, length, get_or, Result, Ok, Err, is_ok, refl, sym, subst, true≢false}
+use Rattle.std.proofs.Common.{arith}
 use Rattle.std.specs.List.{Contains, insert}
 use Rattle.std.specs.List.Sorted.{IsBinarySearchResult, IsSearchInRange}
 use Rattle.std.specs.Ordering.{nat_cmp}
-use Rattle.std.proofs.lemmas.List.Sorted.{searched, IsPermutation-insert, IsPermutation-sym, All-permutation, Contains-permutation}
+use Rattle.std.proofs.lemmas.List.Sorted.{searched, IsPermutation-insert, IsPermutation-sym}
+use Rattle.std.proofs.lemmas.List.Sorted.{All-permutation, Contains-permutation}
 use Rattle.std.proofs.lemmas.List.Elements.{All-cons, All-from_get_or}
 use Rattle.std.proofs.lemmas.Map.Lookups.{exact_unsigned}
 use Rattle.esc_store.specs.StoreState.{IsRising}
@@ -12,7 +15,8 @@ use Rattle.esc_store.specs.Holding.{IsInserted}
 
 -- ---- rising rows, by place
 
-rises : (xs : List ℕ) → IsRising xs → (i j : ℕ) → i ≤ j → j < length xs → get_or xs i 0 ≤ get_or xs j 0
+rises : (xs : List ℕ) → IsRising xs
+    → (i j : ℕ) → i ≤ j → j < length xs → get_or xs i 0 ≤ get_or xs j 0
 rises [] up i j le within = omega (arith, within)
 rises (x ∷ xs) up zero zero le within = omega arith
 rises (x ∷ xs) up zero (suc j) le within = omega (arith, up.0 j 0 (omega (arith, within)))
@@ -21,17 +25,21 @@ rises (x ∷ xs) up (suc i) (suc j) le within = rises xs up.1 i j (omega (arith,
 
 -- a row between those below it and those above it
 rising_insert : (xs : List ℕ) (i y : ℕ) → IsRising xs → i ≤ length xs
-    → ((k : ℕ) → k < i → get_or xs k 0 < y) → ((k : ℕ) → i ≤ k → k < length xs → y < get_or xs k 0) → IsRising (insert xs i y)
-rising_insert xs zero y up le below above = (All-from_get_or (λ n. y < n) xs 0 (λ k within. above k (omega arith) within), up)
+    → ((k : ℕ) → k < i → get_or xs k 0 < y)
+    → ((k : ℕ) → i ≤ k → k < length xs → y < get_or xs k 0) → IsRising (insert xs i y)
+rising_insert xs zero y up le below above =
+    (All-from_get_or (λ n. y < n) xs 0 (λ k within. above k (omega arith) within), up)
 rising_insert [] (suc i) y up le below above = absurd (omega (arith, le))
 rising_insert (x ∷ xs) (suc i) y up le below above = (
-  All-permutation (λ n. x < n) (y ∷ xs) (insert xs i y) (IsPermutation-insert xs i y) (All-cons (λ n. x < n) y xs (below 0 (omega arith)) up.0),
+  All-permutation (λ n. x < n) (y ∷ xs) (insert xs i y)
+      (IsPermutation-insert xs i y) (All-cons (λ n. x < n) y xs (below 0 (omega arith)) up.0),
   rising_insert xs i y up.1 (omega (arith, le)) (λ k under. below (suc k) (omega (arith, under)))
       (λ k past within. above (suc k) (omega (arith, past)) (omega (arith, within))),
 )
 
 -- a row that a search finds is one of them
-pub found_there : (rows : List ℕ) (row : ℕ) (r : Result ℕ ℕ) → is_ok r ≡ true → IsSearchInRange r (length rows)
+pub found_there : (rows : List ℕ) (row : ℕ) (r : Result ℕ ℕ)
+    → is_ok r ≡ true → IsSearchInRange r (length rows)
     → IsBinarySearchResult (λ y. nat_cmp y row) rows r → Contains rows row
 found_there rows row (Ok i) found within at = (i, within, exact_unsigned _ _ (at row))
 found_there rows row (Err i) found within at = absurd (true≢false (sym found))
@@ -41,11 +49,14 @@ found_there rows row (Err i) found within at = absurd (true≢false (sym found))
 module _ (rows : List ℕ) (row : ℕ) (up : IsRising rows) where
   -- a row that is put in its place
   pub put_in : (seen more : List ℕ) (place : ℕ)
-      → seen ≡ rows → IsBinarySearchResult (λ y. nat_cmp y row) seen (Err place) → more ≡ insert rows place row → IsInserted rows row more
+      → seen ≡ rows → IsBinarySearchResult (λ y. nat_cmp y row) seen (Err place)
+      → more ≡ insert rows place row → IsInserted rows row more
   put_in seen more place same found made =
-      let found_there = subst (λ (xs : List ℕ). IsBinarySearchResult (λ y. nat_cmp y row) xs (Err place)) same found in
+      let found_there = subst
+      (λ (xs : List ℕ). IsBinarySearchResult (λ y. nat_cmp y row) xs (Err place)) same found in
       let at = searched rows row (Err place) found_there (rises rows up) in
-      subst (IsInserted rows row) (sym made) (record { rising = rising_insert rows place row up at.0 at.1 at.2; each = λ r. (only r, old r) })
+      subst (IsInserted rows row) (sym made) (record
+      { rising = rising_insert rows place row up at.0 at.1 at.2; each = λ r. (only r, old r) })
     where
       after : List ℕ
       after = insert rows place row

@@ -1,5 +1,6 @@
 -- What a store keeps.
-use Rattle.std.specs.Prelude.{◌≡◌, ℕ, ℤ, ◌<◌, ◌≤◌, ◌==◌, if◌then◌else◌, List, [], ◌∷◌, ◌++◌, map}
+use Rattle.std.specs.Prelude.{◌≡◌, ℕ, ℤ, ◌<◌, ◌≤◌, ◌==◌, if◌then◌else◌, List, []}
+use Rattle.std.specs.Prelude.{◌∷◌, ◌++◌, map}
 use Rattle.std.specs.Prelude.{length, All, Option, None, Some, IsSome, ◌↔◌, bytes_eq, Bool, true}
 use Rattle.std.specs.Prelude.{false}
 use Rattle.std.specs.List.{Contains, Any}

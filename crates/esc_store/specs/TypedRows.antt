@@ -1,5 +1,6 @@
 -- How the rows of its tables say what a store keeps (this project's profile).
-use Rattle.std.specs.Prelude.{◌≡◌, ℕ, suc, ◌==◌, Bool, if◌then◌else◌, List, [], ◌∷◌, Option, None}
+use Rattle.std.specs.Prelude.{◌≡◌, ℕ, suc, ◌==◌, Bool, if◌then◌else◌, List, [], ◌∷◌, Option}
+use Rattle.std.specs.Prelude.{None}
 use Rattle.std.specs.Prelude.{Some, IsSome, IfSome, option_map}
 use Rattle.std.specs.Option.{option_and_then}
 use Rattle.esc_envelope.specs.declared.kind.Kind.{Kind}

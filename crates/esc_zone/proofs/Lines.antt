@@ -1,19 +1,22 @@
 -- Lines of records, and more of them, are lines of records.
-use Rattle.std.proofs.Common.{◌≡◌, true, ℕ, List, [], ◌∷◌, ◌++◌, Option, None, Some, ◌∙◌, ap, ap₂, sym, subst, append-nil, append_assoc, refl}
+use Rattle.std.proofs.Common.{◌≡◌, true, ℕ, List, [], ◌∷◌, ◌++◌, Option, None, Some, ◌∙◌, ap}
+use Rattle.std.proofs.Common.{ap₂, sym, subst, append-nil, append_assoc, refl}
 use Rattle.std.specs.Io.KnownBytes.{Appends}
 use Rattle.std.proofs.lemmas.Grind.{flat_map-append}
 use Rattle.std.proofs.lemmas.List.Elements.{All-append, All-push, All-nil}
 use Rattle.esc_zone.specs.Names.{is_name}
 use Rattle.esc_zone.specs.Records.{RecordValue, line_text, record_text, IsRecord, AreLines, AppendsLines, IsSaid}
 
-pub more_lines : (ttl : ℕ) (text owner said : List ℕ) → AreLines text → is_name owner ≡ true → IsSaid said → AreLines (text ++ line_text ttl owner said)
+pub more_lines : (ttl : ℕ) (text owner said : List ℕ)
+    → AreLines text → is_name owner ≡ true → IsSaid said → AreLines (text ++ line_text ttl owner said)
 more_lines ttl text owner said held named is =
     let r : RecordValue = record { owner = owner; ttl = ttl; said = is.0 } in
     let right : IsRecord r = record { owner = named; names = is.1.0 } in
     record {
       records = held.records ++ r ∷ [];
       each = All-push IsRecord held.records r held.each right;
-      lines = flat_map-append record_text held.records (r ∷ []) ∙ ap₂ (λ (a b : List ℕ). a ++ b) held.lines (append-nil (record_text r) ∙ ap (line_text ttl owner) is.1.1);
+      lines = flat_map-append record_text held.records (r ∷ []) ∙ ap₂ (λ (a b : List ℕ). a ++ b)
+          held.lines (append-nil (record_text r) ∙ ap (line_text ttl owner) is.1.1);
     }
 
 joined : (a b : List ℕ) → AreLines a → AreLines b → AreLines (a ++ b)
@@ -23,7 +26,8 @@ joined a b p q = record {
   lines = flat_map-append record_text p.records q.records ∙ ap₂ (λ (x y : List ℕ). x ++ y) p.lines q.lines;
 }
 
-grows_by_both : (a b c : Option (List ℕ)) (s t : List ℕ) → Appends a b s → Appends b c t → Appends a c (s ++ t)
+grows_by_both : (a b c : Option (List ℕ)) (s t : List ℕ)
+    → Appends a b s → Appends b c t → Appends a c (s ++ t)
 grows_by_both None b c s t p q = tt
 grows_by_both (Some x) None c s t p q = absurd p
 grows_by_both (Some x) (Some y) None s t p q = absurd q

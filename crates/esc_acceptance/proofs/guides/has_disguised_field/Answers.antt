@@ -10,6 +10,7 @@ returns c =
     let name = c.args.field.now in
     let items = c.table.inside.fields.items in
     c.is_among_disguised.ensures
-    ∙ ap (λ (fs : List (String Global)). list_any (λ n. is_disguised (string_bytes n) name) fs) c.deref.ensures.value
+    ∙ ap (λ (fs : List (String Global)). list_any (λ n. is_disguised (string_bytes n) name) fs)
+    c.deref.ensures.value
     ∙ sym (list_any_map (λ n. is_disguised n name) string_bytes items)
     ∙ ap (λ (t : TableValue). has_disguised_field name t) c.table.view_is

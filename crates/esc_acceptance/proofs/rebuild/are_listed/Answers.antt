@@ -20,7 +20,8 @@ loop-key-preserved g c =
                 before.2 (one.1
                 ∙ ap (λ (rest : List Entry). (c.in-Some.key, c.in-Some.object) ∷ rest) same
                 ∙ ap (λ (k : KeyName). (k, c.in-Some.object) ∷ later) (c.if-not-is_same_entry.ensures.key refl)
-                ∙ ap (λ (o : ObjectValue). (c.in-Some-next.other_key.now, o) ∷ later) (c.if-not-is_same_entry.ensures.object refl)
+                ∙ ap (λ (o : ObjectValue). (c.in-Some-next.other_key.now, o) ∷ later)
+                (c.if-not-is_same_entry.ensures.object refl)
                 ∙ sym c.in-Some-next.ensures.steps),
           );
     }

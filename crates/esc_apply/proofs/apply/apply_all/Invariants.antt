@@ -14,5 +14,7 @@ invariant-loop-deposit g l =
       follows : registry.follows l.fn.registry l.registry;
       number : l.writes ≡ saturated (0 + sum_by mention_count done);
       counted : registry.count l.registry ≡ saturated (registry.count l.fn.registry + sum_by mention_count done);
-      chain : registry.is_honest l.registry → (c : List DepositValue) → length c ≡ l.steps → registry.holds l.fn.registry (chain_state c) → registry.holds l.registry (chain_state (c ++ done));
+      chain : registry.is_honest l.registry
+          → (c : List DepositValue) → length c ≡ l.steps → registry.holds l.fn.registry (chain_state c)
+          → registry.holds l.registry (chain_state (c ++ done));
     }

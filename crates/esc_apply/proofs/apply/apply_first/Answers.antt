@@ -10,8 +10,10 @@ use Rattle.esc_apply.proofs.Runs.{AreChangesOf, first_all, step_made}
 use Rattle.esc_apply.proofs.apply.apply_first.Given as given
 use Rattle.esc_apply.proofs.apply.apply_first.Goals as goal
 
-made : (g : given.Over) (c : goal.After-drop-deletes-2 g) → AreChangesOf c.args.deposit.now (map with_object c.deposit.inside.contents.entries ++ map without c.in_ok-deletes.deletes.keys)
-made g c = changes_made c.args.deposit.now c.deposit.inside.contents.entries c.deletes_of.result.now c.in_ok-deletes.deletes.keys
+made : (g : given.Over) (c : goal.After-drop-deletes-2 g) → AreChangesOf c.args.deposit.now
+    (map with_object c.deposit.inside.contents.entries ++ map without c.in_ok-deletes.deletes.keys)
+made g c = changes_made c.args.deposit.now
+    c.deposit.inside.contents.entries c.deletes_of.result.now c.in_ok-deletes.deletes.keys
     (ap (λ (d : DepositValue). d.contents) c.deposit.view_is) c.deletes_of.ensures
     (IsDistinct-from_sorted key_cmp _ c.len-2.ensures.ordered)
     (IsDistinct-from_sorted key_cmp _ c.in_ok-deletes.ensures.ordered)
@@ -19,12 +21,14 @@ made g c = changes_made c.args.deposit.now c.deposit.inside.contents.entries c.d
 
 pub returns-clause-number : goal.returns-clause-number
 returns-clause-number g c =
-    let all = changes_counted c.args.deposit.now c.deposit.inside.contents.entries c.in_ok-deletes.deletes.keys (made g c) in
+    let all = changes_counted
+    c.args.deposit.now c.deposit.inside.contents.entries c.in_ok-deletes.deletes.keys (made g c) in
     omega (arith, all, c.len.ensures.len, c.len-2.ensures.len)
 
 pub returns-clause-counted : goal.returns-clause-counted
 returns-clause-counted g c =
-    let all = changes_counted c.args.deposit.now c.deposit.inside.contents.entries c.in_ok-deletes.deletes.keys (made g c) in
+    let all = changes_counted
+    c.args.deposit.now c.deposit.inside.contents.entries c.in_ok-deletes.deletes.keys (made g c) in
     omega (arith, all, c.in_ok-put_all.ensures.counted, c.in_ok-remove_deletes.ensures.counted)
 
 pub returns-clause-applied : goal.returns-clause-applied
@@ -33,6 +37,8 @@ returns-clause-applied g c = λ honest held.
     let s = chain_state [] in
     applied_next (registry.holds c.remove_deletes.new.registry) [] 1 c.args.deposit.now refl
     (step_made (registry.holds c.put_all.new.self) (registry.holds c.remove_deletes.new.registry) s 1 c.args.deposit.now
-    (map with_object c.deposit.inside.contents.entries) (map without c.in_ok-deletes.deletes.keys) (made g c) (fresh-chain [] 1 refl)
-    (λ new. c.in_ok-put_all.ensures.put (g.met.R.Registry.was_honest _ _ c.in_ok-remove_deletes.ensures.follows honest) s held (first_all s 1 _ (λ q. refl) new))
+    (map with_object c.deposit.inside.contents.entries)
+    (map without c.in_ok-deletes.deletes.keys) (made g c) (fresh-chain [] 1 refl)
+    (λ new. c.in_ok-put_all.ensures.put (g.met.R.Registry.was_honest
+    _ _ c.in_ok-remove_deletes.ensures.follows honest) s held (first_all s 1 _ (λ q. refl) new))
     (c.in_ok-remove_deletes.ensures.removed honest))

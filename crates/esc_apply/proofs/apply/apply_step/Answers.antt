@@ -13,10 +13,12 @@ use Rattle.esc_apply.proofs.apply.apply_step.Given as given
 use Rattle.esc_apply.proofs.apply.apply_step.Goals as goal
 
 abbrev Made : (g : given.Over) (c : goal.After-drop-deletes-2 g) → Type 0
-Made g c = AreChangesOf c.args.deposit.now (map with_object c.deposit.inside.contents.entries ++ map without c.in_ok-deletes.deletes.keys)
+Made g c = AreChangesOf c.args.deposit.now
+    (map with_object c.deposit.inside.contents.entries ++ map without c.in_ok-deletes.deletes.keys)
 
 made : (g : given.Over) (c : goal.After-drop-deletes-2 g) → Made g c
-made g c = changes_made c.args.deposit.now c.deposit.inside.contents.entries c.deletes_of.result.now c.in_ok-deletes.deletes.keys
+made g c = changes_made c.args.deposit.now
+    c.deposit.inside.contents.entries c.deletes_of.result.now c.in_ok-deletes.deletes.keys
     (ap (λ (d : DepositValue). d.contents) c.deposit.view_is) c.deletes_of.ensures
     (IsDistinct-from_sorted key_cmp _ c.len.ensures.ordered)
     (IsDistinct-from_sorted key_cmp _ c.in_ok-deletes.ensures.ordered)
@@ -24,20 +26,25 @@ made g c = changes_made c.args.deposit.now c.deposit.inside.contents.entries c.d
 
 pub returns-clause-number : goal.returns-clause-number
 returns-clause-number g c =
-    let all = changes_counted c.args.deposit.now c.deposit.inside.contents.entries c.in_ok-deletes.deletes.keys (made g c) in
+    let all = changes_counted
+    c.args.deposit.now c.deposit.inside.contents.entries c.in_ok-deletes.deletes.keys (made g c) in
     omega (arith, all, c.len.ensures.len, c.len-2.ensures.len)
 
 pub returns-clause-counted : goal.returns-clause-counted
 returns-clause-counted g c =
-    let all = changes_counted c.args.deposit.now c.deposit.inside.contents.entries c.in_ok-deletes.deletes.keys (made g c) in
+    let all = changes_counted
+    c.args.deposit.now c.deposit.inside.contents.entries c.in_ok-deletes.deletes.keys (made g c) in
     omega (arith, all, c.in_ok-put_all.ensures.counted, c.in_ok-remove_deletes.ensures.counted)
 
 abbrev Stepped : (g : given.Over) (c : goal.After-drop-deletes-2 g) → Type 0
-Stepped g c = g.R.Registry.is_honest c.remove_deletes.new.registry → (s : State) → g.R.Registry.holds c.args.registry.now s → s.undo c.args.pos ≡ nothing → g.R.Registry.holds c.remove_deletes.new.registry (stepped s c.args.pos c.args.deposit.now)
+Stepped g c = g.R.Registry.is_honest c.remove_deletes.new.registry
+    → (s : State) → g.R.Registry.holds c.args.registry.now s → s.undo c.args.pos ≡ nothing
+    → g.R.Registry.holds c.remove_deletes.new.registry (stepped s c.args.pos c.args.deposit.now)
 
 all_stepped : (g : given.Over) (c : goal.After-drop-deletes-2 g) → Stepped g c
 all_stepped g c = λ honest s held none.
-    step_made (g.R.Registry.holds c.put_all.new.self) (g.R.Registry.holds c.remove_deletes.new.registry) s c.args.pos c.args.deposit.now
+    step_made (g.R.Registry.holds c.put_all.new.self)
+    (g.R.Registry.holds c.remove_deletes.new.registry) s c.args.pos c.args.deposit.now
     (map with_object c.deposit.inside.contents.entries) (map without c.in_ok-deletes.deletes.keys) (made g c) none
     (c.in_ok-put_all.ensures.put (g.met.R.Registry.was_honest _ _ c.in_ok-remove_deletes.ensures.follows honest) s held)
     (c.in_ok-remove_deletes.ensures.removed honest)

@@ -12,8 +12,10 @@ loop-key-preserved-then-contains_key c = record {
       let ks = c.args.deletes.now in
       let i = c.loop-key.key-index in
       let k : KeyName = c.key-item.result in
-      let more : take (i + 1) ks ≡ take i ks ++ k ∷ [] = take_more ks i k c.loop-key-test.true ∙ ap (λ (x : KeyName). take i ks ++ x ∷ []) (sym c.key-item.is) in
-      rw more (skip_delete c.args.contents.now.entries (take i ks) k q _ (c.loop-key.invariant.each q) (sym c.if-contains_key.ensures));
+      let more : take (i + 1) ks ≡ take i ks ++ k ∷ [] = take_more ks i k c.loop-key-test.true
+      ∙ ap (λ (x : KeyName). take i ks ++ x ∷ []) (sym c.key-item.is) in
+      rw more (skip_delete c.args.contents.now.entries (take i ks) k q _ (c.loop-key.invariant.each q)
+      (sym c.if-contains_key.ensures));
 }
 
 pub loop-key-preserved : goal.loop-key-preserved
@@ -23,8 +25,11 @@ loop-key-preserved c = record {
       let ks = c.args.deletes.now in
       let i = c.loop-key.key-index in
       let k : KeyName = c.key-item.result in
-      let more : take (i + 1) ks ≡ take i ks ++ k ∷ [] = take_more ks i k c.loop-key-test.true ∙ ap (λ (x : KeyName). take i ks ++ x ∷ []) (sym c.key-item.is) in
+      let more : take (i + 1) ks ≡ take i ks ++ k ∷ [] = take_more ks i k c.loop-key-test.true
+      ∙ ap (λ (x : KeyName). take i ks ++ x ∷ []) (sym c.key-item.is) in
       rw more (c.in_ok-insert.ensures.updates.0 q
-      ∙ ap (λ (x : KeyName). cond (key_eq x q) true (sorted.contains key_cmp c.loop-key.plain q)) c.in_ok-copy.ensures
-      ∙ add_delete c.args.contents.now.entries (take i ks) k q _ (c.loop-key.invariant.each q) (sym c.if-contains_key.ensures));
+      ∙ ap (λ (x : KeyName). cond (key_eq x q) true (sorted.contains key_cmp c.loop-key.plain q))
+      c.in_ok-copy.ensures
+      ∙ add_delete c.args.contents.now.entries (take i ks) k q _ (c.loop-key.invariant.each q)
+      (sym c.if-contains_key.ensures));
 }

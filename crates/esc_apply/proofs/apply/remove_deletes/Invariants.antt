@@ -12,6 +12,9 @@ invariant-loop-key g l =
     let all = map without l.deletes.keys in
     record {
       follows : registry.follows l.fn.registry l.registry;
-      counted : saturated (registry.count l.registry + length l.key-iterator) ≡ saturated (registry.count l.fn.registry + length l.deletes.keys);
-      leads : registry.is_honest l.registry → (s : State) → registry.holds l.fn.registry s → AreNew s l.pos all → Fills (registry.holds l.registry) Unknown (changed_by s l.pos all) l.pos (map without l.key-iterator);
+      counted : saturated (registry.count l.registry + length l.key-iterator)
+          ≡ saturated (registry.count l.fn.registry + length l.deletes.keys);
+      leads : registry.is_honest l.registry → (s : State)
+          → registry.holds l.fn.registry s → AreNew s l.pos all → Fills (registry.holds l.registry)
+          Unknown (changed_by s l.pos all) l.pos (map without l.key-iterator);
     }

@@ -4,4 +4,5 @@ use Rattle.esc_apply.proofs.Fronts.{is_common_front}
 use Rattle.esc_apply.proofs.front.common_front.Goals as goal
 
 pub returns-clause-longest : goal.returns-clause-longest
-returns-clause-longest c = subst (IsCommonFront c.args.old.now c.args.new.now) (sym c.same_steps.ensures) (is_common_front c.args.old.now c.args.new.now)
+returns-clause-longest c = subst (IsCommonFront c.args.old.now c.args.new.now)
+    (sym c.same_steps.ensures) (is_common_front c.args.old.now c.args.new.now)

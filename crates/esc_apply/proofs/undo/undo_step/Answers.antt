@@ -1,4 +1,5 @@
-use Rattle.std.proofs.Common.{◌≡◌, ◌+◌, ◌++◌, ◌∷◌, [], ◌∙◌, length, drop, ap, arith, length-drop}
+use Rattle.std.proofs.Common.{◌≡◌, ◌+◌, ◌++◌, ◌∷◌, [], ◌∙◌, length, drop, ap, arith}
+use Rattle.std.proofs.Common.{length-drop}
 use Rattle.esc_apply.specs.Registry.{restored, saturated}
 use Rattle.esc_apply.specs.Images.{chain_state}
 use Rattle.esc_apply.proofs.Counts.{all_counted}
@@ -20,10 +21,13 @@ loop-entry-init g c = rw c.deref-entry-items.ensures.value (record {
 pub returns-clause-counted : goal.returns-clause-counted
 returns-clause-counted g c =
     let count = g.R.Registry.count in
-    let none : length (drop c.loop-entry.entry-index c.deref-entry-items.result.now) ≡ 0 = omega (arith, length-drop c.loop-entry.entry-index c.deref-entry-items.result.now) in
+    let none : length (drop c.loop-entry.entry-index c.deref-entry-items.result.now) ≡ 0 =
+    omega (arith, length-drop c.loop-entry.entry-index c.deref-entry-items.result.now) in
     let same = ap length c.deref-entry-items.ensures.value in
-    let all : length c.deref-entry-items.result.now ≡ c.len.result = omega (arith, same, c.in_ok-befores.befores.ok) in
-    all_counted (count c.loop-entry.registry) c.len.result _ (count c.args.registry.now) (g.met.R.Registry.bounded c.loop-entry.registry) none
+    let all : length c.deref-entry-items.result.now ≡ c.len.result =
+    omega (arith, same, c.in_ok-befores.befores.ok) in
+    all_counted (count c.loop-entry.registry) c.len.result _ (count c.args.registry.now)
+    (g.met.R.Registry.bounded c.loop-entry.registry) none
     (c.loop-entry.invariant.counted ∙ ap (λ n. saturated (count c.args.registry.now + n)) all)
 
 pub returns-clause-undone : goal.returns-clause-undone
@@ -32,7 +36,9 @@ returns-clause-undone g c = λ honest k d at held.
     let s = chain_state (k ++ d ∷ []) in
     let items = c.deref-entry-items.result.now in
     let back = c.loop-entry.invariant.returns honest s held in
-    let none : length (drop c.loop-entry.entry-index items) ≡ 0 = omega (arith, length-drop c.loop-entry.entry-index items) in
+    let none : length (drop c.loop-entry.entry-index items) ≡ 0 =
+    omega (arith, length-drop c.loop-entry.entry-index items) in
     let same = ap length c.deref-entry-items.ensures.value in
     let all : length items ≡ c.len.result = omega (arith, same, c.in_ok-befores.befores.ok) in
-    undone_last held_now k d c.args.pos c.len.result at (items, back.0, all) (returns_last held_now (restored s c.args.pos) _ (nil_from_length _ none) back.1)
+    undone_last held_now k d c.args.pos c.len.result at (items, back.0, all)
+    (returns_last held_now (restored s c.args.pos) _ (nil_from_length _ none) back.1)

@@ -9,6 +9,9 @@ invariant-loop-entry g l =
     let left = drop l.entry-index l.entry-items in
     record {
       follows : registry.follows l.fn.registry l.registry;
-      counted : saturated (registry.count l.registry + length left) ≡ saturated (registry.count l.fn.registry + length l.entry-items);
-      returns : registry.is_honest l.registry → (s : State) → registry.holds l.fn.registry s → IsEntriesOf (s.undo l.pos) l.entry-items × Returns (registry.holds l.registry) (restored s l.pos) left;
+      counted : saturated (registry.count l.registry + length left)
+          ≡ saturated (registry.count l.fn.registry + length l.entry-items);
+      returns : registry.is_honest l.registry
+          → (s : State) → registry.holds l.fn.registry s → IsEntriesOf (s.undo l.pos) l.entry-items
+          × Returns (registry.holds l.registry) (restored s l.pos) left;
     }

@@ -13,7 +13,9 @@ invariant-loop-left g l =
       within : l.left ≤ l.steps;
       follows : registry.follows l.fn.registry l.registry;
       counted : registry.count l.registry ≡ saturated (registry.count l.fn.registry + l.writes);
-      chain : registry.is_honest l.registry → (c : List DepositValue) → length c ≡ l.steps → registry.holds l.fn.registry (chain_state c) → registry.holds l.registry (chain_state (take l.left c)) × (l.writes ≡ saturated (sum_by mention_count (drop l.left c)));
+      chain : registry.is_honest l.registry → (c : List DepositValue) → length c ≡ l.steps
+          → registry.holds l.fn.registry (chain_state c) → registry.holds l.registry
+          (chain_state (take l.left c)) × (l.writes ≡ saturated (sum_by mention_count (drop l.left c)));
     }
 
 abbrev pub decreases-loop-left : goal.decreases-loop-left

@@ -5,4 +5,5 @@ use Rattle.esc_bundle.proofs.writing.in_order.Given as goal
 
 -- the sections so far, and the parts that are left, are in order where the whole list is
 abbrev pub invariant-loop-part : goal.invariant-loop-part
-invariant-loop-part l = in_order (views l.before.items) (map named (drop l.part-index l.list)) ≡ in_order [] (map named l.list)
+invariant-loop-part l = in_order (views l.before.items) (map named (drop l.part-index l.list))
+    ≡ in_order [] (map named l.list)

@@ -1,4 +1,5 @@
-use Rattle.std.proofs.Common.{◌≡◌, rules, ◌++◌, ℕ, List, length, get_or, Option, Some, sym, ap, subst, ◌∙◌, append-nil}
+use Rattle.std.proofs.Common.{◌≡◌, rules, ◌++◌, ℕ, List, length, get_or, Option, Some, sym, ap, subst}
+use Rattle.std.proofs.Common.{◌∙◌, append-nil}
 use Rattle.std.specs.BTreeMap.{get}
 use Rattle.std.specs.List.{All, Contains}
 use Rattle.std.specs.Map.{keys_of}
@@ -38,16 +39,19 @@ loop-place-init c =
     }
 
 -- the used row of the place of the turn
-used_here : (c : After-copied-used) → IsUsedAt c.args.manifest.now c.args.held.now c.in-Some.place.now c.copied-used.result
+used_here : (c : After-copied-used)
+    → IsUsedAt c.args.manifest.now c.args.held.now c.in-Some.place.now c.copied-used.result
 used_here c =
     let p = c.in-Some.place.now in
-    let found : c.copied-used.result ≡ get place_cmp c.in_ok-ways.ways.used p = c.copied-used.ensures ∙ c.get.ensures.value in
+    let found : c.copied-used.result ≡ get place_cmp c.in_ok-ways.ways.used p =
+    c.copied-used.ensures ∙ c.get.ensures.value in
     subst (IsUsedAt c.args.manifest.now c.args.held.now p) (sym found) (c.in_ok-ways.ensures.used p)
 
 pub line_of-requires-clause-used : goal.line_of-requires-clause-used
 line_of-requires-clause-used c =
     let used = used_here (goal.at.line_of-requires-clause-used c).After-copied-used in
-    row_in c.args.manifest.now c.args.held.now c.args.moment c.in_ok-ways.ways c.in-Some.place.now _ c.requires c.in_ok-ways.ensures used
+    row_in c.args.manifest.now c.args.held.now
+    c.args.moment c.in_ok-ways.ways c.in-Some.place.now _ c.requires c.in_ok-ways.ensures used
 
 pub loop-place-preserved : goal.loop-place-preserved
 loop-place-preserved c =
@@ -65,7 +69,8 @@ loop-place-preserved c =
     let step = c.in-Some.ensures.steps in
     let own : line ≡ line_by m ways p c.copied-used.result a = c.in_ok-line.ensures in
     let place : line.place ≡ p = ap (λ (l : GapLine). l.place) own ∙ line_place m ways p c.copied-used.result a in
-    let entry : IsEntry m h (p, a) = All-head (IsEntry m h) (p, a) rest (subst (All (IsEntry m h)) step known.entries) in
+    let entry : IsEntry m h (p, a) =
+    All-head (IsEntry m h) (p, a) rest (subst (All (IsEntry m h)) step known.entries) in
     record {
       told = λ t are.
           let told = line_told m h t ways p c.copied-used.result a c.requires are entry.0 used entry.1 in
@@ -73,7 +78,8 @@ loop-place-preserved c =
           (All-push (IsGapLineAt m h t) lines line (known.told t are) (subst (IsGapLineAt m h t) (sym own) told));
       entries = All-rest (IsEntry m h) (p, a) rest left step known.entries;
       in_order = ap (λ (l : List GapLine). places_of l ++ keys_of rest) c.in_ok-push.ensures.items
-          ∙ places_more lines line p a (keys_of c.into_iter-place-iterator.result) left rest place step known.in_order;
+          ∙ places_more lines line
+          p a (keys_of c.into_iter-place-iterator.result) left rest place step known.in_order;
     }
 
 pub returns : goal.returns
@@ -85,7 +91,8 @@ returns c =
     sym (append-nil _)
     ∙ ap (λ (l : List (Place × Option ℕ)). places_of lines ++ keys_of l) (sym c.in-None.ensures.steps.0)
     ∙ c.loop-place.invariant.in_order ∙ ap keys_of all in
-    let listed = keys_all c.args.manifest.now c.args.held.now unheld c.iter-place-items.ensures.ordered c.in_ok-unheld.ensures in
+    let listed = keys_all c.args.manifest.now
+    c.args.held.now unheld c.iter-place-items.ensures.ordered c.in_ok-unheld.ensures in
     record {
       told = c.loop-place.invariant.told c.args.moment c.in_ok-ways.ensures;
       all = λ p at. subst (λ (ps : List Place). Contains ps p) (sym places) (listed p at);

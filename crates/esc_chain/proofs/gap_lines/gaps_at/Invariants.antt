@@ -8,7 +8,8 @@ use Rattle.esc_chain.proofs.gap_lines.gaps_at.Given as goal
 
 abbrev pub invariant-loop-place : goal.invariant-loop-place
 invariant-loop-place l = record {
-  told : (t : Option ℤ) → AreWays place_cmp l.manifest l.held t l.ways → All (IsGapLineAt l.manifest l.held t) l.lines.items;
+  told : (t : Option ℤ) → AreWays place_cmp l.manifest l.held t l.ways
+      → All (IsGapLineAt l.manifest l.held t) l.lines.items;
   entries : All (λ e. IsUnheldEntry l.manifest l.held e.0 (length l.manifest) (Some e.1)) l.place-iterator;
   in_order : places_of l.lines.items ++ keys_of l.place-iterator ≡ keys_of l.initial.place-iterator;
 }

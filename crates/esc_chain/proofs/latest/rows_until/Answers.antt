@@ -6,7 +6,8 @@ use Rattle.esc_chain.proofs.Moments.{IsUntilBelow, until_none, until_skip, until
 use Rattle.esc_chain.proofs.latest.rows_until.Goals as goal
 
 pub loop-row-init : goal.loop-row-init
-loop-row-init c = until_none c.args.manifest.now c.args.held.now c.args.moment c.new-until.result c.new-until.ensures.empty
+loop-row-init c = until_none
+    c.args.manifest.now c.args.held.now c.args.moment c.new-until.result c.new-until.ensures.empty
 
 -- what holds of a row that is held and not later than the moment
 abbrev IsOf : Rows → Option ℤ → ℕ → List MRow → Type 0

@@ -5,4 +5,6 @@ use Rattle.esc_check.specs.Gathered.{count_findings}
 use Rattle.esc_check.proofs.count.check_counts.Given as goal
 
 abbrev pub invariant-loop-kind : goal.invariant-loop-kind
-invariant-loop-kind l = l.found.items ++ flat_map (count_findings (keys_of l.tables.entries)) l.kind-iterator ≡ l.fn.found.items ++ flat_map (count_findings (keys_of l.tables.entries)) l.counts.entries
+invariant-loop-kind l =
+    l.found.items ++ flat_map (count_findings (keys_of l.tables.entries)) l.kind-iterator
+    ≡ l.fn.found.items ++ flat_map (count_findings (keys_of l.tables.entries)) l.counts.entries

@@ -9,10 +9,13 @@ use Rattle.esc_check.proofs.distinct.listed.Goals as goal
 
 pub returns-clause-ordered : goal.returns-clause-ordered
 returns-clause-ordered c =
-    let left = dedup_same _ (eq_by_cmp listing_cmp) _ (λ x y b f x' y' k. search rules) _ _ c.dedup_by.ensures.filtered in
-    subst (λ (l : List FindingValue). IsStrictlySortedBy listing_cmp l) (sym left) (IsStrictlySortedBy-dedup listing_total (λ x y. refl) _ (listing_sorted _ c.requires))
+    let left = dedup_same _ (eq_by_cmp listing_cmp)
+    _ (λ x y b f x' y' k. search rules) _ _ c.dedup_by.ensures.filtered in
+    subst (λ (l : List FindingValue). IsStrictlySortedBy listing_cmp l) (sym left)
+    (IsStrictlySortedBy-dedup listing_total (λ x y. refl) _ (listing_sorted _ c.requires))
 
 pub returns-clause-same : goal.returns-clause-same
 returns-clause-same c = λ strict.
-    let left = dedup_same _ (eq_by_cmp listing_cmp) _ (λ x y b f x' y' k. search rules) _ _ c.dedup_by.ensures.filtered in
+    let left = dedup_same _ (eq_by_cmp listing_cmp)
+    _ (λ x y b f x' y' k. search rules) _ _ c.dedup_by.ensures.filtered in
     left ∙ dedup_none _ strict

@@ -11,12 +11,16 @@ use Rattle.esc_check.proofs.distinct.settle.Goals as goal
 
 pub returns-clause-ordered : goal.returns-clause-ordered
 returns-clause-ordered c =
-    subst (λ (l : List FindingValue). IsStrictlySortedBy finding_cmp l) (sym (dedup_is finding_eq _ _ c.dedup.ensures.filtered)) (IsStrictlySortedBy-dedup finding_total (λ x y. refl) _ c.sort_unstable.ensures.sorted)
+    subst (λ (l : List FindingValue). IsStrictlySortedBy finding_cmp l)
+    (sym (dedup_is finding_eq _ _ c.dedup.ensures.filtered))
+    (IsStrictlySortedBy-dedup finding_total (λ x y. refl) _ c.sort_unstable.ensures.sorted)
 
 pub returns-clause-same : goal.returns-clause-same
 returns-clause-same c = λ f.
     let left = dedup_is finding_eq _ _ c.dedup.ensures.filtered in
     let moved = c.sort_unstable.ensures.permutation in (
-      λ h. Contains-permutation _ _ f (IsPermutation-sym _ _ moved) (Contains-from_dedup finding_eq _ f (subst (λ (l : List FindingValue). Contains l f) left h)),
-      λ h. subst (λ (l : List FindingValue). Contains l f) (sym left) (Contains-dedup finding_equiv exact_finding_eq _ f (Contains-permutation _ _ f moved h)),
+      λ h. Contains-permutation _ _ f (IsPermutation-sym _ _ moved)
+          (Contains-from_dedup finding_eq _ f (subst (λ (l : List FindingValue). Contains l f) left h)),
+      λ h. subst (λ (l : List FindingValue). Contains l f) (sym left)
+          (Contains-dedup finding_equiv exact_finding_eq _ f (Contains-permutation _ _ f moved h)),
     )

@@ -8,5 +8,6 @@ use Rattle.esc_check.proofs.export.write_children.Given as goal
 
 abbrev pub invariant-loop-index : goal.invariant-loop-index
 invariant-loop-index l =
-    (l.lines ++ text_of (child_lines l.key (take l.index l.children) (drop l.index l.children)) ≡ l.fn.lines ++ text_of (child_lines l.key [] l.children))
+    (l.lines ++ text_of (child_lines l.key (take l.index l.children) (drop l.index l.children))
+    ≡ l.fn.lines ++ text_of (child_lines l.key [] l.children))
     × (l.number ≡ count_by (is_of_table l.table) (take l.index l.children)) × shadow (Utf8 l.table)

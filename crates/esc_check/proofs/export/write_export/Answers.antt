@@ -30,8 +30,10 @@ loop-heading-preserved g c =
     record {
       follows = objects.goes_on _ _ _ c.loop-heading.invariant.follows c.next.ensures.follows;
       written = λ honest es lists.
-          let before = c.loop-heading.invariant.written (objects.was_honest _ _ c.next.ensures.follows honest) es lists in
-          let gave = came _ _ c.next.result c.map_err.result c.in_ok-key.field-0 c.map_err.ensures.cases c.in_ok-key.was c.next.ensures.given honest before.0 before.1 in
+          let before = c.loop-heading.invariant.written
+          (objects.was_honest _ _ c.next.ensures.follows honest) es lists in
+          let gave = came _ _ c.next.result c.map_err.result c.in_ok-key.field-0
+          c.map_err.ensures.cases c.in_ok-key.was c.next.ensures.given honest before.0 before.1 in
           let one = rw c.in-Some.is at gave in
           let piece = c.deref-in-Some.ensures.value ∙ c.in_ok-text.ensures in
           let parts =
@@ -49,8 +51,12 @@ loop-heading-preserved g c =
 
 pub returns-clause-text : goal.returns-clause-text
 returns-clause-text g c = λ honest es lists.
-    let before = c.loop-heading.invariant.written (g.met.O.Objects.was_honest _ _ c.next.ensures.follows honest) es lists in
-    let gave = came _ _ c.next.result c.map_err.result c.in_ok-key.field-0 c.map_err.ensures.cases c.in_ok-key.was c.next.ensures.given honest before.0 before.1 in
+    let before = c.loop-heading.invariant.written
+    (g.met.O.Objects.was_honest _ _ c.next.ensures.follows honest) es lists in
+    let gave = came _ _ c.next.result c.map_err.result c.in_ok-key.field-0
+    c.map_err.ensures.cases c.in_ok-key.was c.next.ensures.given honest before.0 before.1 in
     let none = rw c.in_default.is at gave in
-    let whole = sym (append-nil before.2.0) ∙ ap (λ (left : List Entry). before.2.0 ++ text_of (export_lines c.args.kind left)) (sym none.0) ∙ before.2.2 in
-    subst (λ (t : List _). Appends (g.W.Write.contents c.args.output.now) (g.W.Write.contents c.loop-heading.output) t) whole before.2.1
+    let whole = sym (append-nil before.2.0) ∙ ap (λ (left : List Entry). before.2.0
+    ++ text_of (export_lines c.args.kind left)) (sym none.0) ∙ before.2.2 in
+    subst (λ (t : List _). Appends (g.W.Write.contents c.args.output.now)
+    (g.W.Write.contents c.loop-heading.output) t) whole before.2.1

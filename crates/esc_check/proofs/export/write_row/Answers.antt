@@ -16,8 +16,12 @@ loop-at-preserved c =
     elim c.match-cell.branch [
       | in-Some+in_ok-write_cell w ↦
           (let x : Cell = (w.in-Some.field.now, w.in-Some.value.now) in
-          let number : w.as_str.result.now ≡ decimal c.args.number = w.as_str.ensures.value ∙ c.in_ok-text.ensures in
-          let wrote = ap (λ (n : List _). c.loop-at.lines ++ line_text (kind_name k.kind ∷ k.text ∷ row.table ∷ n ∷ x.0 ∷ x.1 ∷ [])) number in
-          front_added _ _ _ _ _ _ (cells_more k c.args.number row.table row.cells at x w.in-Some.ensures) c.loop-at.invariant (w.lines-is ∙ w.in_ok-write_cell.ensures ∙ wrote))
-      | in_default w ↦ absurd (cell_within row.cells at c.len-at-end.result c.len-at-end.ensures c.loop-at-test.true w.in_default.ensures)
+          let number : w.as_str.result.now ≡ decimal c.args.number =
+          w.as_str.ensures.value ∙ c.in_ok-text.ensures in
+          let wrote = ap (λ (n : List _). c.loop-at.lines
+          ++ line_text (kind_name k.kind ∷ k.text ∷ row.table ∷ n ∷ x.0 ∷ x.1 ∷ [])) number in
+          front_added _ _ _ _ _ _ (cells_more k c.args.number row.table row.cells at x
+          w.in-Some.ensures) c.loop-at.invariant (w.lines-is ∙ w.in_ok-write_cell.ensures ∙ wrote))
+      | in_default w ↦ absurd (cell_within row.cells
+          at c.len-at-end.result c.len-at-end.ensures c.loop-at-test.true w.in_default.ensures)
     ]

@@ -6,7 +6,8 @@ use Rattle.esc_check.proofs.field.cell.Goals as goal
 pub returns-then-eq : goal.returns-then-eq
 returns-then-eq c =
     let x : Cell = (c.in-Some.name.now, c.in-Some.text.now) in
-    sym (cell_there c.args.field.now c.args.row.now.cells c.loop-at.at x c.in-Some.ensures (sym c.eq.ensures ∙ c.if-eq.true)) ∙ c.loop-at.invariant
+    sym (cell_there c.args.field.now c.args.row.now.cells
+    c.loop-at.at x c.in-Some.ensures (sym c.eq.ensures ∙ c.if-eq.true)) ∙ c.loop-at.invariant
 
 pub loop-at-preserved : goal.loop-at-preserved
 loop-at-preserved c =
@@ -15,6 +16,8 @@ loop-at-preserved c =
     elim c.match-cell.branch [
       | in-Some+else-eq w ↦
           (let x : Cell = (w.in-Some.name.now, w.in-Some.text.now) in
-          sym (cell_further c.args.field.now cells at x w.in-Some.ensures (sym w.eq.ensures ∙ w.if-eq.false)) ∙ c.loop-at.invariant)
-      | in_default w ↦ absurd (cell_within cells at c.len-at-end.result c.len-at-end.ensures c.loop-at-test.true w.in_default.ensures)
+          sym (cell_further c.args.field.now
+          cells at x w.in-Some.ensures (sym w.eq.ensures ∙ w.if-eq.false)) ∙ c.loop-at.invariant)
+      | in_default w ↦ absurd (cell_within
+          cells at c.len-at-end.result c.len-at-end.ensures c.loop-at-test.true w.in_default.ensures)
     ]

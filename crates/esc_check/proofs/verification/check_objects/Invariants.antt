@@ -5,5 +5,7 @@ use Rattle.esc_check.proofs.verification.check_objects.Given as goal
 
 abbrev pub invariant-loop-key : goal.invariant-loop-key
 invariant-loop-key l =
-    l.found.items ++ flat_map (object_findings (is_present l.tables.entries) l.limit.moment (string_bytes l.limit.text)) l.key-iterator
-    ≡ l.fn.found.items ++ flat_map (object_findings (is_present l.tables.entries) l.limit.moment (string_bytes l.limit.text)) l.tables.entries
+    l.found.items ++ flat_map (object_findings (is_present l.tables.entries)
+    l.limit.moment (string_bytes l.limit.text)) l.key-iterator
+    ≡ l.fn.found.items ++ flat_map (object_findings (is_present l.tables.entries)
+    l.limit.moment (string_bytes l.limit.text)) l.tables.entries

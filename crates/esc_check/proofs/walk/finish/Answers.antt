@@ -14,8 +14,12 @@ pub returns-clause-each : goal.returns-clause-each
 returns-clause-each c = λ es w ordered leads.
     let g = c.args.gathering in
     let counts = c.args.counts.now.entries in
-    let missing = c.in_ok-add_all_missing.ensures ∙ ap (λ (ls : List LinkValue). g.found.items ++ map missing_target ls) (c.deref.ensures.value ∙ c.unmet.ensures) in
-    let all = c.in_ok-check_met.ensures ∙ ap (λ (l : List FindingValue). l ++ flat_map (count_findings g.met.keys) counts) missing in
-    let are = walked_found w g es counts c.check_met.new.found.items c.settle.result.items ordered leads all c.settle.ensures.same in
+    let missing = c.in_ok-add_all_missing.ensures ∙ ap (λ (ls : List LinkValue). g.found.items
+    ++ map missing_target ls) (c.deref.ensures.value ∙ c.unmet.ensures) in
+    let all = c.in_ok-check_met.ensures
+    ∙ ap (λ (l : List FindingValue). l ++ flat_map (count_findings g.met.keys) counts) missing in
+    let are = walked_found w g es counts
+    c.check_met.new.found.items c.settle.result.items ordered leads all c.settle.ensures.same in
     let strict = in_order es w counts c.settle.result.items ordered are c.settle.ensures.ordered in
-    λ f. subst (λ (l : List FindingValue). Contains l f ↔ IsFinding (content_of_entries es) w counts f) (sym (c.listed.ensures.same strict)) (are f)
+    λ f. subst (λ (l : List FindingValue). Contains l f ↔ IsFinding (content_of_entries es) w counts f)
+    (sym (c.listed.ensures.same strict)) (are f)

@@ -8,7 +8,9 @@ invariant-loop-gathered g l =
     let objects = g.O.Objects in
     record {
       follows : objects.follows l.fn.objects l.objects;
-      gathered : objects.is_honest l.objects → (es : List Entry) → objects.lists l.fn.objects es → (left : List Entry) × objects.lists l.objects left × Leads l.limit.moment (string_bytes l.limit.text) l.gathered left es;
+      gathered : objects.is_honest l.objects → (es : List Entry)
+          → objects.lists l.fn.objects es → (left : List Entry) × objects.lists l.objects left
+          × Leads l.limit.moment (string_bytes l.limit.text) l.gathered left es;
     }
 
 abbrev pub decreases-loop-gathered : goal.decreases-loop-gathered

@@ -7,7 +7,8 @@ use Rattle.esc_check.proofs.walk.verify_from.Goals as goal
 pub returns-clause-each : goal.returns-clause-each
 returns-clause-each g c = λ honest es lists.
     let limit = c.in_ok-limit.ensures in
-    let back : to_z w64 (of_z w64 c.args.watermark) ≡ c.args.watermark = to_z-of_z w64 c.args.watermark c.ranges.watermark in
+    let back : to_z w64 (of_z w64 c.args.watermark) ≡ c.args.watermark =
+    to_z-of_z w64 c.args.watermark c.ranges.watermark in
     let moment = limit.moment ∙ back in
     let text = limit.text ∙ ap printed back in
     let told = c.in_ok-gathered.ensures.leads honest es lists in

@@ -21,10 +21,14 @@ returns-clause-decided g c = λ clean e k more stood stands knows united.
       first = subst IsAccepted (c.manifest.ensures.kept k stood) c.rows-from.ensures.accepted;
       accepted = c.rows.ensures.accepted;
       knows = knows;
-      are_judged = subst₂ (λ (m : List MRow) (from : ℕ). AreJudged m k.parked from c.in_ok-judged.judged) c.rows.ensures.rows (ap length first)
+      are_judged = subst₂ (λ (m : List MRow) (from : ℕ). AreJudged
+          m k.parked from c.in_ok-judged.judged) c.rows.ensures.rows (ap length first)
           (c.in_ok-judged.ensures.judged (was_honest c.in_ok-moment.ensures.same clean) k stood);
-      are_held = c.in_ok-append_rows.ensures ∙ ap (λ (xs : List ℕ). c.args.cache.held_rows.items ++ xs) c.deref.ensures.value;
-      latest = subst (λ (t : Option ℤ). AreLatestSteps n rows t c.in_ok-plan.plan.new.items) (c.in_ok-moment.ensures.moment clean k judged) plan.latest;
+      are_held = c.in_ok-append_rows.ensures
+          ∙ ap (λ (xs : List ℕ). c.args.cache.held_rows.items ++ xs) c.deref.ensures.value;
+      latest = subst (λ (t : Option ℤ). AreLatestSteps n rows t c.in_ok-plan.plan.new.items)
+          (c.in_ok-moment.ensures.moment clean k judged) plan.latest;
       old = plan.old ∙ knows.chain;
     } in
-    decided_amended is c.latest_chain_at_rows_are_held.ensures c.read_deposits_mention_few.ensures plan.sound _ (ap (λ v. v.items) plan.held) (ap (λ v. v.items) plan.told)
+    decided_amended is c.latest_chain_at_rows_are_held.ensures c.read_deposits_mention_few.ensures
+    plan.sound _ (ap (λ v. v.items) plan.held) (ap (λ v. v.items) plan.told)

@@ -21,7 +21,8 @@ use Rattle.esc_desk.proofs.DecidingArrivals.{arriving_again}
 use Rattle.esc_desk.proofs.answering.answer_again.Goals as goal
 
 -- what was found is what is found by the rows that are listed
-same_found : (e : List EventValue) (body : List ℕ) {m : List MRow} {found : Assessment} → found ≡ assessment sha256 reading m body → m ≡ union e → assessment sha256 reading (union e) body ≡ found
+same_found : (e : List EventValue) (body : List ℕ) {m : List MRow} {found : Assessment} → found
+    ≡ assessment sha256 reading m body → m ≡ union e → assessment sha256 reading (union e) body ≡ found
 same_found e body is listed = sym (is ∙ ap (λ (x : List MRow). assessment sha256 reading x body) listed)
 
 pub returns-in_err-decision-in-A2-clause-full : goal.returns-in_err-decision-in-A2-clause-full
@@ -30,9 +31,12 @@ returns-in_err-decision-in-A2-clause-full g c = λ clean e n k asked.
     let a2 = sym (ap (λ (v : ReplyValue). v.verdict) c.reply.view_is) ∙ c.in-A2.is in
     let is = is_again e n c.args.body.now k c.args.reply c.args.digest c.requires asked.stands_for a2 asked.kept_is in
     let there = c.in_ok-cache-in-A2.ensures.same.stands k asked.stood in
-    let found = same_found e c.args.body.now c.in_ok-found-in-A2.ensures.found (c.manifest.ensures.kept k there ∙ asked.stands_for.books.listed) in
+    let found = same_found e c.args.body.now c.in_ok-found-in-A2.ensures.found
+    (c.manifest.ensures.kept k there ∙ asked.stands_for.books.listed) in
     if_err_is c.from_residual-in_err-decision-in-A2.result c.in_err-decision-in-A2.field-0.0 _ (search rules)
-    (cause_again g.S.Store c.cache_or.new.store c.decide_arrival.new.store c.in_ok-found-in-A2.found c.args.digest c.in_err-decision-in-A2.field-0.0 e a k clean there asked.stands_for.books c.requires (sym found)
+    (cause_again g.S.Store c.cache_or.new.store c.decide_arrival.new.store
+    c.in_ok-found-in-A2.found c.args.digest c.in_err-decision-in-A2.field-0.0
+    e a k clean there asked.stands_for.books c.requires (sym found)
     c.args.reply (told_again e a k _ _ is) a2 c.in_err-decision-in-A2.ensures.cause)
 
 pub returns-in_ok-decision-in-A2-clause-answers : goal.returns-in_ok-decision-in-A2-clause-answers
@@ -41,17 +45,23 @@ returns-in_ok-decision-in-A2-clause-answers g c = λ clean e n k asked.
     let a2 = sym (ap (λ (v : ReplyValue). v.verdict) c.reply.view_is) ∙ c.in-A2.is in
     let is = is_again e n c.args.body.now k c.args.reply c.args.digest c.requires asked.stands_for a2 asked.kept_is in
     let there = c.in_ok-cache-in-A2.ensures.same.stands k asked.stood in
-    let knows = c.in_ok-cache-in-A2.ensures.cache (was_honest c.in_ok-decision-in-A2.ensures.same clean) e k asked.stood asked.stands_for asked.cache_is in
-    let found = same_found e c.args.body.now c.in_ok-found-in-A2.ensures.found (c.manifest.ensures.kept k there ∙ asked.stands_for.books.listed) in
+    let knows = c.in_ok-cache-in-A2.ensures.cache (was_honest c.in_ok-decision-in-A2.ensures.same clean)
+    e k asked.stood asked.stands_for asked.cache_is in
+    let found = same_found e c.args.body.now c.in_ok-found-in-A2.ensures.found
+    (c.manifest.ensures.kept k there ∙ asked.stands_for.books.listed) in
     let at = subst (λ (f : Assessment). IsAgain e a k f c.args.reply) found is in
     let place = c.in_ok-decision-in-A2.ensures.place clean k there in
-    again_answer at (c.in_ok-decision-in-A2.ensures.decided clean e n k there (arriving_again at knows)) c.in_ok-decision-in-A2.ensures.receipt
-    (subst (λ (d : List ℕ). c.in_ok-found-in-A2.found ≡ Unlisted → IsParking k.parked d Crowded → ⊥) c.requires place)
+    again_answer at (c.in_ok-decision-in-A2.ensures.decided clean e n k there (arriving_again at knows))
+    c.in_ok-decision-in-A2.ensures.receipt
+    (subst (λ (d : List ℕ). c.in_ok-found-in-A2.found ≡ Unlisted
+    → IsParking k.parked d Crowded → ⊥) c.requires place)
 
 pub returns-in-A1-clause-answers : goal.returns-in-A1-clause-answers
 returns-in-A1-clause-answers g c = λ clean e n k asked.
     let a = an_arrival n c.args.body.now in
-    let other = no_verdict c.args.reply.verdict (subst (λ (v : ReplyValue). IsOther v.verdict) c.reply.view_is c.in-A1.is) in
-    let there = subst (λ (d : List ℕ). reply_alike (union e) 1 n d k.receipts ≡ Some c.args.reply) c.requires asked.kept_is in
+    let other = no_verdict c.args.reply.verdict
+    (subst (λ (v : ReplyValue). IsOther v.verdict) c.reply.view_is c.in-A1.is) in
+    let there = subst (λ (d : List ℕ). reply_alike (union e) 1 n d k.receipts ≡ Some c.args.reply)
+    c.requires asked.kept_is in
     subst (λ (d : Decision). IsAnswer e a k (record { reply = c.args.reply; decision = d })) (sym c.still.ensures)
     (other_answer e a k c.args.reply c.args.cache asked.stands_for asked.cache_is there other)

@@ -18,21 +18,30 @@ pub returns-in_err-decision-clause-full : goal.returns-in_err-decision-clause-fu
 returns-in_err-decision-clause-full g c = λ clean e k asked.
     let a = an_arrival c.args.number.now c.args.body.now in
     let there = c.in_ok-before.ensures.same.stands k asked.stood in
-    let knows = c.in_ok-before.ensures.cache (was_honest c.in_err-decision.ensures.same clean) e k asked.stood asked.stands_for asked.cache_is in
-    let got = c.in_ok-found.ensures.received e k (c.manifest-manifest.ensures.kept k there) asked.stands_for knows asked.kept_is in
+    let knows = c.in_ok-before.ensures.cache (was_honest c.in_err-decision.ensures.same clean)
+    e k asked.stood asked.stands_for asked.cache_is in
+    let got = c.in_ok-found.ensures.received
+    e k (c.manifest-manifest.ensures.kept k there) asked.stands_for knows asked.kept_is in
     let is = got.is_new in
-    let none : reply_to sha256 reading e a ≡ None = ap (reply_alike (union e) 1 a.number (sha256 a.body)) (sym is.stood.books.receipts) ∙ is.none in
+    let none : reply_to sha256 reading e a ≡ None =
+    ap (reply_alike (union e) 1 a.number (sha256 a.body)) (sym is.stood.books.receipts) ∙ is.none in
     if_err_is c.from_residual-in_err-decision.result c.in_err-decision.field-0.0 _ (search rules)
-    (cause_new g.S.Store c.cache_or.new.store c.decide_arrival.new.store c.in_ok-found.field-0.found c.args.digest c.in_err-decision.field-0.0 e a k clean there is.stood.books c.requires is.found_is
+    (cause_new g.S.Store c.cache_or.new.store
+    c.decide_arrival.new.store c.in_ok-found.field-0.found c.args.digest
+    c.in_err-decision.field-0.0 e a k clean there is.stood.books c.requires is.found_is
     c.in_ok-found.field-0.receipt none c.in_err-decision.ensures.cause)
 
 pub returns-clause-answers : goal.returns-clause-answers
 returns-clause-answers g c = λ clean e k asked.
     let a = an_arrival c.args.number.now c.args.body.now in
     let there = c.in_ok-before.ensures.same.stands k asked.stood in
-    let knows = c.in_ok-before.ensures.cache (was_honest c.in_ok-decision.ensures.same clean) e k asked.stood asked.stands_for asked.cache_is in
+    let knows = c.in_ok-before.ensures.cache (was_honest c.in_ok-decision.ensures.same clean)
+    e k asked.stood asked.stands_for asked.cache_is in
     let listed = c.manifest-manifest.ensures.kept k there in
     let got = c.in_ok-found.ensures.received e k listed asked.stands_for knows asked.kept_is in
     let place = c.in_ok-decision.ensures.place clean k there in
-    new_answer got (c.in_ok-decision.ensures.decided clean e a.number k there (arriving_new got)) c.in_ok-decision.ensures.receipt c.in_ok-found.ensures.reply (listed ∙ asked.stands_for.books.listed)
-    (subst (λ (d : List ℕ). c.in_ok-found.field-0.found ≡ Unlisted → IsParking k.parked d Crowded → ⊥) c.requires place)
+    new_answer got (c.in_ok-decision.ensures.decided clean e a.number k there (arriving_new got))
+    c.in_ok-decision.ensures.receipt
+    c.in_ok-found.ensures.reply (listed ∙ asked.stands_for.books.listed)
+    (subst (λ (d : List ℕ). c.in_ok-found.field-0.found ≡ Unlisted
+    → IsParking k.parked d Crowded → ⊥) c.requires place)

@@ -22,5 +22,6 @@ loop-digest-preserved g c =
           ∙ sym (take_more c.args.digests.now c.loop-digest.digest-index _ c.loop-digest-test.true);
       each = λ clean k stood.
           let parked = c.in_ok-parked_body.ensures.parked clean k (now.same.stands k stood) in
-          rw c.in_ok-push.ensures.items (All-push (IsParkedBody k.parked) found _ (now.each (clean_before clean) k stood) parked);
+          rw c.in_ok-push.ensures.items
+          (All-push (IsParkedBody k.parked) found _ (now.each (clean_before clean) k stood) parked);
     }

@@ -10,5 +10,6 @@ abbrev pub invariant-loop-digest : goal.invariant-loop-digest
 invariant-loop-digest g l = record {
   same : IsAsBefore g.S.Store l.fn.store l.store;
   digests : map (λ (p : ParkedBody). p.digest) l.bodies.items ≡ take l.digest-index l.digests;
-  each : IsHonest g.S.Store l.store → (k : StoreState) → Represents g.S.Store l.fn.store k → All (IsParkedBody k.parked) l.bodies.items;
+  each : IsHonest g.S.Store l.store → (k : StoreState)
+      → Represents g.S.Store l.fn.store k → All (IsParkedBody k.parked) l.bodies.items;
 }

@@ -10,4 +10,5 @@ pub returns-in-Unreadable-clause-decided : goal.returns-in-Unreadable-clause-dec
 returns-in-Unreadable-clause-decided g c = λ clean e n k stood is.
     let refused = c.in-Unreadable.is in
     subst (IsDecidedArrival e (an_arrival n c.args.body.now) k c.args.found) (sym c.still.ensures)
-    (decided_there is (λ unlisted. absurd (refused_listed c.args.found refused unlisted)) (λ q here. absurd (none-some _ (sym (refused_row c.args.found refused) ∙ here))))
+    (decided_there is (λ unlisted. absurd (refused_listed c.args.found refused unlisted))
+    (λ q here. absurd (none-some _ (sym (refused_row c.args.found refused) ∙ here))))

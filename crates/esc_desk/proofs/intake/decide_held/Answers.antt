@@ -16,7 +16,8 @@ returns-then-contains-clause-decided g c = λ clean e n k stood is.
     let any = ap (list_any (λ q. nat_eq q row)) (sym c.deref.ensures.value) ∙ sym c.if-contains.ensures.value in
     let some = (is.held.each row).0 (contained cache.held_rows.items row any) in
     subst (IsDecidedArrival e (an_arrival n c.args.body.now) k (Holding row c.args.deposit)) (sym c.still.ensures)
-    (decided_there is (λ unlisted. absurd (holding_listed row c.args.deposit unlisted)) (λ q here. subst (λ (r : ℕ). IsSome (k.bodies r)) (same_Some _ _ here) some))
+    (decided_there is (λ unlisted. absurd (holding_listed row c.args.deposit unlisted))
+    (λ q here. subst (λ (r : ℕ). IsSome (k.bodies r)) (same_Some _ _ here) some))
 
 pub returns-clause-decided : goal.returns-clause-decided
 returns-clause-decided g c = λ clean e n k stood is.

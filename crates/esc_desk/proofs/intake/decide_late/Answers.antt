@@ -22,21 +22,31 @@ returns-clause-decided g c = λ clean e n k stood is none.
     let listed = c.manifest.ensures.kept k there in
     let moment = c.in_ok-moment.ensures.moment clean k stood in
     let inserted = c.in_ok-insert_row.ensures is.held.rising in
-    let held = held_more k.bodies row a.body c.args.cache.held_rows.items c.insert_row.new.rows.items is.held inserted in
-    let before : IsChainWithout k.listed c.insert_row.new.rows.items c.in_ok-moment.moment row c.args.cache.chain.items = record {
+    let held = held_more k.bodies
+    row a.body c.args.cache.held_rows.items c.insert_row.new.rows.items is.held inserted in
+    let before : IsChainWithout k.listed
+    c.insert_row.new.rows.items c.in_ok-moment.moment row c.args.cache.chain.items = record {
       others = is.stood.held;
-      one_more = one_more_held k.bodies row c.args.cache.held_rows.items c.insert_row.new.rows.items is.stood.held is.stood.have_bodies is.held inserted;
+      one_more = one_more_held k.bodies row c.args.cache.held_rows.items
+          c.insert_row.new.rows.items is.stood.held is.stood.have_bodies is.held inserted;
       chain = k.steps;
       are_steps = is.chain;
-      latest = subst (λ (t : Option ℤ). IsLatestChainAt k.listed is.stood.held t k.steps) (sym moment) is.stood.chain;
+      latest = subst (λ (t : Option ℤ). IsLatestChainAt k.listed is.stood.held t k.steps)
+          (sym moment) is.stood.chain;
     } in
-    let latest = subst (λ (m : List MRow). IsChainWithout m c.insert_row.new.rows.items c.in_ok-moment.moment row c.args.cache.chain.items
-    → AreLatestSteps m c.insert_row.new.rows.items c.in_ok-moment.moment c.in_ok-plan.plan.new.items) listed plan.latest before in
+    let latest = subst (λ (m : List MRow). IsChainWithout
+    m c.insert_row.new.rows.items c.in_ok-moment.moment row c.args.cache.chain.items
+    → AreLatestSteps m c.insert_row.new.rows.items c.in_ok-moment.moment c.in_ok-plan.plan.new.items)
+    listed plan.latest before in
     let books = is.late row c.args.deposit refl none in
     record {
-      decided = decided_moved c.args.receipt _ _ _ c.plan_arrived.new.cache c.latest_chain_at_rows_are_held.ensures c.read_deposits_mention_few.ensures
-          plan.sound (late_move is row none books held moment latest (plan.old ∙ is.chain)) (ap (λ v. v.items) plan.held)
+      decided = decided_moved c.args.receipt _ _ _ c.plan_arrived.new.cache
+          c.latest_chain_at_rows_are_held.ensures c.read_deposits_mention_few.ensures
+          plan.sound (late_move is row none books held moment latest (plan.old ∙ is.chain))
+          (ap (λ v. v.items) plan.held)
           (subst (AreHeldBy (receipted c.args.receipt k).receipts) (ap (λ v. v.items) (sym plan.told)) is.told);
       idle = λ work cost. late_idle is row none books work;
-      there = λ empty. absurd (stores_something (decision_by c.args.receipt None (Hold row c.args.body c.args.deposit) None (Some c.plan_arrived.new.cache) (Some c.in_ok-plan.plan)).edit refl empty);
+      there = λ empty. absurd
+          (stores_something (decision_by c.args.receipt None (Hold row c.args.body c.args.deposit)
+          None (Some c.plan_arrived.new.cache) (Some c.in_ok-plan.plan)).edit refl empty);
     }

@@ -15,5 +15,6 @@ returns-in-Ok-clause-judged g c = λ clean k stood.
     let there : k.parked (row_at rows c.args.row).digest ≡ Some c.in-Some.body.items =
     ap (λ (r : MRow). k.parked r.digest) (sym row) ∙ sym (rw c.in-Some.is at found) in
     let reads = ap reading (sym c.deref.ensures.value) ∙ c.in-Ok.ensures.read in
-    subst (IsJudgement rows k.parked c.args.row) (sym (c.judgement_of.ensures ∙ ap judgement_of c.compare.ensures.compared))
+    subst (IsJudgement rows k.parked c.args.row)
+    (sym (c.judgement_of.ensures ∙ ap judgement_of c.compare.ensures.compared))
     (readable rows k.parked c.args.row c.in-Some.body.items c.in-Ok.deposit there reads)

@@ -7,5 +7,6 @@ use Rattle.esc_desk.proofs.judging.judge_rows.Given as goal
 abbrev pub invariant-loop-row : goal.invariant-loop-row
 invariant-loop-row g l = record {
   same : IsAsBefore g.S.Store l.fn.store l.store;
-  judged : IsHonest g.S.Store l.store → (k : StoreState) → Represents g.S.Store l.fn.store k → AreJudgedTo l.rows k.parked l.from l.row l.judged;
+  judged : IsHonest g.S.Store l.store → (k : StoreState)
+      → Represents g.S.Store l.fn.store k → AreJudgedTo l.rows k.parked l.from l.row l.judged;
 }

@@ -20,8 +20,12 @@ invariant-loop-step g l =
       follows : ChangeFollows g.S.Store l.fn.change l.change;
       left : (bodies : ℕ → Option (List ℕ)) → IsAtHand l.fn.at_hand bodies → IsAtHand l.at_hand bodies;
       counted : saturated l.change.count ≡ saturated (saturated l.fn.change.count + l.writes);
-      number : IsHonest g.S.Store l.change.store.now → (before k : StoreState) → IsAtHand l.fn.at_hand k.bodies → HasMadeBooks g.S.Store l.fn.change before k
+      number : IsHonest g.S.Store l.change.store.now → (before k : StoreState)
+          → IsAtHand l.fn.at_hand k.bodies → HasMadeBooks g.S.Store l.fn.change before k
           → l.writes ≡ saturated (sum_by mention_count (deposits_of reading k.bodies rows));
-      applied : IsHonest g.S.Store l.change.store.now → (before k : StoreState) (c : List DepositValue) → length c ≡ l.front → IsAtHand l.fn.at_hand k.bodies → HasMadeBooks g.S.Store l.fn.change before k
-          → HasMadeTables g.S.Store l.fn.change (chain_state c) → HasMadeTables g.S.Store l.change (chain_state (c ++ deposits_of reading k.bodies rows));
+      applied : IsHonest g.S.Store l.change.store.now
+          → (before k : StoreState) (c : List DepositValue) → length c ≡ l.front
+          → IsAtHand l.fn.at_hand k.bodies → HasMadeBooks g.S.Store l.fn.change before k
+          → HasMadeTables g.S.Store l.fn.change (chain_state c)
+          → HasMadeTables g.S.Store l.change (chain_state (c ++ deposits_of reading k.bodies rows));
     }

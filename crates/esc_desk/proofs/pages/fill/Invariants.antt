@@ -10,7 +10,8 @@ use Rattle.esc_desk.proofs.pages.fill.Given as goal
 abbrev pub invariant-loop-kind : goal.invariant-loop-kind
 invariant-loop-kind g l =
     IsAsBefore g.S.Store l.fn.store l.store × (l.pages.left ≡ l.fn.pages.left)
-    × (IsHonest g.S.Store l.store → (es : List Entry) → AreToCome g.S.Store l.fn.store l.fn.pages es → AreToCome g.S.Store l.store l.pages es)
+    × (IsHonest g.S.Store l.store → (es : List Entry)
+    → AreToCome g.S.Store l.fn.store l.fn.pages es → AreToCome g.S.Store l.store l.pages es)
 
 -- each page that is empty ends a kind
 abbrev pub decreases-loop-kind : goal.decreases-loop-kind

@@ -1,4 +1,5 @@
-use Rattle.std.proofs.Common.{List, ◌++◌, ◌∷◌, [], ◌<◌, ◌≤◌, length, refl, sym, ap, subst, ◌∙◌, arith, length-append}
+use Rattle.std.proofs.Common.{List, ◌++◌, ◌∷◌, [], ◌<◌, ◌≤◌, length, refl, sym, ap, subst}
+use Rattle.std.proofs.Common.{◌∙◌, arith, length-append}
 use Rattle.esc_manifest.specs.declared.row.MRow.{MRow}
 use Rattle.esc_apply.specs.declared.front.Step.{Step}
 use Rattle.esc_store.specs.StoreState.{step_at}
@@ -6,7 +7,8 @@ use Rattle.esc_desk.proofs.Lengthening.{latest_with}
 use Rattle.esc_desk.proofs.plan.steps_with.Goals as goal
 
 pub step_of-last-requires : goal.step_of-last-requires
-step_of-last-requires c = subst (λ (m : List MRow). c.args.row < length m) (sym c.rows.ensures.rows) (c.if-lengthens.ensures.longer refl).listed
+step_of-last-requires c = subst (λ (m : List MRow). c.args.row < length m)
+    (sym c.rows.ensures.rows) (c.if-lengthens.ensures.longer refl).listed
 
 pub with_step-requires : goal.with_step-requires
 with_step-requires c = (c.if-lengthens.ensures.longer refl).few
@@ -14,10 +16,13 @@ with_step-requires c = (c.if-lengthens.ensures.longer refl).few
 pub returns-then-lengthens-clause-few : goal.returns-then-lengthens-clause-few
 returns-then-lengthens-clause-few c =
     let few = (c.if-lengthens.ensures.longer refl).few in
-    subst (λ (l : List Step). length l ≤ 4096) (sym c.in_ok-with_step.ensures) (omega (arith, length-append c.args.chain.now (c.step_of-last.result ∷ []), few))
+    subst (λ (l : List Step). length l ≤ 4096) (sym c.in_ok-with_step.ensures)
+    (omega (arith, length-append c.args.chain.now (c.step_of-last.result ∷ []), few))
 
 pub returns-then-lengthens-clause-steps : goal.returns-then-lengthens-clause-steps
 returns-then-lengthens-clause-steps c = λ before.
     let last = c.step_of-last.ensures ∙ ap (λ (m : List MRow). step_at m c.args.row) c.rows.ensures.rows in
     let more = c.in_ok-with_step.ensures ∙ ap (λ (s : Step). c.args.chain.now ++ s ∷ []) last in
-    latest_with c.args.manifest.now c.args.rows.now c.args.moment c.args.row c.args.chain.now c.in_ok-with_step.field-0.items (c.if-lengthens.ensures.longer refl) before c.rows.ensures.accepted more
+    latest_with c.args.manifest.now c.args.rows.now c.args.moment
+    c.args.row c.args.chain.now c.in_ok-with_step.field-0.items (c.if-lengthens.ensures.longer refl)
+    before c.rows.ensures.accepted more

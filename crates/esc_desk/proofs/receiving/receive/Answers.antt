@@ -20,9 +20,11 @@ returns-clause-received c = λ e k listed stands cache none.
     let is : IsNew e (an_arrival n body) k found c.args.cache c.receipt_by-receipt.result = record {
       stood = stands;
       none = subst (λ (d : List ℕ). reply_alike (union e) 1 n d k.receipts ≡ None) c.requires none;
-      found_is = c.in_ok-found.ensures.found ∙ ap (λ (x : List MRow). assessment sha256 reading x body) (listed ∙ stands.books.listed);
+      found_is = c.in_ok-found.ensures.found
+          ∙ ap (λ (x : List MRow). assessment sha256 reading x body) (listed ∙ stands.books.listed);
       cache_is = cache;
-      receipt_is = c.receipt_by-receipt.ensures ∙ ap₂ (λ (d : List ℕ) (b : Bool). receipt_by n d false found b) c.requires again;
+      receipt_is = c.receipt_by-receipt.ensures
+          ∙ ap₂ (λ (d : List ℕ) (b : Bool). receipt_by n d false found b) c.requires again;
     } in
     record {
       is_new = is;

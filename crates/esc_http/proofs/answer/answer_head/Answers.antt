@@ -29,7 +29,8 @@ pub returns-clause-answers : goal.returns-clause-answers
 returns-clause-answers g c =
     IfOk-weaker c.answer_put.result _ _ (λ text got h at. (
       got.0,
-      same_request _ _ _ (Put c.in-Put.number c.in-Put.size) (plan_of_head h) got.0 (take_rest c.args.bytes.now c.args.found.now.spans.len) (c.in-Put.ensures h at) got.1,
+      same_request _ _ _ (Put c.in-Put.number c.in-Put.size) (plan_of_head h)
+          got.0 (take_rest c.args.bytes.now c.args.found.now.spans.len) (c.in-Put.ensures h at) got.1,
       got.2,
     )) c.answer_put.ensures.answers
 
@@ -48,5 +49,7 @@ returns-in_default-clause-unread g c = (_, read_no_piece IsUndecided _ c.args.by
 pub returns-clause-unread : goal.returns-clause-unread
 returns-clause-unread g c =
     let (h, at, has) = c.requires.head in
-    let front = subst (λ (rest : List ℕ). HasHead c.args.bytes.now h rest) (sym (take_rest c.args.bytes.now c.args.found.now.spans.len)) has in
-    undecided _ _ c.args.bytes.now _ _ h c.in-Put.number c.in-Put.size front (sym (c.in-Put.ensures h at)) c.answer_put.ensures.unread.1
+    let front = subst (λ (rest : List ℕ). HasHead c.args.bytes.now h rest)
+    (sym (take_rest c.args.bytes.now c.args.found.now.spans.len)) has in
+    undecided _ _ c.args.bytes.now _ _ h
+    c.in-Put.number c.in-Put.size front (sym (c.in-Put.ensures h at)) c.answer_put.ensures.unread.1

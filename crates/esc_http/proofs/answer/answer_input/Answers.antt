@@ -18,7 +18,9 @@ returns-in-Some-clause-answers g c =
     let (h, at, has) = rw c.in-Some.is at c.in_ok-found.ensures.head in
     let took = rw c.in-Some.is at c.in_ok-found.ensures.bytes in
     let front = take c.in-Some.found.filled c.read_head.new.buffer in
-    IfOk-weaker c.answer_head.result _ _ (λ text got. let (request, is, answered) = got h at in (request, asked _ _ front c.in-Some.found.spans.len h request took has is, answered)) c.answer_head.ensures.answers
+    IfOk-weaker c.answer_head.result _ _ (λ text got. let (request, is, answered) = got h at in
+    (request, asked _ _ front c.in-Some.found.spans.len h request took has is, answered))
+    c.answer_head.ensures.answers
 
 pub returns-in-None-clause-unread : goal.returns-in-None-clause-unread
 returns-in-None-clause-unread g c =
@@ -31,7 +33,8 @@ returns-in-Some-clause-unread g c =
     let is = rw c.in-Some.is at said in
     let head = read_weaker IsUnfinished IsUndecided (λ l may. inl may) _ _ [] bytes read in
     let (last, body) = c.answer_head.ensures.unread in
-    let read = λ (l : List ℕ). ReadsWhile IsUndecided (g.R.Source.pieces c.read_head.new.source) (g.R.Source.pieces c.answer_head.new.source) l last in
+    let read = λ (l : List ℕ). ReadsWhile IsUndecided (g.R.Source.pieces c.read_head.new.source)
+    (g.R.Source.pieces c.answer_head.new.source) l last in
     (last, read_then IsUndecided _ _ _ [] bytes last head (subst read (sym is) body))
 
 pub returns-in_err-found-clause-unread : goal.returns-in_err-found-clause-unread

@@ -9,13 +9,21 @@ pub returns-in-Whole-clause-answers : goal.returns-in-Whole-clause-answers
 returns-in-Whole-clause-answers g c =
     let body = rw c.in-Whole.is at c.in_ok-body.ensures.body in
     let number = c.args.number.now in
-    let seen = c.deref.result.now in
-    (arrives (record { number = number; body = seen }), whole_arrives _ number _ seen c.args.size c.deref.ensures.value body, c.answer_arrival.ensures.answers)
+    let seen = c.deref.result.now in (
+      arrives (record { number = number; body = seen }),
+      whole_arrives
+          _ number _ seen c.args.size c.deref.ensures.value body,
+      c.answer_arrival.ensures.answers,
+    )
 
 pub returns-in-Cut-clause-answers : goal.returns-in-Cut-clause-answers
 returns-in-Cut-clause-answers g c =
-    let body = rw c.in-Cut.is at c.in_ok-body.ensures.body in
-    (refused BadRequest, cut_refused _ c.args.number.now c.args.size body, (refl, text_is _ c.refusal_response.result c.refusal_response.ensures.text))
+    let body = rw c.in-Cut.is at c.in_ok-body.ensures.body in (
+      refused BadRequest,
+      cut_refused _ c.args.number.now c.args.size body,
+      (refl, text_is _ c.refusal_response.result c.refusal_response.ensures.text),
+    )
 
 pub returns-in-NoMemory-clause-answers : goal.returns-in-NoMemory-clause-answers
-returns-in-NoMemory-clause-answers g c = memory_answers_some g.S.Store c.args.desk.now _ (Put c.args.number.now c.args.size)
+returns-in-NoMemory-clause-answers g c =
+    memory_answers_some g.S.Store c.args.desk.now _ (Put c.args.number.now c.args.size)

@@ -9,7 +9,8 @@ returns-in-Ok-clause-answers g c = (
   leaves_still g.S.Store _ _ c.report.ensures.read.follows,
   inl (record {
     body = c.deref.result.now;
-    is = λ clean e serves. subst (IsReport e c.args.what) (sym c.deref.ensures.value) (c.in-Ok.ensures.text clean e serves);
+    is = λ clean e serves. subst (IsReport e c.args.what)
+        (sym c.deref.ensures.value) (c.in-Ok.ensures.text clean e serves);
     sends = text_is _ c.report_response.result c.report_response.ensures;
   }),
 )

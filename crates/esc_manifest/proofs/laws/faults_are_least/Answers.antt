@@ -7,5 +7,6 @@ pub returns : goal.returns
 returns c = record {
   rows = λ m code row. (rows_least m code row, least_rows m code row);
   text = λ text code row. (text_least text code row, least_text text code row);
-  union = λ m more code row listed added. (union_least m more listed added code row, least_union m more listed added code row);
+  union = λ m more code row listed added.
+      (union_least m more listed added code row, least_union m more listed added code row);
 }

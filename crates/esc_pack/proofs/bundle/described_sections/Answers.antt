@@ -20,13 +20,15 @@ pub returns-in_err-envelope-clause-refused : goal.returns-in_err-envelope-clause
 returns-in_err-envelope-clause-refused c =
     let p = err_from_is_err_and c.from_residual.result c.from_residual.ensures.1 in
     rw (p.1, p.2)
-    (fault_refused (IsSectionsRefusal c.args.description.now c.args.given.now) _ (λ n is. inl (n, refl, c.in_err-envelope.ensures.refused n is)))
+    (fault_refused (IsSectionsRefusal c.args.description.now c.args.given.now)
+    _ (λ n is. inl (n, refl, c.in_err-envelope.ensures.refused n is)))
 
 pub returns-in_err-push_described-clause-refused : goal.returns-in_err-push_described-clause-refused
 returns-in_err-push_described-clause-refused c =
     let given = c.args.given.now in
     let envelope = c.in_ok-envelope.envelope in
-    let p = err_from_is_err_and c.from_residual-in_err-push_described.result c.from_residual-in_err-push_described.ensures.1 in
+    let p = err_from_is_err_and
+    c.from_residual-in_err-push_described.result c.from_residual-in_err-push_described.ensures.1 in
     rw (p.1, p.2)
     (or_weaker (IsGivenRefusal envelope given) (IsSectionsRefusal c.args.description.now given)
     (λ e it. inr (envelope, c.in_ok-envelope.ensures.envelope, it)) _ c.in_err-push_described.ensures.refused)

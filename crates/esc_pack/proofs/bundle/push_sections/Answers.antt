@@ -1,4 +1,5 @@
-use Rattle.std.proofs.Common.{◌≡◌, ◌∙◌, ◌+◌, ◌++◌, ◌∷◌, [], ℕ, ◌≤◌, List, length, take, map, string_bytes, sym, ap, subst, arith, rules}
+use Rattle.std.proofs.Common.{◌≡◌, ◌∙◌, ◌+◌, ◌++◌, ◌∷◌, [], ℕ, ◌≤◌, List, length}
+use Rattle.std.proofs.Common.{take, map, string_bytes, sym, ap, subst, arith, rules}
 use Rattle.std.specs.Prelude.{All}
 use Rattle.std.specs.List.{zip}
 use Rattle.std.proofs.lemmas.List.{append_assoc, map_push, take_all}
@@ -29,7 +30,8 @@ loop-at-preserved c =
     let files : take (i + 1) given ≡ take i given ++ g ∷ [] =
     taken given g (omega (arith, c.requires.same, c.loop-at-test.true)) c.index-given-at.is in
     let name : string_bytes c.in_ok-clone.field-0 ≡ string_bytes c.table.inside.file = search rules in
-    let named_so : string_bytes c.in_ok-clone.field-0 ≡ t.file = name ∙ ap (λ (v : TableValue). v.file) c.table.view_is in
+    let named_so : string_bytes c.in_ok-clone.field-0 ≡ t.file =
+    name ∙ ap (λ (v : TableValue). v.file) c.table.view_is in
     let section : named (c.in_ok-clone.field-0, c.in_ok-text.text) ≡ section_of (t, g) =
     λ k. record { name = named_so k; bytes = c.in_ok-text.ensures.text k } in
     let pushed : map named c.push.new.self.items ≡ before ++ section_of (t, g) ∷ [] =
@@ -54,11 +56,13 @@ pub returns-clause-pushed : goal.returns-clause-pushed
 returns-clause-pushed c =
     let start = map named c.args.sections.now.items in
     c.loop-at.invariant.pushed
-    ∙ ap (λ (ps : List (TableValue × GivenTable)). start ++ map section_of ps) (all_pairs c.args.tables.now c.args.given.now c.loop-at-test.false)
+    ∙ ap (λ (ps : List (TableValue × GivenTable)). start ++ map section_of ps)
+    (all_pairs c.args.tables.now c.args.given.now c.loop-at-test.false)
 
 pub returns-clause-headed : goal.returns-clause-headed
 returns-clause-headed c =
-    subst (λ (ps : List (TableValue × GivenTable)). All AreHeaded ps) (all_pairs c.args.tables.now c.args.given.now c.loop-at-test.false)
+    subst (λ (ps : List (TableValue × GivenTable)). All AreHeaded ps)
+    (all_pairs c.args.tables.now c.args.given.now c.loop-at-test.false)
     c.loop-at.invariant.headed
 
 pub returns-in_err-text-clause-refused : goal.returns-in_err-text-clause-refused
@@ -72,5 +76,6 @@ returns-in_err-text-clause-refused c =
     let p = err_from_is_err_and c.from_residual.result c.from_residual.ensures.1 in
     rw (p.1, p.2)
     (or_weaker (IsTableRefusal (t, g) (first + i)) (IsTablesRefusal (zip tables given) first)
-    (λ e refused. table_refused tables given first c.loop-at-test.true c.requires.same c.index-tables-at.is c.index-given-at.is refused)
+    (λ e refused. table_refused tables given
+    first c.loop-at-test.true c.requires.same c.index-tables-at.is c.index-given-at.is refused)
     _ c.in_err-text.ensures.refused)

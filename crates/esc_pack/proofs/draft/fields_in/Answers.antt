@@ -11,5 +11,6 @@ returns-in-Some c =
 pub loop-file-preserved : goal.loop-file-preserved
 loop-file-preserved c =
     sym
-    (none_added (heading_in c.args.table) c.args.files.now _ c.loop-file-test.true c.file-item.is (sym c.in_default.is ∙ c.in_ok-heading.ensures)
+    (none_added (heading_in c.args.table) c.args.files.now
+    _ c.loop-file-test.true c.file-item.is (sym c.in_default.is ∙ c.in_ok-heading.ensures)
     (sym c.loop-file.invariant))

@@ -19,5 +19,6 @@ returns c =
           w.result-is ∙ w.found.ensures ∙ (λ k. row_forecast (w.rows.ensures.rows k) row (says k))
           ∙ ap (λ (r : Option ℕ). forecast_at m r told) (sym w.in-Some.is ∙ listed))
       | in-None w ↦
-          w.result-is ∙ (λ k. forecast_at m None (says k)) ∙ ap (λ (r : Option ℕ). forecast_at m r told) (sym w.in-None.is ∙ listed)
+          w.result-is ∙ (λ k. forecast_at m None (says k))
+          ∙ ap (λ (r : Option ℕ). forecast_at m r told) (sym w.in-None.is ∙ listed)
     ]

@@ -6,8 +6,10 @@ use Rattle.esc_manifest.specs.RowFaults.{rows_fault}
 use Rattle.esc_pack.proofs.release.accepted.Goals as goal
 
 -- a manifest is answered for rows without a fault alone, and it has them
-answered : (o : Option (ManifestRefusal × ℕ)) {r : Result (List MRow) ManifestFault} {rows m : List MRow} → r ≡ Ok m → (o ≡ None → r ≡ Ok rows)
-    → ((code : ManifestRefusal) (row : ℕ) → o ≡ Some (code, row) → r ≡ Err (ManifestFault.Refused code row)) → (m ≡ rows) × (o ≡ None)
+answered : (o : Option (ManifestRefusal × ℕ))
+    {r : Result (List MRow) ManifestFault} {rows m : List MRow} → r ≡ Ok m → (o ≡ None → r ≡ Ok rows)
+    → ((code : ManifestRefusal) (row : ℕ)
+    → o ≡ Some (code, row) → r ≡ Err (ManifestFault.Refused code row)) → (m ≡ rows) × (o ≡ None)
 answered None is free fault = let right = free refl in (cc, refl)
 answered (Some (code, row)) is free fault = let wrong = fault code row refl in absurd cc
 

@@ -12,7 +12,8 @@ rows_total : IsTotalOrder row_cmp
 rows_total =
     then_total
     (on_total (λ r. r.header.place.watermark) int_cmp_total)
-    (then_total (on_total (λ r. rank r.header.place.kind) nat_cmp_total) (on_total (λ r. r.header.resend) nat_cmp_total))
+    (then_total (on_total (λ r. rank r.header.place.kind) nat_cmp_total)
+    (on_total (λ r. r.header.resend) nat_cmp_total))
 
 pub returns-clause-rising : goal.returns-clause-rising
 returns-clause-rising c =

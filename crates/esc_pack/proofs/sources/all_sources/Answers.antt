@@ -14,7 +14,8 @@ returns-in_default c =
 pub loop-value-preserved : goal.loop-value-preserved
 loop-value-preserved c =
     let at = c.loop-value.value-index in
-    next source_of view c.args.values.now at c.value-item.result c.in-Some.source c.loop-value.sources.items _ c.loop-value-test.true
+    next source_of view c.args.values.now
+    at c.value-item.result c.in-Some.source c.loop-value.sources.items _ c.loop-value-test.true
     (ap (λ v. source_of (view v)) (sym c.value-item.is) ∙ sym c.in_ok-source.ensures ∙ c.in-Some.is)
     c.in_ok-push.ensures.items c.loop-value.invariant
 

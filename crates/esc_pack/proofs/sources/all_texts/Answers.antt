@@ -16,7 +16,8 @@ pub loop-value-preserved : goal.loop-value-preserved
 loop-value-preserved c =
     let at = c.loop-value.value-index in
     let texts = map string_bytes c.loop-value.texts.items in
-    let added = ap (map string_bytes) c.in_ok-push.ensures.items ∙ map_push string_bytes c.loop-value.texts.items c.in_ok-from_str.field-0
+    let added = ap (map string_bytes) c.in_ok-push.ensures.items
+    ∙ map_push string_bytes c.loop-value.texts.items c.in_ok-from_str.field-0
     ∙ ap (λ (text : List ℕ). texts ++ (text ∷ [])) c.in_ok-from_str.ensures.ok in
     next as_str view c.args.values.now at c.value-item.result c.in-Some.text.now texts _ c.loop-value-test.true
     (ap (λ v. as_str (view v)) (sym c.value-item.is) ∙ sym c.in-Some.ensures) added c.loop-value.invariant

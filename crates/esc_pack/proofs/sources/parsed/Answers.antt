@@ -9,4 +9,5 @@ returns-in-Ok c = sym (is_json c.args.json.now (view c.in-Ok.value) c.in-Ok.ensu
 pub returns-else-is_memory : goal.returns-else-is_memory
 returns-else-is_memory c =
     let no = c.if-is_memory.false in
-    sym (is_no_json c.args.json.now (c.in-Err.ensures.err (λ memory. let yes = c.is_memory.ensures.1 memory in absurd cc)))
+    sym (is_no_json c.args.json.now
+    (c.in-Err.ensures.err (λ memory. let yes = c.is_memory.ensures.1 memory in absurd cc)))

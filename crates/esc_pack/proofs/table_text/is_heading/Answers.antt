@@ -12,12 +12,14 @@ returns c =
     let names = c.deref-2.result.now in
     let texts = c.deref-3.result.now in
     let test = names_field c.deref.result.now in
-    let name : c.deref.result.now ≡ c.args.table.now.name = c.deref.ensures ∙ ap (λ (t : TableValue). t.name) c.table.view_is in
+    let name : c.deref.result.now ≡ c.args.table.now.name =
+    c.deref.ensures ∙ ap (λ (t : TableValue). t.name) c.table.view_is in
     let row : map (λ (n : Bor (List ℕ)). n.now) names ≡ c.args.line.now =
     ap (map (λ (n : Bor (List ℕ)). n.now)) c.deref-2.ensures.value ∙ c.in_ok-names.ensures in
     let fields : map string_bytes texts ≡ c.args.table.now.fields =
     ap (map string_bytes) c.deref-3.ensures.value ∙ ap (λ (t : TableValue). t.fields) c.table.view_is in
-    let few : length names ≡ length (map (λ (n : Bor (List ℕ)). n.now) names) = sym (length-map names (λ (n : Bor (List ℕ)). n.now)) in
+    let few : length names ≡ length (map (λ (n : Bor (List ℕ)). n.now) names) =
+    sym (length-map names (λ (n : Bor (List ℕ)). n.now)) in
     let many : length texts ≡ length (map string_bytes texts) = sym (length-map texts string_bytes) in
     c.are_all_named.ensures
     ∙ (λ k. (few k == many k) && pairs_seen (λ (n : Bor (List ℕ)). n.now) string_bytes test names texts k)

@@ -3,7 +3,8 @@ use Rattle.esc_pack.proofs.SectionFacts.{unmarked, marked}
 use Rattle.esc_pack.proofs.table_text.is_marked.Goals as goal
 
 pub returns-then-text-lt3-clause-none : goal.returns-then-text-lt3-clause-none
-returns-then-text-lt3-clause-none c = λ e. unmarked c.args.text.now (λ le. absurd (omega (arith, le, c.if-text-lt3.true)))
+returns-then-text-lt3-clause-none c =
+    λ e. unmarked c.args.text.now (λ le. absurd (omega (arith, le, c.if-text-lt3.true)))
 
 pub returns-clause-none : goal.returns-clause-none
 returns-clause-none c = λ e. unmarked c.args.text.now (λ le. rw (c.is_mark.ensures) at e)

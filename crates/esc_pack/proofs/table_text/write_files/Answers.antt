@@ -15,7 +15,8 @@ loop-at-preserved c =
     let table = c.args.table.now in
     record {
       written = one_file _ file c.loop-at.invariant.written c.in_ok-write_file.ensures.written;
-      whole = one_file_whole (has_width (length fields)) file c.loop-at.invariant.whole c.in_ok-write_file.ensures.whole;
+      whole = one_file_whole (has_width (length fields))
+          file c.loop-at.invariant.whole c.in_ok-write_file.ensures.whole;
       headed = λ is.
           let headed = c.in_ok-write_file.ensures.headed (file.same_heading ∙ is) in
           All_next (IsHeaded table) _ (taken _ [] file.inside file.is) (c.loop-at.invariant.headed is) headed;
@@ -34,5 +35,6 @@ returns-in_err-write_file-clause-refused c =
     let text : List ℕ = (get_or c.deref-file-items.result.now c.loop-at.at nothing).now in
     let p = err_from_is_err_and c.from_residual.result c.from_residual.ensures.1 in
     rw (p.1, p.2)
-    (or_weaker (IsFileRefusal table c.given.inside.has_heading text c.args.number c.loop-at.at) (IsTableRefusal (table, c.args.given.now) c.args.number)
+    (or_weaker (IsFileRefusal table c.given.inside.has_heading text c.args.number c.loop-at.at)
+    (IsTableRefusal (table, c.args.given.now) c.args.number)
     (λ e refused. file_refused table file refused) _ c.in_err-write_file.ensures.refused)

@@ -8,6 +8,7 @@ use Rattle.esc_pack.proofs.table_text.write_files.Given as goal
 abbrev pub invariant-loop-at : goal.invariant-loop-at
 invariant-loop-at l = record {
   written : l.lines ≡ l.fn.lines ++ text_of (flat_map (file_rows l.given.has_heading) (take l.at l.given.files));
-  whole : list_all (has_width (length l.table.fields)) (flat_map (file_rows l.given.has_heading) (take l.at l.given.files)) ≡ true;
+  whole : list_all (has_width (length l.table.fields))
+      (flat_map (file_rows l.given.has_heading) (take l.at l.given.files)) ≡ true;
   headed : l.given.has_heading ≡ true → All (IsHeaded l.table) (take l.at l.given.files);
 }

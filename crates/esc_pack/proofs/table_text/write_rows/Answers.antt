@@ -32,5 +32,14 @@ returns-then-not-is_row-clause-refused c =
     let fields = c.next.new.target in
     let rest = c.next.new.self in
     let next : c.loop-record.rows ≡ fields ∷ rest = rw c.if-branch.true at c.in_ok-next.ensures.next in
-    let at = (drop_next c.args.rows.now c.loop-record.row (c.loop-record.invariant.passed ∙ next)).0 in
-    (c.in-Some.number, refl, (c.loop-record.row, fields, c.in-Some.ensures.1, at, sym c.is_row.ensures ∙ c.if-not-is_row.true))
+    let at = (drop_next c.args.rows.now c.loop-record.row (c.loop-record.invariant.passed ∙ next)).0 in (
+      c.in-Some.number,
+      refl,
+      (
+        c.loop-record.row,
+        fields,
+        c.in-Some.ensures.1,
+        at,
+        sym c.is_row.ensures ∙ c.if-not-is_row.true,
+      ),
+    )

@@ -8,4 +8,5 @@ use Rattle.esc_pack.proofs.written.digest_field.Goals as goal
 pub returns-clause-read : goal.returns-clause-read
 returns-clause-read c =
     let digest = c.args.digest.now in
-    sym (digest_is (encode_lower digest)) ∙ ap result_ok (decode_sized-encode_lower digest 32 c.told-digest c.fits-digest)
+    sym (digest_is (encode_lower digest))
+    ∙ ap result_ok (decode_sized-encode_lower digest 32 c.told-digest c.fits-digest)

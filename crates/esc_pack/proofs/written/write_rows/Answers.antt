@@ -1,4 +1,5 @@
-use Rattle.std.proofs.Common.{◌≡◌, ℕ, ◌+◌, ◌<◌, List, ◌∷◌, ◌++◌, length, get_or, drop, All, sym, ap, subst, ◌∙◌, append_assoc, append-nil}
+use Rattle.std.proofs.Common.{◌≡◌, ℕ, ◌+◌, ◌<◌, List, ◌∷◌, ◌++◌, length, get_or, drop, All}
+use Rattle.std.proofs.Common.{sym, ap, subst, ◌∙◌, append_assoc, append-nil}
 use Rattle.std.proofs.lemmas.List.{drop_more, drop_all, take_all, get_or_default}
 use Rattle.esc_csv.specs.Lines.{line_text}
 use Rattle.esc_envelope.specs.Watermark.{IsInYears}
@@ -9,13 +10,15 @@ use Rattle.esc_pack.proofs.SectionFacts.{taken, All_next}
 use Rattle.esc_pack.proofs.written.write_rows.Goals as goal
 
 -- the line of the first row that is left has been written
-one_more : (old : List ℕ) {new whole : List ℕ} (rows : List MRow) {i : ℕ} {row : MRow} → i < length rows → row ≡ get_or rows i row
+one_more : (old : List ℕ) {new whole : List ℕ} (rows : List MRow) {i : ℕ} {row : MRow}
+    → i < length rows → row ≡ get_or rows i row
     → new ≡ old ++ line_text (manifest_line row) → old ++ rows_text (drop i rows) ≡ whole
     → new ++ rows_text (drop (i + 1) rows) ≡ whole
 one_more old rows {i} {row} lt is wrote known =
     let later = drop (i + 1) rows in
     let left : drop i rows ≡ row ∷ later = drop_more rows i row lt ∙ ap (λ (r : MRow). r ∷ later) (sym is) in
-    ap (λ (text : List ℕ). text ++ rows_text later) wrote ∙ append_assoc old (line_text (manifest_line row)) (rows_text later)
+    ap (λ (text : List ℕ). text ++ rows_text later) wrote
+    ∙ append_assoc old (line_text (manifest_line row)) (rows_text later)
     ∙ ap (λ (rs : List MRow). old ++ rows_text rs) (sym left) ∙ known
 
 pub write_row-requires : goal.write_row-requires
@@ -28,7 +31,8 @@ pub loop-row-preserved : goal.loop-row-preserved
 loop-row-preserved c =
     let next = taken c.args.rows.now c.row-item.result c.loop-row-test.true c.row-item.is in
     record {
-      written = one_more _ c.args.rows.now c.loop-row-test.true c.row-item.is c.in_ok-write_row.ensures.written c.loop-row.invariant.written;
+      written = one_more _ c.args.rows.now c.loop-row-test.true
+          c.row-item.is c.in_ok-write_row.ensures.written c.loop-row.invariant.written;
       legible = All_next IsLegible _ next c.loop-row.invariant.legible c.in_ok-write_row.ensures.legible;
     }
 

@@ -8,7 +8,12 @@ returns-in-Ok-clause-opened g c =
     let same = c.open-in-Ok.ensures.same in
     record {
       honest = λ honest. was_clean c.in-Ok.ensures.survives (subst (λ s. IsHonest g.S.Store s) same honest);
-      serves = λ honest e it. c.open-in-Ok.ensures.serves e (record { kept = it.kept; stands = c.in-Ok.ensures.opened.found (subst (λ s. IsHonest g.S.Store s) same honest) it.kept it.store; stands_for = it.stands_for });
+      serves = λ honest e it. c.open-in-Ok.ensures.serves e (record {
+        kept = it.kept;
+        stands = c.in-Ok.ensures.opened.found (subst (λ s. IsHonest g.S.Store s) same honest)
+            it.kept it.store;
+        stands_for = it.stands_for;
+      });
       left = λ e it. c.open-in-Ok.ensures.left e it.kept (c.in-Ok.ensures.opened.left it.kept it.store) it.stands_for;
       version = λ honest. c.in-Ok.ensures.opened.version (subst (λ s. IsHonest g.S.Store s) same honest);
     }

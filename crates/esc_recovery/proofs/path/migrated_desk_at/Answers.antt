@@ -8,4 +8,5 @@ returns-in-Ok-clause-migrated g c = λ honest.
     let on = c.in-Ok.ensures.migrated in
     let clean = on.honest honest in
     let opened = c.in_ok-connection.ensures.opened clean in
-    migrated_from over_files c.in_ok-connection.connection (image_at g.S.Start) _ on honest (c.in_ok-connection.ensures.found clean).holds opened.0 opened.1
+    migrated_from over_files c.in_ok-connection.connection (image_at g.S.Start)
+    _ on honest (c.in_ok-connection.ensures.found clean).holds opened.0 opened.1

@@ -8,4 +8,5 @@ returns-clause-opened g c = λ honest.
     let on = c.in_ok-desk_or_fault.ensures.opened in
     let clean = on.honest honest in
     let opened = c.in_ok-connection.ensures.opened clean in
-    opened_from over_files c.in_ok-connection.connection (image_at g.S.Start) _ on honest (c.in_ok-connection.ensures.found clean).holds opened.0 opened.1
+    opened_from over_files c.in_ok-connection.connection (image_at g.S.Start)
+    _ on honest (c.in_ok-connection.ensures.found clean).holds opened.0 opened.1

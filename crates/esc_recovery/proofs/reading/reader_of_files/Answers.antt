@@ -8,5 +8,6 @@ pub returns-in_ok-reader_over-in-Trees-clause-opened : goal.returns-in_ok-reader
 returns-in_ok-reader_over-in-Trees-clause-opened g c = λ honest.
     let image = image_of g.D.Disk c.args.files in
     let reader = c.in_ok-reader_over-in-Trees in
-    let reads = subst (λ it. IsHonestOpening it → IsOpeningOf image it) c.in-Trees.is c.in_ok-trees.ensures.opened (reader.ensures.honest honest) in
+    let reads = subst (λ it. IsHonestOpening it → IsOpeningOf image it)
+    c.in-Trees.is c.in_ok-trees.ensures.opened (reader.ensures.honest honest) in
     reader_from over_files image _ reader.field-0 reads (reader.ensures.reflects honest)

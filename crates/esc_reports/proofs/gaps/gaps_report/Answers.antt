@@ -9,7 +9,8 @@ use Rattle.esc_reports.proofs.gaps.gaps_report.Goals as goal
 pub returns-clause-text : goal.returns-clause-text
 returns-clause-text c =
     let lines = c.in_ok-lines.lines.items in
-    let held = subst (λ (o : Option Rows). IfSome o (λ h. h ≡ set.from_list c.args.rows.now)) c.in_ok-held.ensures.ok_part c.in_ok-from_rows.ensures.held in
+    let held = subst (λ (o : Option Rows). IfSome o (λ h. h ≡ set.from_list c.args.rows.now))
+    c.in_ok-held.ensures.ok_part c.in_ok-from_rows.ensures.held in
     IfOk-weaker c.gaps_text.result _ _ (λ text is. record {
       lines = lines;
       gaps = subst (λ (h : Rows). AreGapLinesAt c.args.manifest.now h c.args.moment lines) held c.in_ok-lines.ensures;

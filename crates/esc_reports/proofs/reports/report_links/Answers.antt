@@ -18,10 +18,18 @@ returns-clause-text g c = λ clean e serves apart.
     }
 
 pub returns-in_err-findings-clause-read : goal.returns-in_err-findings-clause-read
-returns-in_err-findings-clause-read g c = record { follows = g.met.R.Reads.goes_on _ _ _ c.in_ok-end.ensures.read.follows c.in_err-findings.ensures.read.follows; reflects = search rules }
+returns-in_err-findings-clause-read g c = record {
+  follows = g.met.R.Reads.goes_on _ _
+      _ c.in_ok-end.ensures.read.follows c.in_err-findings.ensures.read.follows;
+  reflects = search rules;
+}
 
 pub returns-in_err-links_text-clause-read : goal.returns-in_err-links_text-clause-read
-returns-in_err-links_text-clause-read g c = record { follows = g.met.R.Reads.goes_on _ _ _ c.in_ok-end.ensures.read.follows c.in_ok-findings.ensures.read.follows; reflects = search rules }
+returns-in_err-links_text-clause-read g c = record {
+  follows = g.met.R.Reads.goes_on _ _
+      _ c.in_ok-end.ensures.read.follows c.in_ok-findings.ensures.read.follows;
+  reflects = search rules;
+}
 
 pub returns-clause-read : goal.returns-clause-read
 returns-clause-read g c = record {

@@ -8,8 +8,10 @@ use Rattle.esc_request.proofs.body.fill.Given as goal
 abbrev pub invariant-loop-at : goal.invariant-loop-at
 invariant-loop-at g l = record {
   within : l.at ≤ length l.buffer;
-  bytes : Consumes (prepend_known (take l.filled l.fn.buffer) (g.R.Source.remaining l.fn.source)) (g.R.Source.remaining l.source) (take l.at l.buffer);
-  read : ReadsWhile (IsShorter (length l.fn.buffer)) (g.R.Source.pieces l.fn.source) (g.R.Source.pieces l.source) (take l.filled l.fn.buffer) (take l.at l.buffer);
+  bytes : Consumes (prepend_known (take l.filled l.fn.buffer) (g.R.Source.remaining l.fn.source))
+      (g.R.Source.remaining l.source) (take l.at l.buffer);
+  read : ReadsWhile (IsShorter (length l.fn.buffer)) (g.R.Source.pieces l.fn.source)
+      (g.R.Source.pieces l.source) (take l.filled l.fn.buffer) (take l.at l.buffer);
 }
 
 abbrev pub decreases-loop-at : goal.decreases-loop-at

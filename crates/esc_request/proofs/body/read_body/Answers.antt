@@ -25,14 +25,17 @@ returns-in_default-clause-awaited g c =
 pub returns-in_err-fill_body-clause-awaited : goal.returns-in_err-fill_body-clause-awaited
 returns-in_err-fill_body-clause-awaited g c =
     let here : c.min-here.result ≡ min (length c.args.front.now) c.args.size = search rules in
-    read_on _ _ c.args.front.now _ _ c.min-here.result c.args.size _ here c.in-Ok.ensures.size c.in-Ok.ensures.front c.in_err-fill_body.ensures.awaited.1
+    read_on _ _ c.args.front.now _ _ c.min-here.result c.args.size
+    _ here c.in-Ok.ensures.size c.in-Ok.ensures.front c.in_err-fill_body.ensures.awaited.1
 
 pub returns-then-branch-clause-awaited : goal.returns-then-branch-clause-awaited
 returns-then-branch-clause-awaited g c =
     let here : c.min-here.result ≡ min (length c.args.front.now) c.args.size = search rules in
-    read_on _ _ c.args.front.now _ _ c.min-here.result c.args.size _ here c.in-Ok.ensures.size c.in-Ok.ensures.front c.in_ok-fill_body.ensures.awaited.1
+    read_on _ _ c.args.front.now _ _ c.min-here.result c.args.size
+    _ here c.in-Ok.ensures.size c.in-Ok.ensures.front c.in_ok-fill_body.ensures.awaited.1
 
 pub returns-else-branch-clause-awaited : goal.returns-else-branch-clause-awaited
 returns-else-branch-clause-awaited g c =
     let here : c.min-here.result ≡ min (length c.args.front.now) c.args.size = search rules in
-    read_on _ _ c.args.front.now _ _ c.min-here.result c.args.size _ here c.in-Ok.ensures.size c.in-Ok.ensures.front c.in_ok-fill_body.ensures.awaited.1
+    read_on _ _ c.args.front.now _ _ c.min-here.result c.args.size
+    _ here c.in-Ok.ensures.size c.in-Ok.ensures.front c.in_ok-fill_body.ensures.awaited.1

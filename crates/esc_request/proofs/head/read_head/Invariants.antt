@@ -11,7 +11,8 @@ invariant-loop-spans g l = record {
   buffer_room : length l.buffer ≡ 8192;
   line_room : length l.lines ≡ 32;
   bytes : Consumes (g.R.Source.remaining l.fn.source) (g.R.Source.remaining l.source) (take l.filled l.buffer);
-  read : ReadsWhile IsUnfinished (g.R.Source.pieces l.fn.source) (g.R.Source.pieces l.source) [] (take l.filled l.buffer);
+  read : ReadsWhile IsUnfinished (g.R.Source.pieces l.fn.source)
+      (g.R.Source.pieces l.source) [] (take l.filled l.buffer);
 }
 
 abbrev pub decreases-loop-spans : goal.decreases-loop-spans

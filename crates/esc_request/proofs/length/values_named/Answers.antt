@@ -5,4 +5,6 @@ use Rattle.esc_request.proofs.length.values_named.Goals as goal
 
 pub loop-line-preserved : goal.loop-line-preserved
 loop-line-preserved c =
-    values_more (is_header_named c.args.name.now) (header_bytes c.args.bytes.now) c.args.lines.now c.loop-line.line-index _ c.loop-line-test.true _ _ c.loop-line.invariant c.values_with-values.ensures
+    values_more (is_header_named c.args.name.now)
+    (header_bytes c.args.bytes.now) c.args.lines.now c.loop-line.line-index
+    _ c.loop-line-test.true _ _ c.loop-line.invariant c.values_with-values.ensures

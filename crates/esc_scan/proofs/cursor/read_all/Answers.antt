@@ -19,7 +19,8 @@ loop-preserved g c =
       same = next.same_reference ∙ c.loop.invariant.same;
       live = next.live;
       read = λ clean. subst (HasRead is_read (start.trees c.args.tree) new) (sym pushed)
-          (read_more is_read (start.trees c.args.tree) old new c.loop.all.items c.in-Some.value (c.loop.invariant.read (clean_before clean))
+          (read_more is_read (start.trees c.args.tree)
+          old new c.loop.all.items c.in-Some.value (c.loop.invariant.read (clean_before clean))
           (subst (ReadsNext is_read old new) c.in-Some.is (next.reads clean)));
       only = λ clean. only_then start old new (c.loop.invariant.only (clean_before clean)) (next.only clean);
       quiet = quiet_then c.loop.invariant.quiet next.quiet;

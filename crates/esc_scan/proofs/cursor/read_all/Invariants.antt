@@ -14,5 +14,6 @@ invariant-loop g l =
       live : IsSome (now.cursors 0);
       read : IsClean now → HasRead g.T.FromEntry.is_read (start.trees l.fn.tree) now l.all.items;
       only : IsClean now → OnlyCursors start now;
-      quiet : IsQuiet g.S.Store.view g.S.Store.faults g.S.Store.recovers g.S.Store.is_shielded l.fn.store (scanned_store l.scan);
+      quiet : IsQuiet g.S.Store.view
+          g.S.Store.faults g.S.Store.recovers g.S.Store.is_shielded l.fn.store (scanned_store l.scan);
     }

@@ -19,7 +19,8 @@ returns g c =
         only = λ clean. c.in_ok-found.ensures.only clean;
         said = λ clean k shows.
             let first =
-            subst (λ (z : ℤ). ReadsFirst (ReadsRow Held body_read body_of_row) (filter (has_rowid z) rows) c.in_ok-found.found) (to_z-of_z w64 c.from.result fits ∙ row_is)
+            subst (λ (z : ℤ). ReadsFirst (ReadsRow Held body_read body_of_row) (filter (has_rowid z)
+            rows) c.in_ok-found.found) (to_z-of_z w64 c.from.result fits ∙ row_is)
             (c.in_ok-found.ensures.reads clean) in
             c.bytes_in.ensures ∙ body_is c.args.row k.held c.in_ok-found.found rows (shows.tables Held) first;
       };

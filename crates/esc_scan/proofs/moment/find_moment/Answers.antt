@@ -8,6 +8,7 @@ returns g c = record {
   read = record {
     quiet = c.read_first.ensures.quiet;
     only = λ clean. c.in_ok-found.ensures.only clean;
-    said = λ clean k shows. c.moment_in.ensures ∙ moment_is k.moment c.in_ok-found.found _ (shows.tables Moment) (c.in_ok-found.ensures.reads clean);
+    said = λ clean k shows. c.moment_in.ensures ∙ moment_is
+        k.moment c.in_ok-found.found _ (shows.tables Moment) (c.in_ok-found.ensures.reads clean);
   };
 }

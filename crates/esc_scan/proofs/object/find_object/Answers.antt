@@ -18,7 +18,9 @@ returns g c =
         quiet = c.read_at.ensures.quiet;
         only = λ clean. c.in_ok-found.ensures.only clean;
         said = λ clean k shows.
-            let first = subst (λ (z : ℤ). ReadsFirst (ReadsRow Objects stored_entry object_entry) (filter (has_rowid z) rows) c.in_ok-found.found) (to_z-of_z w64 c.args.id fits) (c.in_ok-found.ensures.reads clean) in
+            let first = subst (λ (z : ℤ). ReadsFirst (ReadsRow Objects stored_entry object_entry)
+            (filter (has_rowid z) rows) c.in_ok-found.found)
+            (to_z-of_z w64 c.args.id fits) (c.in_ok-found.ensures.reads clean) in
             object_is c.args.id k.objects c.in_ok-found.found rows (shows.tables Objects) first;
       };
     }

@@ -9,7 +9,8 @@ use Rattle.esc_scan.proofs.opening.listed_trees.Goals as goal
 
 pub returns-then-not-branch-clause-honest : goal.returns-then-not-branch-clause-honest
 returns-then-not-branch-clause-honest g c now =
-    c.list_tables.ensures.honest (closed_clean c.list_tables.new.files c.close.result.log c.close.result.db c.close.ensures now)
+    c.list_tables.ensures.honest
+    (closed_clean c.list_tables.new.files c.close.result.log c.close.result.db c.close.ensures now)
 
 pub returns-then-not-branch-clause-opened : goal.returns-then-not-branch-clause-opened
 returns-then-not-branch-clause-opened g c now =
@@ -18,7 +19,8 @@ returns-then-not-branch-clause-opened g c now =
     let left = c.close.result in
     let size = (state_of old).page_size in
     let was = c.in_ok-list_tables.ensures.same (closed_clean mid left.log left.db c.close.ensures now) in
-    subst (λ i. IsHeldAt size (image old) i) (closed_image mid left.log left.db c.close.ensures) (still_held size (image old) (image mid) was.pages was.found was.again)
+    subst (λ i. IsHeldAt size (image old) i) (closed_image mid left.log left.db c.close.ensures)
+    (still_held size (image old) (image mid) was.pages was.found was.again)
 
 pub typed_trees-requires-clause-tables : goal.typed_trees-requires-clause-tables
 typed_trees-requires-clause-tables g c = c.in_ok-list_tables.ensures.tables c.if-not-branch.false
@@ -41,7 +43,8 @@ returns-then-may_be_used-clause-of_use g c = and_parts _ _ (sym c.may_be_used.en
 pub returns-then-may_be_used-clause-honest : goal.returns-then-may_be_used-clause-honest
 returns-then-may_be_used-clause-honest g c now =
     let left = c.close-files.result in
-    c.list_tables.ensures.honest (c.in-Err.ensures.falls (closed_clean c.in-Err.left left.log left.db c.close-files.ensures now))
+    c.list_tables.ensures.honest
+    (c.in-Err.ensures.falls (closed_clean c.in-Err.left left.log left.db c.close-files.ensures now))
 
 pub returns-then-may_be_used-clause-opened : goal.returns-then-may_be_used-clause-opened
 returns-then-may_be_used-clause-opened g c now =
@@ -51,5 +54,6 @@ returns-then-may_be_used-clause-opened g c now =
     let left = c.close-files.result in
     let clean = closed_clean back left.log left.db c.close-files.ensures now in
     let was = c.in_ok-list_tables.ensures.same (c.in-Err.ensures.falls clean) in
-    subst (λ i. IsHeldAt (state_of old).page_size (image old) i) (closed_image back left.log left.db c.close-files.ensures)
+    subst (λ i. IsHeldAt (state_of old).page_size (image old) i)
+    (closed_image back left.log left.db c.close-files.ensures)
     (held_after g.met.D.Disk.seen_may_stay old mid back was (c.in-Err.ensures.unharmed clean) clean)

@@ -3,14 +3,20 @@ use Rattle.esc_sql.proofs.object.put_object.Goals as goal
 
 pub returns-in_err-updated : goal.returns-in_err-updated
 returns-in_err-updated g c = record {
-  part = refused (update_part c.args.kind c.args.key.now c.args.bytes.now g.S.Store c.in_err-updated.ensures (search rules))
+  part = refused (update_part
+      c.args.kind c.args.key.now c.args.bytes.now g.S.Store c.in_err-updated.ensures (search rules))
       c.from_residual.ensures.0;
 }
 
 pub returns-in_err-insert_object : goal.returns-in_err-insert_object
 returns-in_err-insert_object g c =
-    let first = update_part c.args.kind c.args.key.now c.args.bytes.now g.S.Store c.in_ok-updated.ensures (search rules) in
-    record { part = refused (then_part {Both = λ _ _. Unit {0}} first c.in_err-insert_object.ensures.part (λ p q r u v. tt)) c.from_residual-in_err-insert_object.ensures.0 }
+    let first = update_part c.args.kind
+    c.args.key.now c.args.bytes.now g.S.Store c.in_ok-updated.ensures (search rules) in
+    record {
+      part = refused
+          (then_part {Both = λ _ _. Unit {0}} first c.in_err-insert_object.ensures.part (λ p q r u v. tt))
+          c.from_residual-in_err-insert_object.ensures.0;
+    }
 
 pub returns-in_ok-insert_object : goal.returns-in_ok-insert_object
 returns-in_ok-insert_object g c = record {

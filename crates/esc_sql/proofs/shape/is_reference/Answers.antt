@@ -3,6 +3,7 @@ use Rattle.esc_sql.proofs.shape.is_reference.Goals as goal
 
 pub returns : goal.returns
 returns c = (
-  λ t. let parent : c.args.reference.now.parent ≡ c.args.parent.now = search rules in grind (arith, common_steps, parent),
+  λ t. let parent : c.args.reference.now.parent ≡ c.args.parent.now = search rules in
+      grind (arith, common_steps, parent),
   λ e. refl,
 )

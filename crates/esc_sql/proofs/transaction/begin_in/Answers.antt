@@ -1,4 +1,5 @@
-use Rattle.esc_sql.proofs.Calls.{rules, survives_weaker, each_err, begin_ends, begin_shows, begin_keeps, begin_commits_none, fails_keeps}
+use Rattle.esc_sql.proofs.Calls.{rules, survives_weaker, each_err, begin_ends, begin_shows, begin_keeps}
+use Rattle.esc_sql.proofs.Calls.{begin_commits_none, fails_keeps}
 use Rattle.esc_sql.proofs.transaction.begin_in.Goals as goal
 
 pub returns-in_err-execute : goal.returns-in_err-execute

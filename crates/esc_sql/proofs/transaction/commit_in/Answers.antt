@@ -1,4 +1,5 @@
-use Rattle.esc_sql.proofs.Calls.{rules, survives_weaker, each_err, commit_shows, commit_leaves, commit_ends, fails_keeps}
+use Rattle.esc_sql.proofs.Calls.{rules, survives_weaker, each_err, commit_shows, commit_leaves}
+use Rattle.esc_sql.proofs.Calls.{commit_ends, fails_keeps}
 use Rattle.esc_sql.proofs.transaction.commit_in.Goals as goal
 
 pub returns-in_err-execute : goal.returns-in_err-execute

@@ -7,4 +7,5 @@ pub returns-then-not-has_tables-clause-never : goal.returns-then-not-has_tables-
 unfolding IsStore
 returns-then-not-has_tables-clause-never g c = λ is clean up k stored.
     let settled = at_rest c.is_autocommit.ensures.value c.is_autocommit.ensures.settled c.if-not-is_autocommit.false in
-    tables_refused AreStoreTrees content_in c.has_tables.ensures.found (settled.1 up) c.if-not-has_tables.true up stored.tables
+    tables_refused AreStoreTrees
+    content_in c.has_tables.ensures.found (settled.1 up) c.if-not-has_tables.true up stored.tables

@@ -10,6 +10,8 @@ loop-at-preserved c =
     let at = c.loop-at.at in
     elim c.match-cell.branch [
       | in-Some+in_ok-add_name w ↦
-          rw w.columns-is (name_added _ _ _ _ _ _ (ap (map (λ (y : Cell). y.0)) (next_cell cells at _ w.in-Some.ensures)) c.loop-at.invariant w.in_ok-add_name.ensures)
-      | in_default w ↦ absurd (no_cell cells at c.len-at-end.result c.len-at-end.ensures c.loop-at-test.true w.in_default.ensures)
+          rw w.columns-is (name_added _ _ _ _ _ _ (ap (map (λ (y : Cell). y.0))
+          (next_cell cells at _ w.in-Some.ensures)) c.loop-at.invariant w.in_ok-add_name.ensures)
+      | in_default w ↦ absurd (no_cell
+          cells at c.len-at-end.result c.len-at-end.ensures c.loop-at-test.true w.in_default.ensures)
     ]

@@ -10,5 +10,6 @@ loop-row-preserved c =
     let i = c.loop-row.row-index in
     let x = c.row-item.result in
     let kind = c.args.kind in
-    one_added (with_table kind) _ _ _ _ _ _ (ap (map (λ (r : RowValue). r.table)) (next_row rows i x c.loop-row-test.true c.row-item.is)) c.loop-row.invariant
+    one_added (with_table kind) _ _ _ _ _ _ (ap (map (λ (r : RowValue). r.table))
+    (next_row rows i x c.loop-row-test.true c.row-item.is)) c.loop-row.invariant
     (c.in_ok-add_table.ensures ∙ ap (with_table kind c.loop-row.layouts.items) c.table.ensures)

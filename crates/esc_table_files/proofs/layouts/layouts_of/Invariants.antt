@@ -13,7 +13,8 @@ invariant-loop-layouts g l =
       follows : objects.follows l.fn.objects l.objects;
       gathered : objects.is_honest l.objects → (es : List Entry) → objects.lists l.fn.objects es
           → (left : List Entry) × objects.lists l.objects left
-          × (map (finished left) (with_tables l.kind l.layouts.items (flat_map (names_in l.kind) left)) ≡ kind_layouts l.kind es);
+          × (map (finished left) (with_tables l.kind l.layouts.items (flat_map (names_in l.kind) left))
+          ≡ kind_layouts l.kind es);
     }
 
 abbrev pub decreases-loop-layouts : goal.decreases-loop-layouts

@@ -3,4 +3,5 @@ use Rattle.esc_table_files.proofs.table_text.heading_of.Given as goal
 
 -- with the columns that are left it is the whole
 abbrev pub invariant-loop-column : goal.invariant-loop-column
-invariant-loop-column l = map (λ f. f.now) l.line.items ++ map string_bytes (drop l.column-index l.columns) ≡ codes "key" ∷ map string_bytes l.columns
+invariant-loop-column l = map (λ f. f.now) l.line.items
+    ++ map string_bytes (drop l.column-index l.columns) ≡ codes "key" ∷ map string_bytes l.columns

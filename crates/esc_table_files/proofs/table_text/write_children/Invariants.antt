@@ -7,5 +7,6 @@ use Rattle.esc_table_files.proofs.table_text.write_children.Given as goal
 
 -- with the rows that are left it is the whole
 abbrev pub invariant-loop-row : goal.invariant-loop-row
-invariant-loop-row l = l.lines ++ text_of (map (row_line (map string_bytes l.columns) l.key) (filter (is_of_table l.name) (drop l.row-index l.rows)))
+invariant-loop-row l = l.lines ++ text_of (map (row_line (map string_bytes l.columns) l.key)
+    (filter (is_of_table l.name) (drop l.row-index l.rows)))
     ≡ l.fn.lines ++ text_of (map (row_line (map string_bytes l.columns) l.key) (filter (is_of_table l.name) l.rows))

@@ -11,5 +11,6 @@ loop-writer-preserved g c =
     let items = c.loop-writer.writer-items in
     let i = c.loop-writer.writer-index in
     let within : i < length before = search rules in
-    one_more _ before items i (get_or items i c.writer-item.result) c.write_rows.new.self within c.loop-writer.invariant (ap (get_or items i) c.writer-item.is)
+    one_more _ before items i (get_or items i c.writer-item.result)
+    c.write_rows.new.self within c.loop-writer.invariant (ap (get_or items i) c.writer-item.is)
     (c.write_rows.ensures.table, c.in_ok-write_rows.ensures.text)

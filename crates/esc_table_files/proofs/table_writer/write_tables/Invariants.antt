@@ -12,7 +12,8 @@ invariant-loop-key g l =
       follows : objects.follows l.fn.objects l.objects;
       written : objects.is_honest l.objects → (es : List Entry) → objects.lists l.fn.objects es
           → (left : List Entry) × objects.lists l.objects left
-          × AllZip (Begun (λ w. w.layout.now) (λ w. g.W.Write.contents w.output) es left) l.fn.writers.items l.writers.items;
+          × AllZip (Begun (λ w. w.layout.now) (λ w. g.W.Write.contents w.output) es left)
+          l.fn.writers.items l.writers.items;
     }
 
 abbrev pub decreases-loop-key : goal.decreases-loop-key

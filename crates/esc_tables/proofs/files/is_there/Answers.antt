@@ -7,5 +7,6 @@ use Rattle.esc_envelope.specs.EnvelopeValue.{TableValue}
 use Rattle.esc_tables.proofs.files.is_there.Goals as goal
 
 pub returns : goal.returns
-returns c = c.is_among.ensures ∙ ap (λ (name : List ℕ). list_any (λ s. bytes_eq s.name.now name) c.args.files.now) (c.as_str.ensures.value ∙ ap (λ (t : TableValue). t.file) c.table.view_is)
+returns c = c.is_among.ensures ∙ ap (λ (name : List ℕ). list_any (λ s. bytes_eq s.name.now name)
+    c.args.files.now) (c.as_str.ensures.value ∙ ap (λ (t : TableValue). t.file) c.table.view_is)
     ∙ sym (list_any_map (λ s. bytes_eq s.name c.args.table.now.file) view c.args.files.now)

@@ -1,4 +1,5 @@
-use Rattle.std.proofs.Common.{◌≡◌, ◌≤◌, ◌∙◌, ◌+◌, ◌++◌, ◌∷◌, [], ℕ, Bool, sym, ap, refl, arith, length, cond, append_assoc, List, rules}
+use Rattle.std.proofs.Common.{◌≡◌, ◌≤◌, ◌∙◌, ◌+◌, ◌++◌, ◌∷◌, [], ℕ, Bool, sym, ap}
+use Rattle.std.proofs.Common.{refl, arith, length, cond, append_assoc, List, rules}
 use Rattle.std.specs.Prelude.{not, is_some}
 use Rattle.std.proofs.lemmas.List.{length_push}
 use Rattle.std.proofs.lemmas.Grind.{common_steps}
@@ -26,20 +27,34 @@ loop-key-preserved c =
     let before = c.loop-key.yielded in
     let row : KeyName × RowValue = (c.in-Some.key, c.in-Some.row) in
     let len : length (before ++ (row ∷ [])) ≡ length before + 1 = length_push before row in
-    let there : c.in_ok-add_child.field-0 ≡ has_pair parents c.in-Some.key = c.in_ok-add_child.ensures.found ∙ ap is_some (inv.gathered c.in-Some.key) ∙ object_is_some parents before c.in-Some.key in
-    let count : orphans_of parents (before ++ (row ∷ [])) ≡ c.loop-key.orphans + cond (not c.in_ok-add_child.field-0) 1 0 =
-    orphans_more parents before row ∙ ap (λ (n : ℕ). n + cond (not (has_pair parents c.in-Some.key)) 1 0) (sym inv.counted) ∙ ap (λ (b : Bool). c.loop-key.orphans + cond (not b) 1 0) (sym there) in
-    let now : (c.if-not-branch.orphans ≡ c.loop-key.orphans + cond (not c.in_ok-add_child.field-0) 1 0) × (c.if-not-branch.orphans ≤ c.loop-key.orphans + 1) =
-    elim c.if-not-branch.branch [ then-not-branch w ↦ (rw (w.orphans-is, w.if-not-branch.true) refl, omega (arith, w.orphans-is)) | else-not-branch w ↦ (rw (w.orphans-is, w.if-not-branch.false) (omega arith), omega (arith, w.orphans-is)) ] in
+    let there : c.in_ok-add_child.field-0 ≡ has_pair parents c.in-Some.key =
+    c.in_ok-add_child.ensures.found
+    ∙ ap is_some (inv.gathered c.in-Some.key) ∙ object_is_some parents before c.in-Some.key in
+    let count : orphans_of parents (before ++ (row ∷ []))
+    ≡ c.loop-key.orphans + cond (not c.in_ok-add_child.field-0) 1 0 =
+    orphans_more parents before row ∙ ap (λ (n : ℕ). n + cond (not (has_pair parents c.in-Some.key))
+    1 0) (sym inv.counted) ∙ ap (λ (b : Bool). c.loop-key.orphans + cond (not b) 1 0) (sym there) in
+    let now : (c.if-not-branch.orphans ≡ c.loop-key.orphans + cond (not c.in_ok-add_child.field-0) 1 0)
+    × (c.if-not-branch.orphans ≤ c.loop-key.orphans + 1) =
+    elim c.if-not-branch.branch [
+      | then-not-branch w
+          ↦ (rw (w.orphans-is, w.if-not-branch.true) refl, omega (arith, w.orphans-is))
+      | else-not-branch
+          w ↦ (rw (w.orphans-is, w.if-not-branch.false) (omega arith), omega (arith, w.orphans-is))
+    ] in
     record {
-      gathered = λ k. object_more parents before row c.loop-key.objects c.add_child.new.objects k (inv.gathered k) (c.in_ok-add_child.ensures.added k);
+      gathered = λ k. object_more parents before row c.loop-key.objects
+          c.add_child.new.objects k (inv.gathered k) (c.in_ok-add_child.ensures.added k);
       ordered = c.in_ok-add_child.ensures.ordered;
       counted = now.0 ∙ sym count;
       few = omega (arith, now.1, inv.few, len);
-      whole = append_assoc before _ _ ∙ ap (λ (l : List (KeyName × RowValue)). before ++ l) (sym steps.0) ∙ inv.whole;
+      whole = append_assoc before _ _
+          ∙ ap (λ (l : List (KeyName × RowValue)). before ++ l) (sym steps.0) ∙ inv.whole;
     }
 
 pub returns-clause-objects : goal.returns-clause-objects
 returns-clause-objects c =
     let all : c.loop-key.yielded ≡ c.args.children.items = grind (arith, common_steps) in
-    entries_are c.args.parents.items c.args.children.items c.loop-key.objects c.loop-key.invariant.ordered (λ k. c.loop-key.invariant.gathered k ∙ ap (λ (cs : List (KeyName × RowValue)). object_of c.args.parents.items cs k) all)
+    entries_are c.args.parents.items c.args.children.items
+    c.loop-key.objects c.loop-key.invariant.ordered (λ k. c.loop-key.invariant.gathered k
+    ∙ ap (λ (cs : List (KeyName × RowValue)). object_of c.args.parents.items cs k) all)

@@ -11,12 +11,15 @@ returns-in_err-sections-clause-refused c =
 
 pub returns-clause-read : goal.returns-clause-read
 returns-clause-read c =
-    let framed = framed_as c.args.body.now c.in_ok-sections.sections.items c.as_slice.result.now c.in_ok-sections.ensures.framed c.as_slice.ensures.value c.in-len1-up.len_at_least in
+    let framed = framed_as c.args.body.now c.in_ok-sections.sections.items c.as_slice.result.now
+    c.in_ok-sections.ensures.framed c.as_slice.ensures.value c.in-len1-up.len_at_least in
     let same = same_envelope c.args.body.now (first_of c.as_slice.result.now) (rest_of c.as_slice.result.now) framed in
     IfOk-weaker c.read_envelope.result _ _ (λ e read. same ∙ read) c.read_envelope.ensures.envelope
 
 pub returns-clause-refused : goal.returns-clause-refused
 returns-clause-refused c =
-    let framed = framed_as c.args.body.now c.in_ok-sections.sections.items c.as_slice.result.now c.in_ok-sections.ensures.framed c.as_slice.ensures.value c.in-len1-up.len_at_least in
+    let framed = framed_as c.args.body.now c.in_ok-sections.sections.items c.as_slice.result.now
+    c.in_ok-sections.ensures.framed c.as_slice.ensures.value c.in-len1-up.len_at_least in
     let same = same_envelope c.args.body.now (first_of c.as_slice.result.now) (rest_of c.as_slice.result.now) framed in
-    IfErr-weaker c.read_envelope.result _ _ (λ e refused n number. same ∙ refused n number) c.read_envelope.ensures.refused
+    IfErr-weaker c.read_envelope.result
+    _ _ (λ e refused n number. same ∙ refused n number) c.read_envelope.ensures.refused

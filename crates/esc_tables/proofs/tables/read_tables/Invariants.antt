@@ -6,4 +6,5 @@ use Rattle.esc_tables.specs.Survey.{AreSurveyed}
 use Rattle.esc_tables.proofs.tables.read_tables.Given as goal
 
 abbrev pub invariant-loop-table : goal.invariant-loop-table
-invariant-loop-table l = AreSurveyed keyed (flat_map (λ t. table_rows (views l.files) t.now) (take l.table-index l.tables)) (l.fn.survey, l.fn.found.items) (l.survey, l.found.items)
+invariant-loop-table l = AreSurveyed keyed (flat_map (λ t. table_rows (views l.files) t.now)
+    (take l.table-index l.tables)) (l.fn.survey, l.fn.found.items) (l.survey, l.found.items)

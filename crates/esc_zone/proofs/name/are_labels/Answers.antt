@@ -7,5 +7,6 @@ use Rattle.esc_zone.proofs.name.are_labels.Goals as goal
 pub returns : goal.returns
 returns c =
     all_from_yields_List is_label _ _ c.all.result c.all.ensures.ran
-    (YieldsList-from_slice_split _ is_dot c.args.text.now c.split.ensures.rest c.split.ensures.done c.split.ensures.closure (λ x r q k. search (rules, tests)))
+    (YieldsList-from_slice_split _ is_dot c.args.text.now c.split.ensures.rest
+    c.split.ensures.done c.split.ensures.closure (λ x r q k. search (rules, tests)))
     (λ x b q k. search (rules, tests))

@@ -7,10 +7,16 @@ use Rattle.esc_apply.specs.ObjectStreams.{Entry, GivesFirst, InOrder}
 use Rattle.esc_apply.proofs.map.MapObjectsObjects.next.Goals as goal
 
 -- the first of a list in order, with the rest after it
-first : (s t es : List Entry) (o : Option Entry) → TakesFirst (λ (e : Entry). e) s o t → s ≡ es → InOrder es → GivesFirst (λ l. (t ≡ l) × InOrder l) es o
+first : (s t es : List Entry) (o : Option Entry) → TakesFirst (λ (e : Entry). e) s o t
+    → s ≡ es → InOrder es → GivesFirst (λ l. (t ≡ l) × InOrder l) es o
 first s t es None step is order = (sym is ∙ step.0, (step.1, subst InOrder (sym is ∙ step.0) order))
-first s t es (Some e) step is order = (t, sym is ∙ step, (refl, sorted_tail key_cmp e.0 (keys_of t) (subst InOrder (sym is ∙ step) order)))
+first s t es (Some e) step is order = (
+  t,
+  sym is ∙ step,
+  (refl, sorted_tail key_cmp e.0 (keys_of t) (subst InOrder (sym is ∙ step) order)),
+)
 
 pub returns-clause-given : goal.returns-clause-given
 returns-clause-given c = λ honest es listed.
-    first c.self.inside.rest c.next.new.self es c.next.result c.next.ensures.steps (c.self.view_is ∙ listed.0) listed.1
+    first c.self.inside.rest
+    c.next.new.self es c.next.result c.next.ensures.steps (c.self.view_is ∙ listed.0) listed.1

@@ -16,23 +16,29 @@ loop-key-preserved c =
     record {
       counted = omega (arith, more, c.loop-key.invariant.counted, c.in_ok-put.ensures.counted);
       leads = λ s keeps new.
-          fills_more (Keeps c.loop-key.self.objects.entries c.loop-key.self.notes.entries) (Keeps c.put.new.self.objects.entries c.put.new.self.notes.entries)
+          fills_more (Keeps c.loop-key.self.objects.entries c.loop-key.self.notes.entries)
+          (Keeps c.put.new.self.objects.entries c.put.new.self.notes.entries)
           Unknown (changed_by s c.args.step (map with_object c.args.objects.now.entries)) c.args.step
-          (with_object (c.in-Some.key.now, c.in-Some.object.now) ∷ []) (map with_object c.next.new.self) (map with_object c.loop-key.key-iterator)
+          (with_object (c.in-Some.key.now, c.in-Some.object.now) ∷ [])
+          (map with_object c.next.new.self) (map with_object c.loop-key.key-iterator)
           (ap (λ (l : List (KeyName × ObjectValue)). map with_object l) c.in-Some.ensures.steps)
           (c.loop-key.invariant.leads s keeps new)
           (λ t held can.
           let key = c.in-Some.key.now in
-          let is : c.in_ok-before.before ≡ t.content key = c.in_ok-before.ensures ∙ c.get.ensures.value ∙ sym (held.content key) in
-          let now : Keeps c.loop-key.self.objects.entries c.note.new.notes.entries (noted t c.args.step key (t.content key)) = record {
+          let is : c.in_ok-before.before ≡ t.content key =
+          c.in_ok-before.ensures ∙ c.get.ensures.value ∙ sym (held.content key) in
+          let now : Keeps c.loop-key.self.objects.entries
+          c.note.new.notes.entries (noted t c.args.step key (t.content key)) = record {
             content = held.content;
-            undo = λ j q. rw (held.undo c.args.step q, held.undo j q, ← is, ← c.in_ok-copy.ensures) (sym (c.in_ok-note.ensures j q));
+            undo = λ j q. rw (held.undo c.args.step q, held.undo j q, ← is, ← c.in_ok-copy.ensures)
+                (sym (c.in_ok-note.ensures j q));
           } in
           c.in_ok-put.ensures.written tt (noted t c.args.step key (t.content key)) now);
     }
 
 pub returns-clause-put : goal.returns-clause-put
 returns-clause-put c = λ honest s keeps can.
-    fills_last (Keeps c.loop-key.self.objects.entries c.loop-key.self.notes.entries) Unknown _ c.args.step (map with_object c.loop-key.key-iterator)
+    fills_last (Keeps c.loop-key.self.objects.entries c.loop-key.self.notes.entries)
+    Unknown _ c.args.step (map with_object c.loop-key.key-iterator)
     (ap (λ (l : List (KeyName × ObjectValue)). map with_object l) c.in-None.ensures.steps.0)
     (c.loop-key.invariant.leads s keeps (put_new c.args.targets s c.args.step _ can))

@@ -11,7 +11,9 @@ abbrev pub invariant-loop-key : goal.invariant-loop-key
 invariant-loop-key l =
     let all = map with_object l.objects.entries in
     record {
-      counted : saturated (l.self.count + length l.key-iterator) ≡ saturated (l.fn.self.count + length l.objects.entries);
+      counted : saturated (l.self.count + length l.key-iterator)
+          ≡ saturated (l.fn.self.count + length l.objects.entries);
       leads : (s : State) → Keeps l.fn.self.objects.entries l.fn.self.notes.entries s → AreNew s l.step all
-          → Fills (Keeps l.self.objects.entries l.self.notes.entries) Unknown (changed_by s l.step all) l.step (map with_object l.key-iterator);
+          → Fills (Keeps l.self.objects.entries l.self.notes.entries)
+          Unknown (changed_by s l.step all) l.step (map with_object l.key-iterator);
     }

@@ -11,11 +11,14 @@ returns-clause-taken c = λ honest s keeps.
     let found = c.taken-notes.ensures in
     let all = c.in_ok-entries.ensures in (
       record {
-        once = subst (λ (es : List (KeyName × Option ObjectValue)). IsDistinct key_eq (keys_of es)) (sym all.items) (IsDistinct-from_sorted key_cmp _ all.ordered);
-        each = λ q. ap (λ (es : List (KeyName × Option ObjectValue)). lookup (key_eq q) es) all.items ∙ found.notes q ∙ sym (keeps.undo c.args.step q);
+        once = subst (λ (es : List (KeyName × Option ObjectValue)). IsDistinct key_eq (keys_of es))
+            (sym all.items) (IsDistinct-from_sorted key_cmp _ all.ordered);
+        each = λ q. ap (λ (es : List (KeyName × Option ObjectValue)). lookup (key_eq q) es) all.items
+            ∙ found.notes q ∙ sym (keeps.undo c.args.step q);
       },
       record {
         content = keeps.content;
-        undo = λ j q. ap (λ (o : Option (Option ObjectValue)). cond (eqb c.args.step j) None o) (keeps.undo j q) ∙ sym (found.left j q);
+        undo = λ j q. ap (λ (o : Option (Option ObjectValue)). cond (eqb c.args.step j) None o)
+            (keeps.undo j q) ∙ sym (found.left j q);
       },
     )

@@ -12,6 +12,7 @@ loop-row-preserved c =
     let i = c.loop-row.row-index in
     let x = get_or c.args.rows.now i 0 in
     record {
-      rows = c.in_ok-insert.ensures.ok ∙ ap (λ (h : Rows). set.insert h x) c.loop-row.invariant.rows ∙ one_more_row c.args.rows.now i c.loop-row-test.true;
+      rows = c.in_ok-insert.ensures.ok ∙ ap (λ (h : Rows). set.insert h x) c.loop-row.invariant.rows
+          ∙ one_more_row c.args.rows.now i c.loop-row-test.true;
       in_range = c.insert.ensures.in_range c.loop-row.invariant.in_range;
     }

@@ -14,19 +14,27 @@ use Rattle.esc_desk.proofs.desk.Desk.make.Goals as goal
 pub returns-in_err-done-clause-crash : goal.returns-in_err-done-clause-crash
 returns-in_err-done-clause-crash g c = λ e doubtful x k stood decided left.
     if_err_is c.from_residual.result c.in_err-done.field-0.0 _ (search rules)
-    (leaves_unmade g.S.Store c.args.self.now.store c.commit.new.store e doubtful x c.args.decision.edit.receipt c.in_err-done.field-0.0 left c.in_err-done.ensures.cause (λ clean.
+    (leaves_unmade g.S.Store c.args.self.now.store c.commit.new.store e doubtful x
+    c.args.decision.edit.receipt c.in_err-done.field-0.0 left c.in_err-done.ensures.cause (λ clean.
     let is = decided clean in
     (is.stands, c.in_err-done.ensures.crash clean k is.moves stood)))
 
 pub returns-in_err-done-clause-whole : goal.returns-in_err-done-clause-whole
 returns-in_err-done-clause-whole g c =
-    whole_err g.S.Store c.args.self.now _ c.in_err-done.field-0.0 (search rules) c.in_err-done.ensures.honest c.in_err-done.ensures.uncounted c.in_err-done.ensures.kept refl
+    whole_err g.S.Store c.args.self.now _ c.in_err-done.field-0.0 (search rules)
+    c.in_err-done.ensures.honest c.in_err-done.ensures.uncounted c.in_err-done.ensures.kept refl
 
 pub returns-clause-whole : goal.returns-clause-whole
-returns-clause-whole g c = record { honest = c.in_ok-done.ensures.honest; counted = c.in_ok-done.ensures.counted; uncounted = tt; lost = tt }
+returns-clause-whole g c = record {
+  honest = c.in_ok-done.ensures.honest;
+  counted = c.in_ok-done.ensures.counted;
+  uncounted = tt;
+  lost = tt;
+}
 
 pub returns-then-is_empty-clause-whole : goal.returns-then-is_empty-clause-whole
-returns-then-is_empty-clause-whole g c = record { honest = λ clean. clean; counted = omega arith; uncounted = tt; lost = tt }
+returns-then-is_empty-clause-whole g c =
+    record { honest = λ clean. clean; counted = omega arith; uncounted = tt; lost = tt }
 
 pub returns-clause-made : goal.returns-clause-made
 returns-clause-made g c = λ clean e x k stood is.

@@ -12,10 +12,15 @@ returns-clause-bodies g c = λ clean e serves.
     let there = c.in_ok-digests.ensures.same.stands k serves.stands in
     let digests = c.in_ok-digests.ensures.digests before k serves.stands in
     if_both c.parked_bodies.result _ _ _ c.parked_bodies.ensures.digests (c.parked_bodies.ensures.each clean k there)
-    (λ bodies are each. same_parked e k serves.stands_for bodies.items (record { digests = subst (AreParked k.parked) (sym (are ∙ c.deref.ensures.value)) digests; each = each }))
+    (λ bodies are each. same_parked e k serves.stands_for bodies.items (record {
+      digests = subst
+          (AreParked k.parked) (sym (are ∙ c.deref.ensures.value)) digests;
+      each = each;
+    }))
 
 pub returns-in_err-digests-clause-read : goal.returns-in_err-digests-clause-read
 returns-in_err-digests-clause-read g c = desk_read g.S.Store c.args.self.now _ _ c.in_err-digests.ensures.same
 
 pub returns-clause-read : goal.returns-clause-read
-returns-clause-read g c = desk_read g.S.Store c.args.self.now _ _ (as_before_then c.in_ok-digests.ensures.same c.parked_bodies.ensures.same)
+returns-clause-read g c = desk_read g.S.Store
+    c.args.self.now _ _ (as_before_then c.in_ok-digests.ensures.same c.parked_bodies.ensures.same)

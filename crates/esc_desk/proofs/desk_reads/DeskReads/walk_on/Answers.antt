@@ -7,7 +7,8 @@ pub returns-in-None-clause-given : goal.returns-in-None-clause-given
 returns-in-None-clause-given g c = λ honest es lists.
     let come = c.in_ok-fill.ensures.kept honest es lists in
     let none = c.in-None.ensures.cases in
-    ended come _ (no_items c.fill.new.pages.page none.0) (c.in_ok-fill.ensures.full none.0) (no_items c.next.new.self none.1) (refl, refl, refl)
+    ended come _ (no_items c.fill.new.pages.page none.0)
+    (c.in_ok-fill.ensures.full none.0) (no_items c.next.new.self none.1) (refl, refl, refl)
 
 pub returns-in-Some-clause-given : goal.returns-in-Some-clause-given
 returns-in-Some-clause-given g c = λ honest es lists.

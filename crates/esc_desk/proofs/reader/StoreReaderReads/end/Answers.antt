@@ -5,7 +5,9 @@ use Rattle.esc_desk.proofs.reader.StoreReaderReads.end.Goals as goal
 
 pub returns-in-None-clause-end : goal.returns-in-None-clause-end
 returns-in-None-clause-end g c = λ clean e serves.
-    no_end e serves.kept serves.stands_for c.deref.result.now (c.deref.ensures.value ∙ c.in_ok-steps.ensures.steps clean serves.kept serves.stands) (sym c.last_row.ensures ∙ c.in-None.is)
+    no_end e serves.kept serves.stands_for c.deref.result.now
+    (c.deref.ensures.value ∙ c.in_ok-steps.ensures.steps clean serves.kept serves.stands)
+    (sym c.last_row.ensures ∙ c.in-None.is)
 
 pub returns-clause-end : goal.returns-clause-end
 returns-clause-end g c = λ clean e serves.
@@ -15,4 +17,5 @@ returns-clause-end g c = λ clean e serves.
     let kept = c.in_ok-body-in-Some.ensures.found clean k there in
     let says = c.in_ok-end-in-Some.ensures.says in
     let steps = c.deref.ensures.value ∙ c.in_ok-steps.ensures.steps honest k serves.stands in
-    end_said e k serves.stands_for c.deref.result.now c.in-Some.row says.0 c.in_ok-end-in-Some.end steps (sym c.last_row.ensures ∙ c.in-Some.is) (sym kept ∙ says.1) says.2
+    end_said e k serves.stands_for c.deref.result.now c.in-Some.row says.0
+    c.in_ok-end-in-Some.end steps (sym c.last_row.ensures ∙ c.in-Some.is) (sym kept ∙ says.1) says.2

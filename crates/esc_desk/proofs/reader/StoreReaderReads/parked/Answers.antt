@@ -4,4 +4,5 @@ use Rattle.esc_desk.proofs.reader.StoreReaderReads.parked.Goals as goal
 
 pub returns-clause-bodies : goal.returns-clause-bodies
 returns-clause-bodies g c = λ clean e reflects.
-    IfOk-weaker c.parked.result _ _ (λ bodies are. same_parked e reflects.kept reflects.stands_for bodies.items are) (c.parked.ensures.bodies clean reflects.kept reflects.stands)
+    IfOk-weaker c.parked.result _ _ (λ bodies are. same_parked e reflects.kept reflects.stands_for
+    bodies.items are) (c.parked.ensures.bodies clean reflects.kept reflects.stands)

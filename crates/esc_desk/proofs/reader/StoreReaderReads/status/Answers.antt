@@ -20,7 +20,9 @@ returns-clause-status g c = λ clean e reflects.
     same_status e k reflects.stands_for c.status_of.result c.in_ok-held.held.items c.deref-2.result.now
     (c.in_ok-held.ensures.rows at_held k stands_1 (has_receipts e k reflects.stands_for.books))
     (c.deref-2.ensures.value ∙ c.in_ok-steps.ensures.steps at_chain k stands_2)
-    (told.listed ∙ ap (λ (x : List MRow). length x) (c.rows-listed.ensures.rows ∙ c.manifest.ensures.kept k stands_4))
+    (told.listed ∙ ap (λ (x : List MRow). length x)
+    (c.rows-listed.ensures.rows ∙ c.manifest.ensures.kept k stands_4))
     (told.receipts ∙ c.in_ok-receipts.ensures.count at_count k reflects.stands)
     (told.held ∙ ap length c.deref.ensures.value) told.chain told.end
-    (subst (λ x. AreCounts k.registry.content x.entries) (sym told.objects) (c.in_ok-objects.ensures.counts clean k stands_3))
+    (subst (λ x. AreCounts k.registry.content x.entries)
+    (sym told.objects) (c.in_ok-objects.ensures.counts clean k stands_3))

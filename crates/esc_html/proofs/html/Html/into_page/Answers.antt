@@ -9,7 +9,8 @@ returns-in-Some-clause-markup c =
     let title = c.args.title.now in
     let style = c.args.style.now in
     let body : IsMarkup c.in-Some.body.items =
-    subst (λ (b : Option (Vec ℕ Global)). IfSome (option_map (λ v. v.items) b) IsMarkup) c.in-Some.is c.self.invariant in
+    subst (λ (b : Option (Vec ℕ Global)). IfSome (option_map (λ v. v.items) b) IsMarkup)
+    c.in-Some.is c.self.invariant in
     IfOk-weaker c.page_of.result _ _
     (λ page is. (title, style, body.0, ap (page_text title style) (body.1 ∙ sym c.deref.ensures.value) ∙ sym is))
     c.page_of.ensures
@@ -20,5 +21,6 @@ returns-in-Some-clause-page c =
     let held : c.args.self ≡ Some c.in-Some.body.items =
     sym c.self.view_is ∙ ap (λ (b : Option (Vec ℕ Global)). option_map (λ v. v.items) b) c.in-Some.is in
     IfOk-weaker c.page_of.result _ _
-    (λ page is. ap (option_map whole) held ∙ ap (λ (b : List ℕ). Some (whole b)) (sym c.deref.ensures.value) ∙ ap Some (sym is))
+    (λ page is. ap (option_map whole) held
+    ∙ ap (λ (b : List ℕ). Some (whole b)) (sym c.deref.ensures.value) ∙ ap Some (sym is))
     c.page_of.ensures

@@ -28,8 +28,10 @@ returns-clause-listed c =
     let order : IsOrdered c.in_ok-rows.rows.items c.in_ok-rows-2.rows.items =
     record { same = c.in_ok-rows-2.ensures.same; rising = c.in_ok-rows-2.ensures.rising } in
     let order : IsOrdered c.args.self.now c.in_ok-rows-2.rows.items =
-    subst (λ (rs : List MRow). IsOrdered rs c.in_ok-rows-2.rows.items) (c.in_ok-rows.ensures ∙ c.as_slice.ensures.value ∙ c.self.view_is) order in
+    subst (λ (rs : List MRow). IsOrdered rs c.in_ok-rows-2.rows.items)
+    (c.in_ok-rows.ensures ∙ c.as_slice.ensures.value ∙ c.self.view_is) order in
     let fits : length (manifest_text m) ≤ most_bytes =
-    rw (sym (ap length text)) (omega (arith, c.len.ensures, c.in_ok-text.text.ok, c.if-len-gt-MOST_MANIFEST_BYTES.false)) in
+    rw (sym (ap length text))
+    (omega (arith, c.len.ensures, c.in_ok-text.text.ok, c.if-len-gt-MOST_MANIFEST_BYTES.false)) in
     let law = c.written_lines_read_back.ensures in
     listed order same text (manifest_read law m c.in_ok-text.ensures.accepted c.in_ok-text.ensures.legible free fits)

@@ -13,9 +13,12 @@ use Rattle.esc_scan.proofs.opening.listing.list_tables.Goals as goal
 pub returns-clause-tables : goal.returns-clause-tables
 returns-clause-tables g c told =
     let listed = c.in-Ok.listed.items in
-    let numbered : AreNumbered listed = subst AreNumbered c.as_slice.ensures.value (c.are_numbered.ensures (search rules)) in
-    let rows : c.as_slice-3.result.now ≡ map unrooted listed = c.as_slice-3.ensures.value ∙ c.in_ok-rows.ensures ∙ ap (map unrooted) c.as_slice-2.ensures.value in
-    let lists : listed_from 0 (wanted_by c.list_schema.new.self) ≡ joined c.as_slice-3.result.now layouts = rw told at c.in_ok-list_schema.ensures.ok in
+    let numbered : AreNumbered listed =
+    subst AreNumbered c.as_slice.ensures.value (c.are_numbered.ensures (search rules)) in
+    let rows : c.as_slice-3.result.now ≡ map unrooted listed = c.as_slice-3.ensures.value
+    ∙ c.in_ok-rows.ensures ∙ ap (map unrooted) c.as_slice-2.ensures.value in
+    let lists : listed_from 0 (wanted_by c.list_schema.new.self)
+    ≡ joined c.as_slice-3.result.now layouts = rw told at c.in_ok-list_schema.ensures.ok in
     has_tables (wanted_by c.list_schema.new.self) listed numbered (lists ∙ ap (λ r. joined r layouts) rows)
 
 pub returns-clause-same : goal.returns-clause-same
@@ -28,7 +31,8 @@ returns-clause-same g c late =
       size = ap (λ p. (Pool.state p).page_size) files ∙ (c.read_catalog.ensures.kept clean).size;
       pages = cat.pages;
       found = cat.found;
-      again = subst (λ p. Recovers size (seen_image g.D.Disk (Pool.files p).0 (Pool.files p).1) cat.pages) (sym files) cat.again;
+      again = subst (λ p. Recovers
+          size (seen_image g.D.Disk (Pool.files p).0 (Pool.files p).1) cat.pages) (sym files) cat.again;
       shows = record {
         clean = subst Pool.IsClean (sym files) cat.shows.clean;
         committed = ap (λ p. (Pool.state p).committed) files ∙ cat.shows.committed;

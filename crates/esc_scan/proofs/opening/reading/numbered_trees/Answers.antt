@@ -22,14 +22,16 @@ returns-in-Ok-clause-tables g c =
     let sized = (e.kept now).size in
     let ours = wanted_by old in
     let pages = (state store).committed in
-    let listing : kept_schema store.saved store.schema.items ≡ ours = ap (λ o. kept_schema o store.schema.items) e.ready.unaltered ∙ e.schema in
+    let listing : kept_schema store.saved store.schema.items ≡ ours =
+    ap (λ o. kept_schema o store.schema.items) e.ready.unaltered ∙ e.schema in
     let reads : (view store).trees ≡ file_trees size ours pages =
     e.ready.clean
     ∙ cond-true _ (file_trees (state store).page_size (kept_schema store.saved store.schema.items) pages) no_trees now
     ∙ ap₂ (λ n s. file_trees n s pages) sized listing in
     ap (λ d. d table.tree) reads
     ∙ ∥∥₁_elim (store.stored (e.ready.is_open (no_doubt _ now))) (rows_set _ _)
-    (λ s. reads_tables size (image old) ours pages (e.found now) (subst₃ (λ n b x. IsOurs n b x pages) sized e.numbered listing s.ours) db schema held sound table has at)
+    (λ s. reads_tables size (image old) ours pages (e.found now) (subst₃ (λ n b x. IsOurs n b x pages)
+    sized e.numbered listing s.ours) db schema held sound table has at)
 
 pub returns-in-Ok-clause-indexes : goal.returns-in-Ok-clause-indexes
 returns-in-Ok-clause-indexes g c =
@@ -41,11 +43,13 @@ returns-in-Ok-clause-indexes g c =
     let sized = (e.kept now).size in
     let ours = wanted_by old in
     let pages = (state store).committed in
-    let listing : kept_schema store.saved store.schema.items ≡ ours = ap (λ o. kept_schema o store.schema.items) e.ready.unaltered ∙ e.schema in
+    let listing : kept_schema store.saved store.schema.items ≡ ours =
+    ap (λ o. kept_schema o store.schema.items) e.ready.unaltered ∙ e.schema in
     let reads : (view store).trees ≡ file_trees size ours pages =
     e.ready.clean
     ∙ cond-true _ (file_trees (state store).page_size (kept_schema store.saved store.schema.items) pages) no_trees now
     ∙ ap₂ (λ n s. file_trees n s pages) sized listing in
     ap (λ d. d index.tree) reads
     ∙ ∥∥₁_elim (store.stored (e.ready.is_open (no_doubt _ now))) (rows_set _ _)
-    (λ s. reads_indexes size (image old) ours pages (e.found now) (subst₃ (λ n b x. IsOurs n b x pages) sized e.numbered listing s.ours) db schema held sound index has bits at)
+    (λ s. reads_indexes size (image old) ours pages (e.found now) (subst₃ (λ n b x. IsOurs n b x pages)
+    sized e.numbered listing s.ours) db schema held sound index has bits at)

@@ -5,4 +5,5 @@ use Rattle.esc_scan.proofs.opening.reading.typed_trees.Goals as goal
 
 pub returns-in-Ok-clause-reads : goal.returns-in-Ok-clause-reads
 returns-in-Ok-clause-reads g c =
-    λ now. reads_store (state_of c.args.files).page_size (image c.args.files) (wanted_by c.args.files) (view c.in-Ok.store).trees (c.in-Ok.ensures.tables now) c.requires.tables
+    λ now. reads_store (state_of c.args.files).page_size (image c.args.files) (wanted_by c.args.files)
+    (view c.in-Ok.store).trees (c.in-Ok.ensures.tables now) c.requires.tables

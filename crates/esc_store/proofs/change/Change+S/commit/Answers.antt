@@ -13,5 +13,6 @@ returns-clause-committed g c = record {
     rests = c.in_ok-commit_here.ensures.committed c.args.self.listing before k s rest holds;
     remembered = rw c.commit_here.ensures.remembered (λ clean. none_remembered k);
   });
-  left = λ before k s rest holds. rw c.take_over.ensures (c.in_ok-commit_here.ensures.left c.args.self.listing before k s rest holds);
+  left = λ before k s rest holds. rw c.take_over.ensures
+      (c.in_ok-commit_here.ensures.left c.args.self.listing before k s rest holds);
 }

@@ -9,6 +9,8 @@ returns-clause-rolled_back g c =
     record {
       manifest = c.give_up.ensures.manifest;
       writes = c.give_up.ensures.writes;
-      stands = λ before begun. still_stands up.survives up.kept (λ clean _. (up.ended clean, up.settled clean)) (c.give_up.ensures.manifest ∙ begun.listed) (begun_committed _ _ before begun)
+      stands = λ before begun. still_stands
+          up.survives up.kept (λ clean _. (up.ended clean, up.settled clean))
+          (c.give_up.ensures.manifest ∙ begun.listed) (begun_committed _ _ before begun)
           c.give_up.ensures.remembered (λ clean. none_remembered before);
     }

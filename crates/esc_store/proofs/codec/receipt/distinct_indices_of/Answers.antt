@@ -7,4 +7,5 @@ pub returns-clause-once : goal.returns-clause-once
 returns-clause-once c up =
     let numbers = c.args.numbers.now in
     let found = c.in_ok-rows.rows.items in
-    subst (AreOnce numbers) (sym (dedup_is eqb found c.dedup.new.self.items c.dedup.ensures.filtered ∙ ap (dedup eqb) c.in_ok-rows.ensures.rows)) (are_once numbers up)
+    subst (AreOnce numbers) (sym (dedup_is eqb found c.dedup.new.self.items c.dedup.ensures.filtered
+    ∙ ap (dedup eqb) c.in_ok-rows.ensures.rows)) (are_once numbers up)

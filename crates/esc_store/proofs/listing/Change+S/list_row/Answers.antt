@@ -9,7 +9,9 @@ returns-clause-goes_on g c = goes_step (moved c.settle.ensures c.insert_listed-d
 
 pub returns-clause-listed : goal.returns-clause-listed
 returns-clause-listed g c = if_ok c.settle.result _ (λ x is before k r row_is.
-    listed_step (moved c.settle.ensures c.insert_listed-done.ensures.part (become_turns _)) (books_listed k _ r row_is) before)
+    listed_step (moved c.settle.ensures c.insert_listed-done.ensures.part (become_turns _))
+    (books_listed k _ r row_is) before)
 
 pub returns-clause-holds : goal.returns-clause-holds
-returns-clause-holds g c = holds_all (moved c.settle.ensures c.insert_listed-done.ensures.part (become_turns _)) (λ _ _ _ turn. registry_same turn.is refl refl)
+returns-clause-holds g c = holds_all (moved c.settle.ensures
+    c.insert_listed-done.ensures.part (become_turns _)) (λ _ _ _ turn. registry_same turn.is refl refl)

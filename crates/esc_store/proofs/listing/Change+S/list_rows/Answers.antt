@@ -1,4 +1,6 @@
-use Rattle.esc_store.proofs.Common.{◌≡◌, ◌∙◌, length, take, get_or, refl, ap, arith, take_more, take_all, length-take-le, no_row, with_listed, indexed_row, goes_then, listed_row}
+use Rattle.esc_store.proofs.Common.{◌≡◌, ◌∙◌, length, take, get_or, refl, ap, arith, take_more}
+use Rattle.esc_store.proofs.Common.{take_all, length-take-le, no_row, with_listed, indexed_row}
+use Rattle.esc_store.proofs.Common.{goes_then, listed_row}
 use Rattle.esc_store.proofs.Manifests.{stored_get, listed_size}
 use Rattle.esc_store.proofs.listing.Change+S.list_rows.Goals as goal
 
@@ -12,12 +14,16 @@ loop-at-preserved g c = (
       let size = listed_size c.args.rows.now union e in
       let there = stored_get c.args.rows.now union at c.index-rows-at.result e c.loop-at-test.true in
       let so_far = length-take-le at union (omega arith) in
-      let next : listed_row c.index-rows-at.result ≡ indexed_row (length (take at union)) (get_or union at no_row) = ap listed_row c.index-rows-at.is ∙ (there ∙ rw so_far refl) in
-      rw (take_more union at no_row (omega arith)) (c.in_ok-list_row.ensures.listed before (with_listed k (take at union)) (get_or union at no_row) next (c.loop-at.invariant.3 before k union e front rest)),
+      let next : listed_row c.index-rows-at.result ≡ indexed_row (length (take at union))
+      (get_or union at no_row) = ap listed_row c.index-rows-at.is ∙ (there ∙ rw so_far refl) in
+      rw (take_more union at no_row (omega arith))
+      (c.in_ok-list_row.ensures.listed before (with_listed k (take at union))
+      (get_or union at no_row) next (c.loop-at.invariant.3 before k union e front rest)),
   λ s h. c.in_ok-list_row.ensures.holds s (c.loop-at.invariant.4 s h),
 )
 
 pub returns-clause-listed : goal.returns-clause-listed
 returns-clause-listed g c = λ before k union e front rest.
     let size = listed_size c.args.rows.now union e in
-    rw (take_all c.loop-at.at union (let past = c.loop-at-test.false in omega arith)) at (c.loop-at.invariant.3 before k union e front rest)
+    rw (take_all c.loop-at.at union (let past = c.loop-at-test.false in omega arith))
+    at (c.loop-at.invariant.3 before k union e front rest)

@@ -9,8 +9,10 @@ returns-clause-follows g c = follows_look (read_settled c.settle.ensures c.find_
 
 pub returns-clause-found : goal.returns-clause-found
 returns-clause-found g c = if_ok c.settle.result _ (λ x is clean before k made.
-    let said = found_books is c.in_ok-goes_on.ensures.on (read_settled c.settle.ensures c.find_parked-found.ensures.read) clean c.args.self.now.listing before k made in
+    let said = found_books is c.in_ok-goes_on.ensures.on (read_settled c.settle.ensures
+    c.find_parked-found.ensures.read) clean c.args.self.now.listing before k made in
     said.1 ∙ said.2.parked c.args.digest.now)
 
 pub returns-clause-holds : goal.returns-clause-holds
-returns-clause-holds g c = if_ok c.settle.result _ (λ x is. holds_look (read_settled c.settle.ensures c.find_parked-found.ensures.read) is)
+returns-clause-holds g c = if_ok c.settle.result
+    _ (λ x is. holds_look (read_settled c.settle.ensures c.find_parked-found.ensures.read) is)

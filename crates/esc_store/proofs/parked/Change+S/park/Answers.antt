@@ -5,10 +5,13 @@ use Rattle.esc_store.proofs.Following.{moved, part_step, lists_same}
 use Rattle.esc_store.proofs.parked.Change+S.park.Goals as goal
 
 pub returns-clause-part : goal.returns-clause-part
-returns-clause-part g c = part_step (moved c.settle.ensures c.insert_parked-done.ensures.part (park_turns _ _)) (λ _. refl) (λ k. books_parked k _ _) (λ _ _ _ turn. registry_same turn.only refl refl)
+returns-clause-part g c =
+    part_step (moved c.settle.ensures c.insert_parked-done.ensures.part (park_turns _ _))
+    (λ _. refl) (λ k. books_parked k _ _) (λ _ _ _ turn. registry_same turn.only refl refl)
 
 pub returns-clause-listed : goal.returns-clause-listed
-returns-clause-listed g c = lists_same c.args.self.now (moved c.settle.ensures c.insert_parked-done.ensures.part (park_turns _ _))
+returns-clause-listed g c = lists_same
+    c.args.self.now (moved c.settle.ensures c.insert_parked-done.ensures.part (park_turns _ _))
 
 pub returns-clause-free : goal.returns-clause-free
 returns-clause-free g c = if_ok c.settle.result _ (λ x is clean.

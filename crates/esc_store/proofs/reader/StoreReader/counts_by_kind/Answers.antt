@@ -8,7 +8,8 @@ pub returns-clause-counts : goal.returns-clause-counts
 returns-clause-counts g c = λ honest k stands. if_goes c.by_kind.result _ _ c.by_kind.ensures.counts (λ counts is.
     let told = told_of c.args.self.now c.in_ok-stored.ensures.read honest k stands in
     counts_read told.database k.registry told.content c.in_ok-kinds.kinds.items counts.entries told.holds told.registry
-    (c.in_ok-kinds.ensures.numbers ∙ (ap (map kind_read) c.as_slice.ensures.value ∙ told.says)) (is ∙ (c.counts_of.ensures ∙ ap tallies c.as_slice-2.ensures.value)))
+    (c.in_ok-kinds.ensures.numbers ∙ (ap (map kind_read) c.as_slice.ensures.value ∙ told.says))
+    (is ∙ (c.counts_of.ensures ∙ ap tallies c.as_slice-2.ensures.value)))
 
 pub returns-clause-same : goal.returns-clause-same
 returns-clause-same g c = read_only refl c.in_ok-stored.ensures.read

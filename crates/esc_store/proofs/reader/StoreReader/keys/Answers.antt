@@ -10,9 +10,12 @@ use Rattle.esc_store.proofs.reader.StoreReader.keys.Goals as goal
 pub returns-clause-keys : goal.returns-clause-keys
 returns-clause-keys g c = λ honest k stands.
     let told = told_of c.args.self.now c.in_ok-stored.ensures.read honest k stands in
-    let are = c.in_ok-keys.ensures.keys ∙ ap (λ l. filter (is_key_wanted c.args.kind) (map key_read l)) c.as_slice.ensures.value in
-    keys_read told.database k.registry told.content c.args.kind told.holds told.registry c.in_ok-stored.stored.items c.in_ok-keys.keys.items _ told.says are
-    c.sort_unstable.ensures.permutation (sorted_by_key (λ (a b : TableKey). int_cmp a.rowid b.rowid) _ c.sort_unstable.ensures.sorted)
+    let are = c.in_ok-keys.ensures.keys
+    ∙ ap (λ l. filter (is_key_wanted c.args.kind) (map key_read l)) c.as_slice.ensures.value in
+    keys_read told.database k.registry told.content c.args.kind
+    told.holds told.registry c.in_ok-stored.stored.items c.in_ok-keys.keys.items _ told.says are
+    c.sort_unstable.ensures.permutation
+    (sorted_by_key (λ (a b : TableKey). int_cmp a.rowid b.rowid) _ c.sort_unstable.ensures.sorted)
 
 pub returns-clause-same : goal.returns-clause-same
 returns-clause-same g c = read_only refl c.in_ok-stored.ensures.read

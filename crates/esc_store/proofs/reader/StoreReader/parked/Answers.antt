@@ -12,7 +12,8 @@ returns-clause-bodies g c = λ honest k stands.
     let after = c.by_digest.result.items in
     let before = c.in_ok-bodies.ensures.bodies ∙ ap (map parked_read) c.as_slice.ensures.value in
     parked_sorted told.database k told.content c.in_ok-stored.stored.items after told.holds told.books told.says
-    (subst (λ (bs : List ParkedBody). IsPermutation bs after) before c.by_digest.ensures.permutation) c.by_digest.ensures.sorted
+    (subst (λ (bs : List ParkedBody). IsPermutation bs after) before c.by_digest.ensures.permutation)
+    c.by_digest.ensures.sorted
 
 pub returns-clause-same : goal.returns-clause-same
 returns-clause-same g c = read_only refl c.in_ok-stored.ensures.read

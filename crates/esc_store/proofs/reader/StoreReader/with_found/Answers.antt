@@ -11,7 +11,9 @@ loop-digest-preserved g c =
     record {
       same = read_only_then now.same c.in_ok-insert_found.ensures.same;
       found = λ clean k stood up.
-          subst (λ (ds : List (List ℕ)). AreFound k c.args.told.items ds c.insert_found.new.rows.items) (sym (take_more c.args.digests.now i _ c.loop-digest-test.true))
-          (c.in_ok-insert_found.ensures.found clean k (now.same.stands k stood) c.args.told.items (take i c.args.digests.now)
+          subst (λ (ds : List (List ℕ)). AreFound k c.args.told.items ds c.insert_found.new.rows.items)
+          (sym (take_more c.args.digests.now i _ c.loop-digest-test.true))
+          (c.in_ok-insert_found.ensures.found
+          clean k (now.same.stands k stood) c.args.told.items (take i c.args.digests.now)
           (now.found (reader_was_honest c.in_ok-insert_found.ensures.same clean) k stood up));
     }

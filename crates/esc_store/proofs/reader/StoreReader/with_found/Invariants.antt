@@ -9,6 +9,7 @@ use Rattle.esc_store.proofs.reader.StoreReader.with_found.Given as goal
 abbrev pub invariant-loop-digest : goal.invariant-loop-digest
 invariant-loop-digest g l = record {
   same : IsReadOnly {X = Unit {0}} {E = StoreFault} g.S.Store l.fn.self l.self (Ok tt);
-  found : IsHonestReader g.S.Store l.self → (k : StoreState) → ReaderRepresents g.S.Store l.fn.self k → IsRising l.fn.told.items
+  found : IsHonestReader g.S.Store l.self
+      → (k : StoreState) → ReaderRepresents g.S.Store l.fn.self k → IsRising l.fn.told.items
       → AreFound k l.fn.told.items (take l.digest-index l.digests) l.rows.items;
 }

@@ -5,4 +5,5 @@ use Rattle.esc_store.proofs.reader.held.unlisted_digests.Given as goal
 
 -- the digests of the receipts so far
 abbrev pub invariant-loop-receipt : goal.invariant-loop-receipt
-invariant-loop-receipt l = l.digests.items ≡ filter_map (λ r. digest_if_unlisted (receipt_row r)) (take l.receipt-index l.receipts)
+invariant-loop-receipt l = l.digests.items
+    ≡ filter_map (λ r. digest_if_unlisted (receipt_row r)) (take l.receipt-index l.receipts)

@@ -3,7 +3,8 @@ use Rattle.esc_store.proofs.Registries.{adding, books_stay, set_registry, has_re
 use Rattle.esc_store.proofs.records.Change+S.add_stored.Goals as goal
 
 pub returns-clause-follows : goal.returns-clause-follows
-returns-clause-follows g c = follows_step (moved c.settle.ensures c.insert_object-done.ensures.part (adding _ _ _)) (λ _ _ _ set. books_stay set.only)
+returns-clause-follows g c = follows_step (moved c.settle.ensures
+    c.insert_object-done.ensures.part (adding _ _ _)) (λ _ _ _ set. books_stay set.only)
 
 pub returns-clause-written : goal.returns-clause-written
 returns-clause-written g c = if_ok c.settle.result _ (λ x is s k o kinds texts bytes.

@@ -3,7 +3,9 @@ use Rattle.esc_store.proofs.Registries.{DropsAt, replacing, books_stay, drop_reg
 use Rattle.esc_store.proofs.records.Change+S.forget_records.Goals as goal
 
 pub returns-clause-follows : goal.returns-clause-follows
-returns-clause-follows g c = follows_step (moved c.settle.ensures c.delete_undo-done.ensures.part (replacing Undo (DropsAt _))) (λ _ _ _ set. books_stay set.only)
+returns-clause-follows g c = follows_step (moved c.settle.ensures
+    c.delete_undo-done.ensures.part (replacing Undo (DropsAt _))) (λ _ _ _ set. books_stay set.only)
 
 pub returns-clause-taken : goal.returns-clause-taken
-returns-clause-taken g c = holds_all (moved c.settle.ensures c.delete_undo-done.ensures.part (replacing Undo (DropsAt _))) (λ s. drop_registry s _)
+returns-clause-taken g c = holds_all (moved c.settle.ensures
+    c.delete_undo-done.ensures.part (replacing Undo (DropsAt _))) (λ s. drop_registry s _)

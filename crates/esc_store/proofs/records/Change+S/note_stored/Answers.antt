@@ -3,7 +3,8 @@ use Rattle.esc_store.proofs.Registries.{noting, books_stay, note_registry, moved
 use Rattle.esc_store.proofs.records.Change+S.note_stored.Goals as goal
 
 pub returns-clause-follows : goal.returns-clause-follows
-returns-clause-follows g c = follows_step (moved c.settle.ensures c.insert_undo-done.ensures.part (noting _ _ _ _)) (λ _ _ _ set. books_stay set.only)
+returns-clause-follows g c = follows_step (moved c.settle.ensures
+    c.insert_undo-done.ensures.part (noting _ _ _ _)) (λ _ _ _ set. books_stay set.only)
 
 pub returns-clause-noted : goal.returns-clause-noted
 returns-clause-noted g c = if_ok c.settle.result _ (λ x is s k o kinds texts bytes has.

@@ -6,7 +6,8 @@ pub returns-clause-steps : goal.returns-clause-steps
 unfolding Represents
 returns-clause-steps g c = λ honest k stands.
     let told = told_of c.in_ok-stored.ensures.read honest k stands in
-    c.in_ok-steps.ensures.steps k.steps (ap (map step_row) c.as_slice.ensures.value ∙ (told.says ∙ told.books.steps)) ∙ ap (λ m. map (step_at m) k.steps)
+    c.in_ok-steps.ensures.steps k.steps (ap (map step_row) c.as_slice.ensures.value
+    ∙ (told.says ∙ told.books.steps)) ∙ ap (λ m. map (step_at m) k.steps)
     (c.steps_here.ensures.read.manifest ∙ stands.listed)
 
 pub returns-clause-same : goal.returns-clause-same

@@ -18,10 +18,13 @@ loop-at-preserved g c =
       writes = c.add_step_here.ensures.writes ∙ now.writes;
       step = λ rows e.
           let size = same_length from c.args.steps.now rows e in
-          rw (take_more rows c.loop-at.at 0 (omega arith)) (steps_more from (take c.loop-at.at rows) (get_or rows c.loop-at.at 0) _ (step_nth from c.args.steps.now rows c.loop-at.at _ e c.loop-at-test.true) (now.step rows e) c.in_ok-add_step_here.ensures.step);
+          rw (take_more rows c.loop-at.at 0 (omega arith)) (steps_more from (take c.loop-at.at rows)
+          (get_or rows c.loop-at.at 0) _ (step_nth from c.args.steps.now rows c.loop-at.at
+          _ e c.loop-at-test.true) (now.step rows e) c.in_ok-add_step_here.ensures.step);
     }
 
 pub returns-clause-step : goal.returns-clause-step
 returns-clause-step g c = λ rows e.
     let size = same_length c.args.from c.args.steps.now rows e in
-    rw (take_all c.loop-at.at rows (let past = c.loop-at-test.false in omega arith)) at (c.loop-at.invariant.step rows e)
+    rw (take_all c.loop-at.at rows (let past = c.loop-at-test.false in omega arith))
+    at (c.loop-at.invariant.step rows e)

@@ -13,6 +13,7 @@ returns-clause-rows g c = λ clean k stood has.
     let still = c.held_by_receipts.ensures.same.stands k stood in
     let told = c.in_ok-told.ensures.rows by_receipts k stood in
     let digests = c.in_ok-digests.ensures.digests by_digests k still in
-    if_goes c.with_found.result _ _ (c.with_found.ensures.found clean k (c.unlisted_digests.ensures.same.stands k still) told.rising) (λ rows found.
+    if_goes c.with_found.result _ _ (c.with_found.ensures.found
+    clean k (c.unlisted_digests.ensures.same.stands k still) told.rising) (λ rows found.
     held_of_found k has c.in_ok-digests.digests.items digests c.in_ok-told.told.items rows.items told
     (subst (λ (ds : List (List ℕ)). AreFound k c.in_ok-told.told.items ds rows.items) c.deref.ensures.value found))

@@ -5,13 +5,19 @@ use Rattle.esc_store.proofs.Sure.{told_of}
 use Rattle.esc_store.proofs.store.Store.objects_from.Goals as goal
 
 pub returns-clause-page : goal.returns-clause-page
-returns-clause-page g c = λ honest k stands. if_goes c.entries_of.result _ _ c.entries_of.ensures.entries (λ page same.
+returns-clause-page g c =
+    λ honest k stands. if_goes c.entries_of.result _ _ c.entries_of.ensures.entries (λ page same.
     let told = told_of c.in_ok-stored.ensures.read honest k stands in
-    page_is c.no_record_begins_another.ensures k.registry told.content c.args.kind c.args.from.now (map stored_entry c.in_ok-stored.stored.items) page.items told.registry (rw (← c.kind_number.ensures) told.says)
-    (same ∙ ap (map (λ it. record_row (stored_entry it))) c.as_slice.ensures.value ∙ sym (map-map record_row stored_entry c.in_ok-stored.stored.items)))
+    page_is c.no_record_begins_another.ensures k.registry
+    told.content c.args.kind c.args.from.now (map stored_entry c.in_ok-stored.stored.items)
+    page.items told.registry (rw (← c.kind_number.ensures) told.says)
+    (same ∙ ap (map (λ it. record_row (stored_entry it))) c.as_slice.ensures.value
+    ∙ sym (map-map record_row stored_entry c.in_ok-stored.stored.items)))
 
 pub returns-clause-few : goal.returns-clause-few
 returns-clause-few g c = λ honest k stands. if_goes c.entries_of.result _ _ c.entries_of.ensures.entries (λ page same.
     let told = told_of c.in_ok-stored.ensures.read honest k stands in
-    page_short told.content c.args.kind c.args.from.now (map stored_entry c.in_ok-stored.stored.items) page.items (rw (← c.kind_number.ensures) told.says)
-    (same ∙ ap (map (λ it. record_row (stored_entry it))) c.as_slice.ensures.value ∙ sym (map-map record_row stored_entry c.in_ok-stored.stored.items)))
+    page_short told.content c.args.kind c.args.from.now (map stored_entry c.in_ok-stored.stored.items)
+    page.items (rw (← c.kind_number.ensures) told.says)
+    (same ∙ ap (map (λ it. record_row (stored_entry it))) c.as_slice.ensures.value
+    ∙ sym (map-map record_row stored_entry c.in_ok-stored.stored.items)))

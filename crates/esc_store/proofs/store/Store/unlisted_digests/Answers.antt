@@ -5,4 +5,5 @@ use Rattle.esc_store.proofs.store.Store.unlisted_digests.Goals as goal
 
 pub returns-in-Some-clause-digests : goal.returns-in-Some-clause-digests
 unfolding Represents
-returns-in-Some-clause-digests g c = λ honest k stands. of_copy (AreUnlisted k.receipts) _ _ _ c.in_ok-digests.ensures c.in-Some.is (stands.remembered honest).unlisted
+returns-in-Some-clause-digests g c = λ honest k stands. of_copy (AreUnlisted k.receipts)
+    _ _ _ c.in_ok-digests.ensures c.in-Some.is (stands.remembered honest).unlisted

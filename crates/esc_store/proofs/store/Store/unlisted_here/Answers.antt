@@ -14,9 +14,11 @@ returns-clause-digests g c = λ honest k stands.
     (c.in_ok-extend_from_slice.ensures.items ∙ ap (λ ds. firsts ++ ds) c.as_slice.ensures.value)
 
 pub returns-clause-same : goal.returns-clause-same
-returns-clause-same g c = remembering _ (as_before_then c.digests_of_verdict.ensures.same c.digests_of_verdict-2.ensures.same) (λ honest k stands so. record {
-  told = so.told;
-  unlisted = subst (AreUnlisted k.receipts) (sym (c.in_ok-copy.ensures.items ∙ c.deref.ensures.value)) (returns-clause-digests g c honest k stands);
-  chain = so.chain;
-  counts = so.counts;
-})
+returns-clause-same g c = remembering _ (as_before_then c.digests_of_verdict.ensures.same
+    c.digests_of_verdict-2.ensures.same) (λ honest k stands so. record {
+      told = so.told;
+      unlisted = subst (AreUnlisted k.receipts) (sym (c.in_ok-copy.ensures.items ∙ c.deref.ensures.value))
+          (returns-clause-digests g c honest k stands);
+      chain = so.chain;
+      counts = so.counts;
+    })

@@ -8,6 +8,7 @@ use Rattle.esc_store.proofs.store.Store.with_found.Given as goal
 abbrev pub invariant-loop-digest : goal.invariant-loop-digest
 invariant-loop-digest g l = record {
   same : IsAsBefore g.S.Store l.fn.self l.self;
-  found : IsHonest g.S.Store l.self → (k : StoreState) → Represents g.S.Store l.fn.self k → IsRising l.fn.told.items
+  found : IsHonest g.S.Store l.self
+      → (k : StoreState) → Represents g.S.Store l.fn.self k → IsRising l.fn.told.items
       → AreFound k l.fn.told.items (take l.digest-index l.digests) l.rows.items;
 }

@@ -6,5 +6,6 @@ use Rattle.esc_tables.proofs.object.Row.len.Goals as goal
 
 pub returns : goal.returns
 returns c =
-    c.len.ensures ∙ sym (all_cells c.self.inside.heading.value.fields (fields_of c.self.inside.texts) c.self.invariant)
+    c.len.ensures ∙ sym
+    (all_cells c.self.inside.heading.value.fields (fields_of c.self.inside.texts) c.self.invariant)
     ∙ ap (λ (r : RowValue). length r.cells) c.self.view_is

@@ -9,4 +9,5 @@ invariant_of-self-2 c =
     let text = c.self.inside.bytes.items in
     let line = line_text ttl c.args.owner.now c.args.said.now in
     let is : c.extend_from_slice.new.self.items ≡ text ++ line = search rules in
-    subst AreLines (sym is) (more_lines ttl text c.args.owner.now c.args.said.now c.self.invariant c.as_bytes.ensures.name c.requires)
+    subst AreLines (sym is) (more_lines
+    ttl text c.args.owner.now c.args.said.now c.self.invariant c.as_bytes.ensures.name c.requires)
