@@ -6,9 +6,6 @@ from support import TOP
 # `pub use` and `pub mod` define nothing. An operator may stand for what is done in order in one type and in another.
 DEFINITION = re.compile(r'^(?:abbrev |unfoldable )?pub (?!use |mod )(?:record |data )?([^\s(:{\[◌]+) ', re.M)
 
-# Names that two crates still define, each for a thing of its own: they are to be told apart.
-SHARED = {'cell', 'deposit_in', 'is_name', 'is_there', 'line_text', 'place_of'}
-
 
 class Names(unittest.TestCase):
     def test_each_is_defined_once(self):
@@ -18,4 +15,4 @@ class Names(unittest.TestCase):
                 places[name].add(str(path.relative_to(TOP)))
         self.assertGreater(len(places), 1_000)
         shared = {name: sorted(files) for name, files in places.items() if len(files) > 1}
-        self.assertEqual(SHARED, set(shared), shared)
+        self.assertEqual({}, shared)

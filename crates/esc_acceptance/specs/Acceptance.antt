@@ -15,7 +15,7 @@ use Rattle.esc_chain.specs.declared.gap.State.TheVariants as state
 use Rattle.esc_acceptance.specs.declared.test.Test.{Test}
 use Rattle.esc_acceptance.specs.declared.test.Test.TheVariants as test
 use Rattle.esc_apply.specs.ObjectStreams.{Entry}
-use Rattle.esc_acceptance.specs.Guides.{guides, is_wanted, is_there, is_disguise}
+use Rattle.esc_acceptance.specs.Guides.{guides, is_wanted, is_declared_for_all, is_disguise}
 
 -- what was seen of a store: how many TLDs the held deposits name; the moment that is set, the
 -- chain's end, whether the chain is the latest one, the line of each listed place; how many bodies
@@ -106,7 +106,7 @@ passes test.Nndns s = s.nndns == 0
 passes test.Orphans s = s.orphans == 0
 passes test.Counts s = list_all (is_counted s.counts) kinds
 passes test.Fields s =
-    list_all (λ g. not (is_wanted s.objects g) || is_there s.tables s.made g) guides
+    list_all (λ g. not (is_wanted s.objects g) || is_declared_for_all s.tables s.made g) guides
 passes test.Names s = list_all (λ g. not (list_any (is_disguise g) s.tables)) guides
 passes test.Bodies s = (s.spoiled == 0) && s.are_read
 passes test.Tables s = s.is_rebuilt

@@ -14,9 +14,9 @@ read_deposits (Ok d) = d ∷ []
 read_deposits (Err e) = []
 
 -- the deposit of a body, if it is there and is one
-abbrev pub deposit_in : Option (List ℕ) → List DepositValue
-deposit_in None = []
-deposit_in (Some body) = read_deposits (reading body)
+abbrev pub deposits_in : Option (List ℕ) → List DepositValue
+deposits_in None = []
+deposits_in (Some body) = read_deposits (reading body)
 
 -- whether there is one
 abbrev pub is_one : List DepositValue → Bool
@@ -25,5 +25,5 @@ is_one (d ∷ ds) = true
 
 -- what these bodies say: whether each is there and is a deposit, and then their tables
 pub record AreFactsOf (bodies : List (Option (List ℕ))) (facts : ChainFacts) : Type 0 where
-  pub read : facts.are_read ≡ list_all (λ b. is_one (deposit_in b)) bodies
-  pub made : facts.are_read ≡ true → AreTablesOf (flat_map deposit_in bodies) facts.objects.entries
+  pub read : facts.are_read ≡ list_all (λ b. is_one (deposits_in b)) bodies
+  pub made : facts.are_read ≡ true → AreTablesOf (flat_map deposits_in bodies) facts.objects.entries

@@ -139,8 +139,8 @@ has_guide g e = not (is_kind e.0.kind (guide_kind g))
     e.1.children)
 
 -- whether it is declared, and each of these objects has it
-abbrev pub is_there : List TableValue → List Entry → Guide → Bool
-is_there tables es g = is_guide_declared tables g && list_all (has_guide g) es
+abbrev pub is_declared_for_all : List TableValue → List Entry → Guide → Bool
+is_declared_for_all tables es g = is_guide_declared tables g && list_all (has_guide g) es
 
 -- whether there are objects of a kind
 abbrev pub has_objects : List (Kind × ℕ) → Kind → Bool

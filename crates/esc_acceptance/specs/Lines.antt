@@ -22,8 +22,8 @@ detail_text [] = []
 detail_text (b ∷ bs) = codes ": " ++ b ∷ bs
 
 -- a line: its test's word and name, and what was found
-abbrev pub line_text : Line → List ℕ
-line_text l = word l.test l.has_passed ++ codes " " ++ test_name l.test
+abbrev pub test_line : Line → List ℕ
+test_line l = word l.test l.has_passed ++ codes " " ++ test_name l.test
     ++ detail_text (string_bytes l.detail) ++ codes "\n"
 
 -- the line of a note
@@ -38,4 +38,4 @@ pub record AreLinesOf (s : SeenValue) (lines : List Line) : Type 0 where
 -- the text has these lines, and after them one for each note
 abbrev pub IsTextOf : SeenValue → List ℕ → Type 0
 IsTextOf s text = (lines : List Line) × AreLinesOf s lines
-    × (text ≡ flat_map line_text lines ++ flat_map note_text s.notes)
+    × (text ≡ flat_map test_line lines ++ flat_map note_text s.notes)

@@ -7,7 +7,7 @@ ghost use Rattle.esc_envelope.specs.Place.{rank};
 ghost use Rattle.esc_acceptance.specs.Acceptance.{is_after, is_by, is_later, is_end, is_in_chain};
 ghost use Rattle.esc_acceptance.specs.Acceptance.{is_outdated, is_open, is_passed, is_counted};
 ghost use Rattle.esc_acceptance.specs.Acceptance.{passes, tests, is_accepted, status_of};
-ghost use Rattle.esc_acceptance.specs.Guides.{is_disguise, is_wanted, is_there, guides};
+ghost use Rattle.esc_acceptance.specs.Guides.{is_disguise, is_wanted, is_declared_for_all, guides};
 
 use crate::guide::Guide;
 use crate::guides::{all_guides, is_disguise, is_there, is_wanted};
@@ -120,8 +120,9 @@ fn are_counted(counts: &[(Kind, u64)]) -> bool
 }
 
 fn are_fields_there(objects: &[(Kind, u64)], tables: &[Table], made: &BTreeMap<Key, Object>) -> bool
-    ensures { result ≡ list_all
-        (λ g. not (is_wanted objects.now g) || is_there tables.now made.now.entries g) guides }
+    ensures { result ≡ list_all (λ g.
+        not (is_wanted objects.now g) || is_declared_for_all tables.now made.now.entries g)
+        guides }
 {
     let guides = all_guides();
     guides.iter().all(|guide| !is_wanted(objects, *guide) || is_there(tables, made, *guide))

@@ -6,7 +6,7 @@ ghost use Rattle.std.specs.List.{list_any, list_all};
 ghost use Rattle.std.specs.Str.{bytes_eq};
 ghost use Rattle.esc_acceptance.specs.Guides.{guides, is_of_parents, is_its_table, has_field};
 ghost use Rattle.esc_acceptance.specs.Guides.{is_guide_declared, has_objects, is_wanted};
-ghost use Rattle.esc_acceptance.specs.Guides.{has_cell, has_guide, is_there};
+ghost use Rattle.esc_acceptance.specs.Guides.{has_cell, has_guide, is_declared_for_all};
 ghost use Rattle.esc_acceptance.specs.Guides.{is_name_sign, folds_to, looks_like, is_disguised};
 ghost use Rattle.esc_acceptance.specs.Guides.{is_disguised_table, has_disguised_field, has_disguise};
 ghost use Rattle.esc_acceptance.specs.Guides.{stands_for_its_table, is_disguise};
@@ -100,7 +100,7 @@ fn have_guide(guide: Guide, made: &BTreeMap<Key, Object>) -> bool
 
 /// Whether a field is in a declared table, and in each object that has to have it.
 pub(crate) fn is_there(tables: &[Table], made: &BTreeMap<Key, Object>, guide: Guide) -> bool
-    ensures { result ≡ is_there tables.now made.now.entries guide }
+    ensures { result ≡ is_declared_for_all tables.now made.now.entries guide }
 {
     is_declared(tables, guide) && have_guide(guide, made)
 }

@@ -3,7 +3,7 @@
 ghost use Rattle.std.specs.Prelude.{◌≡◌, ◌++◌, map, codes, string_bytes, IfOk, OnOk};
 ghost use Rattle.std.specs.List.{flat_map};
 ghost use Rattle.esc_acceptance.specs.Acceptance.{status_of};
-ghost use Rattle.esc_acceptance.specs.Lines.{detail_text, line_text, note_text, IsTextOf};
+ghost use Rattle.esc_acceptance.specs.Lines.{detail_text, test_line, note_text, IsTextOf};
 
 use crate::acceptance::status_of;
 use crate::line::{Line, lines_of};
@@ -33,7 +33,7 @@ fn push_detail(text: &mut String, detail: &str) -> Result<(), NoMemory>
 
 fn push_line(text: &mut String, line: &Line) -> Result<(), NoMemory>
     ensures { OnOk result (string_bytes text.new
-        ≡ string_bytes text.old ++ line_text line.now) }
+        ≡ string_bytes text.old ++ test_line line.now) }
 {
     text.push_str(line.word())?;
     text.push_str(" ")?;
@@ -45,7 +45,7 @@ fn push_line(text: &mut String, line: &Line) -> Result<(), NoMemory>
 
 fn push_lines(text: &mut String, lines: &[Line]) -> Result<(), NoMemory>
     ensures { OnOk result (string_bytes text.new
-        ≡ string_bytes text.old ++ flat_map line_text lines.now) }
+        ≡ string_bytes text.old ++ flat_map test_line lines.now) }
 {
     for line in lines {
         push_line(text, line)?;

@@ -11,15 +11,15 @@ page_rules = LinkTarget ∷ ObjectCount ∷ KnownStatus ∷ OkAlone ∷ CreatedB
     ∷ DateForm ∷ []
 
 -- where a rule stands among them
-abbrev pub place_of : Rule → ℕ
-place_of LinkTarget = 0
-place_of ObjectCount = 1
-place_of KnownStatus = 2
-place_of OkAlone = 3
-place_of CreatedBefore = 4
-place_of ExpiresAfter = 5
-place_of DateForm = 6
+abbrev pub rule_place : Rule → ℕ
+rule_place LinkTarget = 0
+rule_place ObjectCount = 1
+rule_place KnownStatus = 2
+rule_place OkAlone = 3
+rule_place CreatedBefore = 4
+rule_place ExpiresAfter = 5
+rule_place DateForm = 6
 
 -- each rule that there is stands there
 abbrev pub HasEachRule : List Rule → Type 0
-HasEachRule rules = (r : Rule) → slice_get rules (place_of r) ≡ Some r
+HasEachRule rules = (r : Rule) → slice_get rules (rule_place r) ≡ Some r

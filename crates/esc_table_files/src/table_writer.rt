@@ -27,7 +27,8 @@ pub struct TableWriter<'a, W> {
 impl<W: Write> TableWriter<'_, W> {
     fn write_heading(&mut self, alloc: Global) -> Result<(), Error>
         ensures table { self.new.layout.now ≡ self.old.layout.now }
-        ensures text { OnOk result (Appends (W.contents self.old.output) (W.contents self.new.output)
+        ensures text { OnOk result (Appends
+            (W.contents self.old.output) (W.contents self.new.output)
             (heading_csv self.old.layout.now)) }
     {
         let Ok(text) = heading_text(alloc, self.layout) else {
@@ -39,7 +40,8 @@ impl<W: Write> TableWriter<'_, W> {
     // Writes the lines of an object's rows in the table.
     fn write_rows(&mut self, alloc: Global, key: &Key, object: &Object) -> Result<(), Error>
         ensures table { self.new.layout.now ≡ self.old.layout.now }
-        ensures text { OnOk result (Appends (W.contents self.old.output) (W.contents self.new.output)
+        ensures text { OnOk result (Appends
+            (W.contents self.old.output) (W.contents self.new.output)
             (text_of (entry_lines self.old.layout.now (key.now, object.now)))) }
     {
         let Ok(text) = rows_text(alloc, self.layout, key, object) else {
@@ -53,7 +55,8 @@ fn write_headings<W: Write>(
     alloc: Global,
     writers: &mut Vec<TableWriter<'_, W>>,
 ) -> Result<(), Error>
-    ensures { OnOk result (AllZip (HasGrown (λ w. w.layout.now) (λ w. W.contents w.output) heading_csv)
+    ensures { OnOk result (AllZip
+        (HasGrown (λ w. w.layout.now) (λ w. W.contents w.output) heading_csv)
         writers.old.items writers.new.items) }
 {
     for writer in writers.iter_mut() {

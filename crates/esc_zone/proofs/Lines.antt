@@ -4,11 +4,11 @@ use Rattle.std.proofs.Common.{ap₂, sym, subst, append-nil, append_assoc, refl}
 use Rattle.std.specs.Io.KnownBytes.{Appends}
 use Rattle.std.proofs.lemmas.Grind.{flat_map-append}
 use Rattle.std.proofs.lemmas.List.Elements.{All-append, All-push, All-nil}
-use Rattle.esc_zone.specs.Names.{is_name}
-use Rattle.esc_zone.specs.Records.{RecordValue, line_text, record_text, IsRecord, AreLines, AppendsLines, IsSaid}
+use Rattle.esc_zone.specs.Names.{is_zone_name}
+use Rattle.esc_zone.specs.Records.{RecordValue, record_line, record_text, IsRecord, AreLines, AppendsLines, IsSaid}
 
 pub more_lines : (ttl : ℕ) (text owner said : List ℕ)
-    → AreLines text → is_name owner ≡ true → IsSaid said → AreLines (text ++ line_text ttl owner said)
+    → AreLines text → is_zone_name owner ≡ true → IsSaid said → AreLines (text ++ record_line ttl owner said)
 more_lines ttl text owner said held named is =
     let r : RecordValue = record { owner = owner; ttl = ttl; said = is.0 } in
     let right : IsRecord r = record { owner = named; names = is.1.0 } in
@@ -16,7 +16,7 @@ more_lines ttl text owner said held named is =
       records = held.records ++ r ∷ [];
       each = All-push IsRecord held.records r held.each right;
       lines = flat_map-append record_text held.records (r ∷ []) ∙ ap₂ (λ (a b : List ℕ). a ++ b)
-          held.lines (append-nil (record_text r) ∙ ap (line_text ttl owner) is.1.1);
+          held.lines (append-nil (record_text r) ∙ ap (record_line ttl owner) is.1.1);
     }
 
 joined : (a b : List ℕ) → AreLines a → AreLines b → AreLines (a ++ b)

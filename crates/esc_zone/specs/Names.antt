@@ -27,8 +27,8 @@ abbrev pub are_labels : List ℕ → Bool
 are_labels name = list_all is_label (slice_split is_dot name)
 
 -- a name: labels with dots between them, 253 bytes at most
-abbrev pub is_name : List ℕ → Bool
-is_name name = nat_le (length name) 253 && are_labels name
+abbrev pub is_zone_name : List ℕ → Bool
+is_zone_name name = nat_le (length name) 253 && are_labels name
 
 -- whether a name is another one, or ends with a dot and that one
 abbrev pub is_below : List ℕ → List ℕ → Bool

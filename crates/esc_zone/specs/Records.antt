@@ -9,7 +9,7 @@ use Rattle.std.specs.declared.net.ip_addr.IpAddr.{IpAddr}
 use Rattle.std.specs.declared.net.ip_addr.IpAddr.TheVariants.{V4, V6}
 use Rattle.hex.specs.Hex.{encode_upper}
 use Rattle.esc_zone.specs.declared.signer.Ds.{Ds}
-use Rattle.esc_zone.specs.Names.{is_name}
+use Rattle.esc_zone.specs.Names.{is_zone_name}
 
 -- what a record says of its name: a name server, a key's digest, an address
 pub data Data : Type 0 where
@@ -36,16 +36,16 @@ data_text (address (V4 a)) = codes "A " ++ ipv4_text (ipv4_octets a)
 data_text (address (V6 a)) = codes "AAAA " ++ ipv6_text (ipv6_segments a)
 
 -- a line: a name, this TTL, the class, and what is said of the name
-abbrev pub line_text : ℕ → List ℕ → List ℕ → List ℕ
-line_text ttl owner said = owner ++ codes ". " ++ decimal ttl ++ codes " IN " ++ said ++ codes "\n"
+abbrev pub record_line : ℕ → List ℕ → List ℕ → List ℕ
+record_line ttl owner said = owner ++ codes ". " ++ decimal ttl ++ codes " IN " ++ said ++ codes "\n"
 
 -- the line of a record
 abbrev pub record_text : RecordValue → List ℕ
-record_text r = line_text r.ttl r.owner (data_text r.said)
+record_text r = record_line r.ttl r.owner (data_text r.said)
 
 -- the names of a record are names
 abbrev pub HasNames : Data → Type 0
-HasNames (server name) = is_name name ≡ true
+HasNames (server name) = is_zone_name name ≡ true
 HasNames (signer ds) = ⊤
 HasNames (address a) = ⊤
 
@@ -55,7 +55,7 @@ IsSaid text = (d : Data) × (HasNames d × (data_text d ≡ text))
 
 -- its names have only labels of letters, digits, hyphens and underscores
 pub record IsRecord (r : RecordValue) : Type 0 where
-  pub owner : is_name r.owner ≡ true
+  pub owner : is_zone_name r.owner ≡ true
   pub names : HasNames r.said
 
 -- the text is the lines of records

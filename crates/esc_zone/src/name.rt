@@ -7,7 +7,7 @@ ghost use Rattle.std.proofs.Common.{rules};
 ghost use Rattle.std.specs.Cmp.{partial_order_from_own_ties};
 ghost use Rattle.std.specs.Cmp.Rules.{comparing};
 ghost use Rattle.std.specs.Ordering.{as_partial_cmp};
-ghost use Rattle.esc_zone.specs.Names.{is_dot, is_label_byte, is_label, are_labels, is_name};
+ghost use Rattle.esc_zone.specs.Names.{is_dot, is_label_byte, is_label, are_labels, is_zone_name};
 ghost use Rattle.esc_zone.specs.Names.{is_below, name_cmp, name_eq};
 
 use esc_bundle::NoMemory;
@@ -32,13 +32,13 @@ pub struct Name {
 
 impl Model for Name {
     ghost use Rattle.std.specs.Prelude.{List, ℕ, ◌≡◌, true};
-    ghost use Rattle.esc_zone.specs.Names.{is_name};
+    ghost use Rattle.esc_zone.specs.Names.{is_zone_name};
 
     ghost Value = { List ℕ };
 
     ghost view = { λ n. n.bytes.items };
 
-    ghost invariant = { λ n. is_name n.bytes.items ≡ true };
+    ghost invariant = { λ n. is_zone_name n.bytes.items ≡ true };
 }
 
 fn is_label_byte(byte: u8) -> bool
@@ -73,7 +73,7 @@ fn are_labels(text: &[u8]) -> bool
 
 /// Whether these bytes are a name.
 pub(crate) fn is_name(text: &[u8]) -> bool
-    ensures { result ≡ is_name text.now }
+    ensures { result ≡ is_zone_name text.now }
 {
     text.len() <= LONGEST_NAME && are_labels(text)
 }
@@ -81,7 +81,7 @@ pub(crate) fn is_name(text: &[u8]) -> bool
 impl Name {
     /// The name of these bytes, if they are one.
     pub fn from_bytes(alloc: Global, text: &[u8]) -> Result<Option<Name>, NoMemory>
-        ensures { IfOk result (λ n. n ≡ (if is_name text.now then Some text.now else None)) }
+        ensures { IfOk result (λ n. n ≡ (if is_zone_name text.now then Some text.now else None)) }
     {
         if !is_name(text) {
             return Ok(None);
@@ -94,7 +94,7 @@ impl Name {
     /// Its bytes.
     pub fn as_bytes(&self) -> &[u8]
         ensures value { result.now ≡ self.now }
-        ensures name { is_name self.now ≡ true }
+        ensures name { is_zone_name self.now ≡ true }
     {
         &self.bytes
     }

@@ -2,7 +2,7 @@
 
 ghost use Rattle.std.specs.Prelude.{◌≡◌, [], ◌++◌, OnOk, IfOk, string_bytes};
 ghost use Rattle.std.specs.Fmt.{decimal};
-ghost use Rattle.esc_zone.specs.Records.{record_text, data_text, line_text, IsSaid, AreLines};
+ghost use Rattle.esc_zone.specs.Records.{record_text, data_text, record_line, IsSaid, AreLines};
 ghost use Rattle.esc_zone.specs.Records.Data.{server, signer, address};
 
 use crate::name::Name;
@@ -73,7 +73,7 @@ fn server_text(alloc: Global, name: &[u8]) -> Result<Vec<u8>, NoMemory>
 
 // The line of a record.
 fn line_of(alloc: Global, ttl: u32, owner: &[u8], said: &[u8]) -> Result<Vec<u8>, NoMemory>
-    ensures { IfOk result (λ line. line.items ≡ line_text ttl owner.now said.now) }
+    ensures { IfOk result (λ line. line.items ≡ record_line ttl owner.now said.now) }
 {
     let ttl = number_text(alloc, ttl)?;
     let mut line = Vec::from_slice(alloc, owner)?;
@@ -116,7 +116,7 @@ impl Records {
     fn add(&mut self, owner: &Name, said: &[u8]) -> Result<(), NoMemory>
         requires { IsSaid said.now }
         ensures { OnOk result (self.new ≡ record self.old {
-          text = self.old.text ++ line_text self.old.ttl owner.now said.now;
+          text = self.old.text ++ record_line self.old.ttl owner.now said.now;
         }) }
     {
         let line = line_of(self.alloc, self.ttl, owner.as_bytes(), said)?;

@@ -35,7 +35,8 @@ pub(crate) fn has_rgp(rows: &[Row], word: &str) -> bool
 
 /// Whether a domain with these child rows is held.
 pub(crate) fn is_held(rows: &[Row]) -> bool
-    ensures { result ≡ (has_status (codes "clientHold") rows.now || has_status (codes "serverHold") rows.now) }
+    ensures { result ≡ (has_status (codes "clientHold") rows.now
+        || has_status (codes "serverHold") rows.now) }
 {
     has_status(rows, "clientHold") || has_status(rows, "serverHold")
 }
@@ -49,7 +50,8 @@ pub(crate) fn is_pending_delete_of_epp(rows: &[Row]) -> bool
 
 // Whether a domain with these child rows is about to be deleted, by either status.
 fn is_pending_delete(rows: &[Row]) -> bool
-    ensures { result ≡ (has_rgp (codes "pendingDelete") rows.now || has_status (codes "pendingDelete") rows.now) }
+    ensures { result ≡ (has_rgp (codes "pendingDelete") rows.now
+        || has_status (codes "pendingDelete") rows.now) }
 {
     has_rgp(rows, "pendingDelete") || is_pending_delete_of_epp(rows)
 }

@@ -1,7 +1,6 @@
 """The program's words, what it makes of them, and what it tells."""
 import argparse
 import os
-import sqlite3
 import sys
 import time
 from collections.abc import Callable
@@ -30,8 +29,9 @@ from packing.tables import KINDS
 from packing.tables import TablesFolder
 from packing.tables import Unordered
 from packing.telling import Report
+from packing.telling import ended
+from packing.telling import tell
 
-DONE, REFUSED, STOPPED = 0, 1, 3
 MOST_RESEND, SECONDS = 65_535, 2
 ABOUT = """pack_rde: writes a Full of RFC 8909 and RFC 9022 of the tables of a registry.
 Nothing is filled without an option that says so, and credentials are never
@@ -106,11 +106,6 @@ def words_of(given: list[str] | None) -> argparse.Namespace:
         if getattr(words, it) is None:
             parser.error(f'--{it} is needed: the tables do not have it')
     return words
-
-
-def tell(*lines: str) -> None:
-    for line in lines:
-        print(line, file=sys.stderr)
 
 
 class Shown(Progress):
@@ -194,28 +189,23 @@ def check_place(out: str) -> None:
             raise FileExistsError(17, 'something is at its place', it)
 
 
-def main(given: list[str] | None = None) -> int:
-    words, report = words_of(given), Report()
+def finished(words: argparse.Namespace, report: Report) -> dict[str, int]:
+    """Writes the deposit under its name, or nothing, and gives the number of objects by kind."""
+    check_place(words.out)
     part = part_of(words.out)
     try:
-        check_place(words.out)
-        try:
-            counts = packed(words, report)
-            faults = report.number_of_faults()
-            if faults and not words.anyway:
-                what = f'{faults} faults: it is not written (--anyway writes it nevertheless)'
-                raise Refusal(words.out, what)
-            os.rename(part, words.out)
-        except BaseException:
-            give_up(part)
-            raise
-    except Refusal as refusal:
-        tell(*report.lines(), f'pack_rde: {refusal}')
-        return REFUSED
-    except (OSError, sqlite3.Error) as error:
-        tell(f'pack_rde: {error}')
-        return STOPPED
-    tell(*report.lines())
-    for kind, number in counts.items():
-        print(f'{kind} {number}')
-    return DONE
+        counts = packed(words, report)
+        faults = report.number_of_faults()
+        if faults and not words.anyway:
+            what = f'{faults} faults: it is not written (--anyway writes it nevertheless)'
+            raise Refusal(words.out, what)
+        os.rename(part, words.out)
+    except BaseException:
+        give_up(part)
+        raise
+    return counts
+
+
+def main(given: list[str] | None = None) -> int:
+    words, report = words_of(given), Report()
+    return ended('pack_rde', report, lambda: finished(words, report))

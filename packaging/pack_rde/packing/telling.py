@@ -1,6 +1,13 @@
 """What is told of a deposit: notes, which are counted, and faults, which name their objects."""
+import sqlite3
+import sys
 from collections import Counter
+from collections.abc import Callable
 from enum import Enum
+
+from faults import Refusal
+
+DONE, REFUSED, STOPPED = 0, 1, 3
 
 # How many objects are named for one fault. Of the others the number is told.
 MOST_NAMED = 10
@@ -76,3 +83,24 @@ class FaultsAlone(Report):
     def fault(self, word: Fault, what: str, key: str, detail: str = '') -> None:
         if word is not Fault.NO_ROOM:
             self.to.fault(word, what, key, detail)
+
+
+def tell(*lines: str) -> None:
+    for line in lines:
+        print(line, file=sys.stderr)
+
+
+def ended(program: str, report: Report, work: Callable[[], dict[str, int]]) -> int:
+    """Does a program's work, tells what was told of it, prints its counts, and gives its status."""
+    try:
+        counts = work()
+    except Refusal as refusal:
+        tell(*report.lines(), f'{program}: {refusal}')
+        return REFUSED
+    except (OSError, sqlite3.Error) as error:
+        tell(f'{program}: {error}')
+        return STOPPED
+    tell(*report.lines())
+    for kind, number in counts.items():
+        print(f'{kind} {number}')
+    return DONE

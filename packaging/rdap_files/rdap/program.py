@@ -2,7 +2,6 @@
 import argparse
 import os
 import re
-import sqlite3
 import sys
 import time
 from collections import Counter
@@ -15,6 +14,8 @@ from packing.forms import is_moment
 from packing.tables import objects_of
 from packing.telling import Fault
 from packing.telling import Report
+from packing.telling import ended
+from packing.telling import tell
 from rdap.answers import ABSENT
 from rdap.answers import Answers
 from rdap.answers import Json
@@ -27,7 +28,6 @@ from rdap.names import is_host
 from rdap.tables import Tables
 from rdap.zone import Zone
 
-DONE, REFUSED, STOPPED = 0, 1, 3
 SECONDS = 2
 URL = re.compile(r'https?://[A-Za-z0-9.-]+(:\d{1,5})?(/[A-Za-z0-9._~-]+)*/?', re.ASCII)
 ABOUT = """rdap_files: writes the answers of RDAP (RFC 9083) of a registry's tables as
@@ -76,11 +76,6 @@ def words_of(given: list[str] | None) -> argparse.Namespace:
     add('--progress', action='store_true',
         help='say how far it is, also where standard error is no terminal')
     return parser.parse_args(given)
-
-
-def tell(*lines: str) -> None:
-    for line in lines:
-        print(line, file=sys.stderr)
 
 
 class Writer:
@@ -134,24 +129,19 @@ def write_answers(words: argparse.Namespace, folder: Folder, report: Report) -> 
     return writer.counts
 
 
-def main(given: list[str] | None = None) -> int:
-    words, report = words_of(given), Report()
+def finished(words: argparse.Namespace, report: Report) -> dict[str, int]:
+    """Writes the answers under the folder's name, or nothing, and counts them by kind."""
     folder = Folder(words.out)
     try:
-        try:
-            folder.begin()
-            counts = write_answers(words, folder, report)
-            folder.finish()
-        except BaseException:
-            folder.give_up()
-            raise
-    except Refusal as refusal:
-        tell(*report.lines(), f'rdap_files: {refusal}')
-        return REFUSED
-    except (OSError, sqlite3.Error) as error:
-        tell(f'rdap_files: {error}')
-        return STOPPED
-    tell(*report.lines())
-    for kind in KINDS:
-        print(f'{kind} {counts[kind]}')
-    return DONE
+        folder.begin()
+        counts = write_answers(words, folder, report)
+        folder.finish()
+    except BaseException:
+        folder.give_up()
+        raise
+    return {kind: counts[kind] for kind in KINDS}
+
+
+def main(given: list[str] | None = None) -> int:
+    words, report = words_of(given), Report()
+    return ended('rdap_files', report, lambda: finished(words, report))
