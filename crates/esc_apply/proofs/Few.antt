@@ -28,6 +28,7 @@ few_deletes Full ks = omega arith
 few_deletes Incr ks = omega arith
 few_deletes Diff ks = omega arith
 
+-- a deposit mentions no more keys than it has deletes and objects
 pub few_mentions : (d : DepositValue) → mention_count d ≤ length d.deletes + length d.contents
 few_mentions d = omega (
   arith,

@@ -77,6 +77,7 @@ front_more a b old new false e rest = record {
     longest zero c = omega arith
     longest (suc n) c = let is = (compares a b).1 (common_first a b old new n c) in absurd (cc (is, e))
 
+-- the common front that is counted is the longest
 pub is_common_front : (old new : List Step) → IsCommonFront old new (common_front old new)
 is_common_front [] new = record {
   common = record {

@@ -8,6 +8,7 @@ pub data Keys (a b : KeyName) : Type 0 where
   one : a ≡ b → Keys a b
   two : key_eq a b ≡ false → key_eq b a ≡ false → Keys a b
 
+-- two keys are one, or differ
 pub keys : (a b : KeyName) → Keys a b
 keys a b = by_test (key_eq a b) refl
   where

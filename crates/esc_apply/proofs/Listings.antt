@@ -114,6 +114,7 @@ kept : (b : Bool) (o : Option ObjectValue) → (b ≡ false → o ≡ None) → 
 kept true o none = refl
 kept false o none = sym (none refl)
 
+-- the tables of deposits can be listed in order
 pub tables_listed : (ds : List DepositValue) → (es : List Entry) × InOrder es × IsEntriesOf (tables ds) es
 tables_listed ds =
     let keys = all_mentioned (reverse ds) in

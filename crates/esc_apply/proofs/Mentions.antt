@@ -96,6 +96,7 @@ len-once (k ∷ ks) once =
     none_of [] all = refl
     none_of (l ∷ ls) all = rw all.0 (none_of ls all.1)
 
+-- there are as many keys as entries
 pub length-keys : {X : Type 0} (es : List (KeyName × X)) → length (keys_of es) ≡ length es
 length-keys [] = refl
 length-keys (e ∷ es) = omega (arith, length-keys es)
@@ -184,6 +185,7 @@ module _ (plain : List KeyName) (once_plain : IsDistinct key_eq plain) where
       by_test true known = refl
       by_test false known = known
 
+-- contents and the deletes beside them are the deposit's changes
 pub are_changes : (d : DepositValue) (plain : List KeyName) → IsDistinct key_eq (keys_of d.contents)
     → IsDistinct key_eq plain → ((q : KeyName) → list_any (key_eq q) plain ≡ (list_any (key_eq q)
     (deletes_of d) && not (Found q d.contents))) → AreChangesOf d (changes_of d plain)

@@ -22,6 +22,7 @@ fresh_all : (s : State) (j : ℕ) (ks : List KeyName)
 fresh_all s j [] none = tt
 fresh_all s j (k ∷ ks) none = ((λ i. none i k), fresh_all s j ks none)
 
+-- what can be put is new
 pub put_new : (targets : Keys) (s : State) (j : ℕ) (es : List Change) → CanBePut targets s j es → AreNew s j es
 put_new Vacant s j es are = are.new
 put_new Unknown s j es are = are
@@ -41,6 +42,7 @@ pub record AreChangesOf (d : DepositValue) (es : List Change) : Type 0 where
   pub each : (q : KeyName) → lookup (key_eq q) es ≡ cond (mentions q d) (Some (says q d)) None
   pub count : length es ≡ mention_count d
 
+-- all changes of a deposit are new where no before-image is kept
 pub new_all : (s : State) (j : ℕ) (d : DepositValue) (es : List Change)
     → AreChangesOf d es → s.undo j ≡ nothing → AreNew s j es
 new_all s j d es are none = record { once = are.once; fresh = fresh_all s j (keys_of es) none }
@@ -98,6 +100,7 @@ written_by-all s j es are =
     let undo = undo-written_by (taken s j) es in
     λ i. record { content = λ q. content q i; undo = undo i }
 
+-- what is restored has the first before-images back
 pub returns_first : (Held : State → Type 0) (s : State) (j : ℕ) (es : List Change)
     → IsEntriesOf (s.undo j) es → Held (taken s j) → Returns Held (restored s j) es
 returns_first Held s j es are held = record { now = taken s j; held = held; leads = written_by-all s j es are }

@@ -25,6 +25,7 @@ fault_or_no_memory {Y} told n (Refused m) refused is =
     let same : ◌≡◌ {A = Result Y Refusal} (Err m) (Err n) = sym (refused m refl) ∙ is in inl (cc)
 fault_or_no_memory told n NoMemory refused is = inr refl
 
+-- a result that gives the value or NoMemory answers what was asked
 pub answered : {X Y : Type 0} (view : X → Y) (result : Result X Fault) (told : Result Y Refusal)
     → GivesOrNoMemory view result told → Answered view result told
 answered view (Ok x) told is = record {

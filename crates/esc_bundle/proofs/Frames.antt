@@ -46,6 +46,7 @@ last_line_alone rest begins len =
     let nothing : drop 4 rest ≡ [] = nil_from_length _ (omega (arith, length-drop 4 rest)) in
     whole ∙ ap (λ (x : List ℕ). last_line ++ x) nothing
 
+-- where nothing more is read the frame ends
 pub next_end_takes : (before : List Named) (rest : List ℕ) → next_at before rest ≡ no_more → Ends before rest
 unfolding next_at
 next_end_takes before rest e = elim (cases_Bool (starts_with nat_eq rest last_line)) [
@@ -55,6 +56,7 @@ next_end_takes before rest e = elim (cases_Bool (starts_with nat_eq rest last_li
       absurd (let no : ◌≡◌ {A = Option (Named × List ℕ)} (Some s.0) None = done_is _ _ s.2 in cc)
 ]
 
+-- what is read next is a section
 pub next_section_takes : (before : List Named) (rest : List ℕ) (x : Named × List ℕ)
     → next_at before rest ≡ more_of x → section_at before rest ≡ Ok x
 unfolding next_at
@@ -69,6 +71,7 @@ pub record More (body : List ℕ) (before : List Named) (s : Named) (after : Lis
   pub text : body ≡ beginning_text (before ++ (s ∷ [])) ++ after
   pub sections : AreSections (before ++ (s ∷ []))
 
+-- a section more after those that were read
 pub one_more : (body : List ℕ) (before : List Named) (rest : List ℕ) (x : Named × List ℕ)
     → body ≡ beginning_text before ++ rest
     → AreSections before → next_at before rest ≡ more_of x → More body before x.0 x.1
@@ -94,12 +97,14 @@ pub frame_at_end : (steps : ℕ) (before : List Named) (rest : List ℕ)
 unfolding frame_after
 frame_at_end steps before rest next = rw next refl
 
+-- a section more takes one step
 pub frame_at_section : (steps : ℕ) (before : List Named) (rest : List ℕ) (x : Named × List ℕ)
     → next_at before rest ≡ more_of x
     → frame_after (suc steps) before rest ≡ frame_after steps (before ++ (x.0 ∷ [])) x.1
 unfolding frame_after
 frame_at_section steps before rest x next = rw next refl
 
+-- a fault ends the reading
 pub frame_at_fault : (steps : ℕ) (before : List Named) (rest : List ℕ) (n : Refusal)
     → next_at before rest ≡ Err n → frame_after (suc steps) before rest ≡ Err n
 unfolding frame_after
@@ -138,10 +143,12 @@ says (suc steps) body before rest len e old = says_by steps body before rest (ne
 
 -- ---- from the first line on
 
+-- a text over the limit is refused as such
 pub frame_over_limit : (body : List ℕ) → limit < length body → frame body ≡ Err OverLimit
 unfolding frame
 frame_over_limit body lt = let over : nat_le (length body) limit ≡ false = grind (arith, nat_tests) in rw over refl
 
+-- a text without the first line is no frame
 pub frame_elsewhere : (body : List ℕ) → length body ≤ limit
     → ((rest : List ℕ) → body ≢ first_line ++ rest) → frame body ≡ Err BrokenFrame
 unfolding frame
@@ -152,6 +159,7 @@ frame_elsewhere body le other =
       | inr no_line ↦ rw (within, no_line) refl
     ]
 
+-- a text with the first line is read from the line after it
 pub frame_begins : (body rest : List ℕ)
     → length body ≤ limit → body ≡ first_line ++ rest → frame body ≡ frame_after 65 [] rest
 unfolding frame
@@ -201,15 +209,19 @@ fault_by : (body : List ℕ) (n : Refusal) (r : Result (List Named) Refusal)
 fault_by body n (Ok ss) p q = absurd (no_bundle_fault body ss n p q)
 fault_by body n (Err m) p q = let same : m ≡ n = one_fault body m n p q in rw same refl
 
+-- what is read as a frame is a bundle of its sections
 pub frame_is_bundle : (body : List ℕ) (ss : List Named) → frame body ≡ Ok ss → IsBundle body ss
 frame_is_bundle body ss e = subst (Means body) e (means body)
 
+-- a bundle is read as its sections
 pub frame_of_bundle : (body : List ℕ) (ss : List Named) → IsBundle body ss → frame body ≡ Ok ss
 frame_of_bundle body ss p = bundle_by body ss (frame body) (means body) p
 
+-- what is refused has the fault
 pub frame_is_fault : (body : List ℕ) (n : Refusal) → frame body ≡ Err n → IsFault body n
 frame_is_fault body n e = subst (Means body) e (means body)
 
+-- a text with a fault is refused by it
 pub frame_of_fault : (body : List ℕ) (n : Refusal) → IsFault body n → frame body ≡ Err n
 frame_of_fault body n p = fault_by body n (frame body) (means body) p
 

@@ -24,11 +24,13 @@ at_step text found rest g = let few = g.few in
     let steps : 65 - length found ≡ suc (64 - length found) = omega arith in
     subst (λ (k : ℕ). frame_after k (views found) rest ≡ frame_after 65 [] text) steps g.left
 
+-- at the end all sections are gathered
 pub gathered_all : (text : List ℕ) (found : List Section) (rest : List ℕ) → Gathered text found rest
     → next_at (views found) rest ≡ no_more → frame_after 65 [] text ≡ Ok (views found)
 gathered_all text found rest g next =
     sym (at_step text found rest g) ∙ frame_at_end (64 - length found) (views found) rest next
 
+-- a refusal on the way is that of the text
 pub gathered_refused : (text : List ℕ) (found : List Section) (rest : List ℕ) (e : Fault) (n : Refusal)
     → Gathered text found rest
     → Refuses e (next_at (views found) rest) → e ≡ Refused n → frame_after 65 [] text ≡ Err n
@@ -42,6 +44,7 @@ room : (found : List Section) (rest : List ℕ) (s : Section) (after : List ℕ)
 room found rest s after next = let below : length (views found) < 64 =
     next_has_room (views found) rest (view s, after) next in simp length-map at below
 
+-- one more section is gathered
 pub gathered_more : (text : List ℕ)
     (found : List Section) (rest : List ℕ) (s : Section) (after : List ℕ) → Gathered text found rest
     → next_at (views found) rest ≡ more_of (view s, after) → Gathered text (found ++ (s ∷ [])) after
@@ -60,5 +63,6 @@ gathered_more text found rest s after g next =
           ≡ frame_after 65 [] text) more left);
     }
 
+-- at the start none is gathered
 pub gathered_none : (text : List ℕ) → Gathered text [] text
 gathered_none text = record { few = omega arith; left = refl }

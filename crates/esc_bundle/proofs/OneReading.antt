@@ -135,11 +135,13 @@ more_of x = Ok (Some x)
 abbrev pub no_more : Result (Option (Named × List ℕ)) Refusal
 no_more = Ok None
 
+-- a section that is there is read as the next one
 pub next_section_again : (before : List Named) (rest : List ℕ) (x : Named × List ℕ)
     → section_at before rest ≡ Ok x → next_at before rest ≡ more_of x
 unfolding next_at
 next_section_again before rest x read = rw (section_begins before rest x read, read) refl
 
+-- the last line is read as the end, if a section is before it
 pub next_end_again : (before : List Named) → 0 < length before → next_at before last_line ≡ no_more
 unfolding next_at end_at
 next_end_again before some = let one : nat_lt 0 (length before) ≡ true = grind (arith, nat_tests) in rw one refl
@@ -195,6 +197,7 @@ compared_cons s a x b y (inr (inl longer)) =
 compared_cons s a x b y (inr (inr longer)) =
     inr (inr (longer.0, longer.1, ap (λ (l : List Named). s ∷ l) longer.2, longer.3))
 
+-- a section moves from what follows to what was read
 pub move_over : (before : List Named) (s : Named) (more : List Named)
     → before ++ (s ∷ more) ≡ (before ++ (s ∷ [])) ++ more
 move_over before s more = simp append_assoc

@@ -49,6 +49,7 @@ parted_head true b c bs p same h e =
     whole (ap (λ (x : ℕ). x ∷ bs) (same refl))
 parted_head false b c bs p same h e = parted_tail b c bs (parted c bs) p h e
 
+-- a text that is parted at a byte is its two parts and the byte
 pub parted_takes : (c : ℕ) (bs : List ℕ) (p : List ℕ × List ℕ)
     → parted c bs ≡ Some p → bs ≡ p.0 ++ (c ∷ p.1)
 parted_takes c [] p e = absurd cc
@@ -56,11 +57,13 @@ parted_takes c (b ∷ bs) p e = parted_head (eqb b c) b c bs p (eqb-true b c) (�
 
 -- ---- what a section's line says
 
+-- what is known of a section's line whose length was told
 pub record Told (before : List Named) (name size : List ℕ) (value : ℕ) : Type 0 where
   pub form : is_length size ≡ true
   pub value_is : value ≡ digits_value 10 size
   pub stands : MayStand before name value
 
+-- a length that is told is that of the line
 pub length_takes : (before : List Named) (name size : List ℕ) (value : ℕ)
     → length_at before name size ≡ Ok value → Told before name size value
 unfolding length_at
@@ -111,6 +114,7 @@ parts_text name size after n is form small lt feed =
     ∙ ap (λ (x : List ℕ). (name ++ (32 ∷ (x ++ (10 ∷ (take n after ++ (10 ∷ []))))))
     ++ drop (n + 1) after) (sym size_is)
 
+-- what is read as a section is its text, and may be there
 pub section_takes : (before : List Named) (rest : List ℕ) (x : Named × List ℕ)
     → section_at before rest ≡ Ok x → (rest ≡ section_text x.0 ++ x.1) × MayFollow before x.0
 unfolding section_at
@@ -135,6 +139,7 @@ section_takes before rest x e =
 
 -- ---- sections in order
 
+-- no sections may stand
 pub no_sections : AreSections []
 no_sections = record {
   named = λ k d lt. absurd (omega arith);

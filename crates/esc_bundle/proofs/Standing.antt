@@ -27,6 +27,7 @@ pub record MayStand (before : List Named) (name : List ℕ) (size : ℕ) : Type 
 abbrev is_in_order : List Named → List ℕ → Bool
 is_in_order before name = not (length before == 0) || bytes_eq name envelope_name
 
+-- a section that passes its tests may stand
 pub stands_takes : (before : List Named) (name : List ℕ) (size : ℕ) (u : Unit {0})
     → stands_at before name size ≡ Ok u → MayStand before name size
 unfolding stands_at
@@ -47,6 +48,7 @@ stands_takes before name size u e =
       ];
     }
 
+-- a section that may stand passes its tests
 pub stands_again : (before : List Named) (name : List ℕ) (size : ℕ)
     → MayStand before name size → stands_at before name size ≡ Ok tt
 unfolding stands_at
@@ -83,6 +85,7 @@ pub record Capped (size : List ℕ) (value : ℕ) : Type 0 where
   pub exact : value ≤ limit → value ≡ digits_value 10 size
   pub over : limit < value → limit < digits_value 10 size
 
+-- a capped length is told where the section may stand
 pub length_told : (before : List Named) (name size : List ℕ) (value : ℕ) (u : Unit {0})
     → Capped size value → stands_at before name value ≡ Ok u → length_at before name size ≡ Ok value
 unfolding length_at
@@ -90,6 +93,7 @@ length_told before name size value u cap stands =
     let same = cap.exact (stands_takes before name value u stands).small in
     rw (cap.form, ← same, stands) refl
 
+-- a capped length is refused where the section may not stand
 pub length_refused : (before : List Named) (name size : List ℕ) (value : ℕ) (e : Fault) → Capped
     size value → Refuses e (stands_at before name value) → Refuses e (length_at before name size)
 unfolding length_at

@@ -9,9 +9,11 @@ use Rattle.esc_bundle.specs.Tests.{◌>>=◌, check, or_fault, Refuses}
 abbrev pub done : {A : Type 0} → A → Result A Refusal
 done x = Ok x
 
+-- two tests that came to the same value
 pub done_is : {A : Type 0} (x y : A) → done x ≡ done y → x ≡ y
 done_is x y e = cc
 
+-- a test that came to a value came to no fault
 pub done_or_fault : {A : Type 0} (x : A) (n : Refusal) → done x ≡ Err n → ⊥
 done_or_fault x n e = cc
 

@@ -46,6 +46,7 @@ among before (s ∷ ss) n old e = elim (bind_fault (stands_at before s.name (len
       (sym (move_over before s ss)) (among (before ++ (s ∷ [])) ss n more later)
 ]
 
+-- sections that are refused have no bundle
 pub is_unwritten : (ss : List Named) (n : Refusal) → bundle_of ss ≡ Err n → IsUnwritten ss n
 unfolding bundle_of
 is_unwritten ss n e = elim (cases_lt 0 (length ss)) [
@@ -86,6 +87,7 @@ disorder : (before : List Named) (s : Named) (after : List Named) (n : Refusal) 
 unfolding in_order
 disorder before s after n old fault = order_at [] before (s ∷ after) old ∙ rw fault refl
 
+-- sections without a bundle are refused
 pub unwritten_is : (ss : List Named) (n : Refusal) → IsUnwritten ss n → bundle_of ss ≡ Err n
 unwritten_is ss n (inl (none, one)) = bundle_of_none ss none ∙ ap (λ (k : Refusal). Err k) (sym one)
 unwritten_is ss n (inr (inl f)) =
@@ -99,6 +101,7 @@ unwritten_is ss n (inr (inr (all, some, long, four))) =
 
 -- ---- what is promised of a result for a list
 
+-- what is known of a result that makes a bundle
 pub record Made (ss : List Named) (result : Result (Vec ℕ) Fault) : Type 0 where
   pub written : IfOk result (λ v. IsBundle v.items ss)
   pub refused : IfErr result
@@ -111,6 +114,7 @@ pub record Made (ss : List Named) (result : Result (Vec ℕ) Fault) : Type 0 whe
   pub unmade : IfErr result (λ e. (n : Refusal) → e ≡ Refused n → bundle_of ss ≡ Err n)
   pub unwritten : IfErr result (λ e. (n : Refusal) → e ≡ Refused n → IsUnwritten ss n)
 
+-- a result that gives the bundle or NoMemory makes it
 pub made_of : (ss : List Named) (result : Result (Vec ℕ) Fault)
     → GivesOrNoMemory (λ v. v.items) result (bundle_of ss) → Made ss result
 made_of ss result told =

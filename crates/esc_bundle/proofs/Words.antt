@@ -58,6 +58,7 @@ abbrev Found : ℕ → List ℕ → Option ℕ → Type 0
 Found c bs o = o ≡ cond (ltb (position_or_len (λ b. eqb b c) bs) (length bs))
     (Some (position_or_len (λ b. eqb b c) bs)) None
 
+-- a text is parted at the byte that was found
 pub parted-found : (c : ℕ) (bs : List ℕ) (i : ℕ)
     → Found c bs (Some i) → parted c bs ≡ Some (take i bs, drop (i + 1) bs)
 parted-found c bs i h = elim (cases_Bool (ltb (position_or_len (λ b. eqb b c) bs) (length bs))) [
@@ -66,6 +67,7 @@ parted-found c bs i h = elim (cases_Bool (ltb (position_or_len (λ b. eqb b c) b
   | inr past ↦ absurd (cc (rw past at h))
 ]
 
+-- a text without the byte is not parted
 pub parted-not_found : (c : ℕ) (bs : List ℕ) → Found c bs None → parted c bs ≡ None
 parted-not_found c bs h = elim (cases_Bool (ltb (position_or_len (λ b. eqb b c) bs) (length bs))) [
   | inl within ↦ absurd (cc (rw within at h))
@@ -74,6 +76,7 @@ parted-not_found c bs h = elim (cases_Bool (ltb (position_or_len (λ b. eqb b c)
 
 -- ---- names
 
+-- a name among sections is one among their views
 pub list_any-views : (name : List ℕ) (ss : List Section)
     → list_any (λ s. bytes_eq s.name.now name) ss ≡ list_any (λ s. bytes_eq s.name name) (views ss)
 list_any-views name [] = refl
@@ -82,6 +85,7 @@ list_any-views name (s ∷ ss) = rw (list_any-views name ss) refl
 name_byte_small : (b : ℕ) → is_name_byte b ≡ true → b < 128
 name_byte_small b h = grind (arith, nat_tests)
 
+-- a name is ASCII
 pub IsAscii-name : (name : List ℕ) → list_all is_name_byte name ≡ true → IsAscii name
 IsAscii-name [] h = IsAscii-nil
 IsAscii-name (b ∷ bs) h = let p = and_parts _ _ h in IsAscii-cons b bs (name_byte_small b p.0) (IsAscii-name bs p.1)

@@ -51,10 +51,12 @@ in_order_again before (s ∷ ss) all =
 
 -- ---- the whole
 
+-- a text within the limit stays
 pub within_limit_is : (text : List ℕ) → length text ≤ limit → within_limit text ≡ Ok text
 unfolding within_limit
 within_limit_is text le = let fits : nat_le (length text) limit ≡ true = grind (arith, nat_tests) in rw fits refl
 
+-- a text over the limit is refused
 pub over_limit_is : (text : List ℕ) → limit < length text → within_limit text ≡ Err OverLimit
 unfolding within_limit
 over_limit_is text lt = let over : nat_le (length text) limit ≡ false = grind (arith, nat_tests) in rw over refl
@@ -66,15 +68,18 @@ within_limit_takes text body e =
     let c = check_done (nat_le (length text) limit) OverLimit _ body e in
     (done_is text body c.1, let fits : nat_le (length text) limit ≡ true = c.0 in grind (arith, nat_tests))
 
+-- no sections have no bundle
 pub bundle_of_none : (ss : List Named) → length ss ≡ 0 → bundle_of ss ≡ Err BrokenFrame
 unfolding bundle_of
 bundle_of_none ss none = let empty : nat_lt 0 (length ss) ≡ false = grind (arith, nat_tests) in rw empty refl
 
+-- sections have the bundle of their text, if they are in order
 pub bundle_of_some : (ss : List Named)
     → 0 < length ss → bundle_of ss ≡ (in_order [] ss >>= λ all. within_limit (bundle_text all))
 unfolding bundle_of
 bundle_of_some ss some = let one : nat_lt 0 (length ss) ≡ true = grind (arith, nat_tests) in rw one refl
 
+-- what is made of sections is a bundle of them
 pub bundle_of_is_bundle : (ss : List Named) (body : List ℕ) → bundle_of ss ≡ Ok body → IsBundle body ss
 unfolding bundle_of
 bundle_of_is_bundle ss body e =
@@ -90,27 +95,32 @@ bundle_of_is_bundle ss body e =
       size = subst (λ (t : List ℕ). length t ≤ limit) whole.0 whole.1;
     }
 
+-- a bundle's sections make it again
 pub bundle_of_bundle : (ss : List Named) (body : List ℕ) → IsBundle body ss → bundle_of ss ≡ Ok body
 bundle_of_bundle ss body is =
     let fits : length (bundle_text ss) ≤ limit = subst (λ (t : List ℕ). length t ≤ limit) is.text is.size in
     bundle_of_some ss is.some ∙ rw (in_order_again [] ss is.sections)
     (within_limit_is (bundle_text ss) fits ∙ ap done (sym is.text))
 
+-- sections that are refused have no bundle at all
 pub no_bundle : (ss : List Named) (n : Refusal)
     → bundle_of ss ≡ Err n → (body : List ℕ) → IsBundle body ss → ⊥
 no_bundle ss n fault body is = done_or_fault body n (sym (bundle_of_bundle ss body is) ∙ fault)
 
 -- ---- the steps of `bundle_of` on a list of parts
 
+-- no sections are refused as a broken frame
 pub none_made : (list : List (String Global × Vec ℕ)) (n : Refusal)
     → length list ≡ 0 → BrokenFrame ≡ n → bundle_of (map named list) ≡ Err n
 none_made list n none one =
     bundle_of_none (map named list) (length-map list named ∙ none) ∙ ap (λ (m : Refusal). Err m) one
 
+-- sections out of order are refused
 pub disorder_made : (list : List (String Global × Vec ℕ)) (n : Refusal)
     → 0 < length list → in_order [] (map named list) ≡ Err n → bundle_of (map named list) ≡ Err n
 disorder_made list n some fault = bundle_of_some (map named list) (rw (length-map list named) some) ∙ rw fault refl
 
+-- sections in order make their text, within the limit
 pub order_made : (list : List (String Global × Vec ℕ)) (all : List Named) → 0 < length list → in_order
     [] (map named list) ≡ Ok all → bundle_of (map named list) ≡ within_limit (bundle_text all)
 order_made list all some order = bundle_of_some (map named list) (rw (length-map list named) some) ∙ rw order refl
@@ -124,6 +134,7 @@ next_part : (list : List (String Global × Vec ℕ)) (i : ℕ) (item : String Gl
 next_part list i item lt is = ap (map named)
     (drop_more list i item lt ∙ ap (λ (x : String Global × Vec ℕ). x ∷ drop (i + 1) list) (sym is))
 
+-- one more section is in order
 pub in_order_more : (list : List (String Global × Vec ℕ)) (i : ℕ) (item : String Global × Vec ℕ)
     (before : List Named) (u : Unit {0}) → i < length list → item ≡ get_or list i item
     → stands_at before (named item).name (length (named item).bytes) ≡ Ok u → in_order before (map
@@ -131,6 +142,7 @@ pub in_order_more : (list : List (String Global × Vec ℕ)) (i : ℕ) (item : S
 unfolding in_order
 in_order_more list i item before u lt is stands = rw (next_part list i item lt is, stands) refl
 
+-- a section that may not stand ends it
 pub in_order_stops : (list : List (String Global × Vec ℕ)) (i : ℕ) (item : String Global × Vec ℕ)
     (before : List Named) (n : Refusal) → i < length list → item ≡ get_or list i item
     → stands_at before (named item).name (length (named item).bytes) ≡ Err n
@@ -138,6 +150,7 @@ pub in_order_stops : (list : List (String Global × Vec ℕ)) (i : ℕ) (item : 
 unfolding in_order
 in_order_stops list i item before n lt is fault = rw (next_part list i item lt is, fault) refl
 
+-- after the last section all are in order
 pub in_order_ends : (list : List (String Global × Vec ℕ)) (i : ℕ) (before : List Named)
     → length list ≤ i → in_order before (map named (drop i list)) ≡ Ok before
 unfolding in_order
@@ -147,6 +160,7 @@ in_order_ends list i before le = rw (drop_all i list le) refl
 abbrev pub text_of : List Section → ℕ → List ℕ
 text_of sections i = beginning_text (views (take i sections))
 
+-- one more section is written
 pub text_more : (sections : List Section) (i : ℕ) (d : Section) (text more : List ℕ)
     → i < length sections → text ≡ text_of sections i
     → more ≡ text ++ section_text (view (get_or sections i d)) → more ≡ text_of sections (i + 1)
@@ -156,6 +170,7 @@ text_more sections i d text more lt is pushed =
     pushed ∙ ap (λ (t : List ℕ). t ++ section_text s) is ∙ flat_map_more
     section_text first_line (views (take i sections)) s ∙ ap beginning_text (sym cut)
 
+-- after the last section the text is whole
 pub text_whole : (sections : List Section) (i : ℕ) (text more : List ℕ) → length sections ≤ i
     → text ≡ text_of sections i → more ≡ text ++ last_line → more ≡ bundle_text (views sections)
 text_whole sections i text more le is pushed = pushed ∙ ap (λ (t : List ℕ). t ++ last_line) is

@@ -40,6 +40,7 @@ pub at_each : (P : ℕ → Type 0) (rows : List ℕ)
     → ((k : ℕ) → k < length rows → P (slice_index rows k)) → (q : ℕ) → Contains rows q → P q
 at_each P rows all q there = subst P (get_or_default rows there.0 0 q there.1 ∙ there.2) (all there.0 there.1)
 
+-- what holds of each row holds at each place
 pub each_at : (P : ℕ → Type 0) (rows : List ℕ)
     → ((q : ℕ) → Contains rows q → P q) → (k : ℕ) → k < length rows → P (slice_index rows k)
 each_at P rows all k within = all (slice_index rows k) (k, within, get_or_default rows k (slice_index rows k) 0 within)
@@ -51,6 +52,7 @@ only_base m ok r Whole p is at = absurd (base_not_full m r p at (whole_is_full m
 only_base m ok r (At q) p is at = ap At (base_same m ok r q p is at)
 only_base m ok r Unlisted p is at = absurd (unlisted_not_at m r p is at)
 
+-- rows that come before the last one are rows
 pub last_in_range : (m : List MRow) (rows : List ℕ) (t : Option ℤ) (r : ℕ)
     → ComesLast m rows t r → InRange m (set.from_list rows)
 last_in_range m rows t r last q held = (last.last q (in_list rows q held)).0
@@ -105,6 +107,7 @@ module _ (m : List MRow) (rows : List ℕ)
     λ q other chain by. none_later q chain.0.held,
   )
 
+-- a row that goes at the end lengthens the latest chain
 pub lengthens : (m : List MRow) (rows : List ℕ) (t : Option ℤ) (p : Place) (r : ℕ)
     → GoesAtEnd m rows t p r → LengthensLatest m rows t p r
 lengthens m rows t p r goes h c s more at latest =

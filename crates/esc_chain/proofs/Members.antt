@@ -120,6 +120,7 @@ latest_at_is_held m h t c ok range latest =
     subst (AreHeldRows m h) (reverse-reverse c)
     (turned m h (reverse c) (back_is_held m h ok range t (reverse c) latest))
 
+-- the rows of the latest chain are held
 pub latest_is_held : (m : List MRow) (h : Rows) (c : List ℕ) → IsAccepted m → InRange m h
     → IsLatestChain m h c → AreHeldRows m h c
 latest_is_held m h = latest_at_is_held m h None

@@ -80,6 +80,7 @@ pub record IsUntilBelow (m : List MRow) (h : Rows) (t : Option ℤ) (n : ℕ) (g
   pub in_range : InRange m g
   pub each : (r : ℕ) → IsHeld g r ↔ ((r < n) × IsHeld h r × IsBy t (watermark_at m r))
 
+-- at the start no row is taken
 pub until_none : (m : List MRow) (h : Rows) (t : Option ℤ) (g : Rows) → g ≡ set.empty → IsUntilBelow m h t 0 g
 until_none m h t g is = record {
   in_range = none_in_range m g is;
@@ -90,6 +91,7 @@ until_none m h t g is = record {
   );
 }
 
+-- a row that does not count is left
 pub until_skip : (m : List MRow) (h : Rows) (t : Option ℤ) (n : ℕ) (g : Rows)
     → ((IsHeld h n × IsBy t (watermark_at m n)) → ⊥) → IsUntilBelow m h t n g → IsUntilBelow m h t (n + 1) g
 until_skip m h t n g not_here known = record {
@@ -101,6 +103,7 @@ until_skip m h t n g not_here known = record {
   );
 }
 
+-- a row that counts is taken
 pub until_more : (m : List MRow) (h : Rows) (t : Option ℤ) (n : ℕ) (g : Rows) → n < length m
     → (IsHeld h n × IsBy t (watermark_at m n))
     → IsUntilBelow m h t n g → IsUntilBelow m h t (n + 1) (set.insert g n)
@@ -131,6 +134,7 @@ until_more m h t n g within here known = record {
         set.contains-insert nat_cmp_total g n q
         ∙ ap (λ b. eq_by_cmp nat_cmp q n || b) is ∙ or-true (eq_by_cmp nat_cmp q n)
 
+-- after the last row all that count are taken
 pub until_all : (m : List MRow) (h : Rows) (t : Option ℤ) (g : Rows)
     → InRange m h → IsUntilBelow m h t (length m) g
     → AreUntil m h t g

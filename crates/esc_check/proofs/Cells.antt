@@ -1,9 +1,6 @@
 -- The cells of a row from one place on.
-use Rattle.std.proofs.Common.{◌≡◌, ℕ, ◌+◌, ◌<◌, true, false, List, [], ◌∷◌, length, drop, None}
-use Rattle.std.proofs.Common.{Some, slice_get, refl, sym, ap, ◌∙◌, subst}
-use Rattle.std.specs.Option.{unwrap_or}
-use Rattle.std.specs.Map.{lookup}
-use Rattle.std.specs.Str.{bytes_eq}
+use Rattle.std.proofs.Common.{◌≡◌, ℕ, ◌+◌, ◌<◌, List, [], ◌∷◌, length, drop, None, Some}
+use Rattle.std.proofs.Common.{slice_get, sym, ap, ◌∙◌, subst}
 use Rattle.std.proofs.lemmas.List.{drop_more}
 use Rattle.std.proofs.lemmas.Option.{none-some, slice_get_within, slice_get-get_or, get_or_from_slice_get}
 
@@ -17,19 +14,6 @@ pub cells_from : (cells : List Cell) (i : ℕ) (x : Cell)
 cells_from cells i x is =
     drop_more cells i x (slice_get_within cells i x (sym is))
     ∙ ap (λ (y : Cell). y ∷ drop (i + 1) cells) (get_or_from_slice_get cells i x x (sym is))
-
--- the text of a field among these cells
-abbrev pub cell_among : List ℕ → List Cell → List ℕ
-cell_among field cells = unwrap_or (lookup (bytes_eq field) cells) []
-
-pub cell_there : (field : List ℕ) (cells : List Cell) (i : ℕ) (x : Cell)
-    → Some x ≡ slice_get cells i → bytes_eq field x.0 ≡ true → cell_among field (drop i cells) ≡ x.1
-cell_there field cells i x is same = ap (cell_among field) (cells_from cells i x is) ∙ rw same refl
-
-pub cell_further : (field : List ℕ) (cells : List Cell) (i : ℕ) (x : Cell)
-    → Some x ≡ slice_get cells i → bytes_eq field x.0 ≡ false
-    → cell_among field (drop i cells) ≡ cell_among field (drop (i + 1) cells)
-cell_further field cells i x is other = ap (cell_among field) (cells_from cells i x is) ∙ rw other refl
 
 -- there is a cell at each place within
 pub cell_within : (cells : List Cell) (i n : ℕ)

@@ -12,6 +12,7 @@ use Rattle.std.proofs.lemmas.Map.Keys.{Less-from_sorted}
 use Rattle.esc_envelope.specs.Kinds.{kind_rank}
 use Rattle.esc_check.specs.FindingValue.{FindingValue, finding_cmp, listing_cmp}
 
+-- the order of the listing is total
 pub listing_total : IsTotalOrder listing_cmp
 listing_total =
     then_total (on_total (λ (f : FindingValue). f.code) nat_cmp_total)
@@ -48,6 +49,7 @@ not_before f g less =
     ap is_lt (listing_total.antisymm g f)
     ∙ not_above (listing_cmp f g) (slice_cmp nat_cmp f.other g.other) (sym five ∙ less)
 
+-- findings in order are sorted for the listing
 pub listing_sorted : (fs : List FindingValue) → IsStrictlySortedBy finding_cmp fs → IsSorted listing_cmp fs
 listing_sorted fs strict = λ k d low high. not_before (get_or fs k d)
     (get_or fs (k + 1) d) (Less-from_sorted finding_cmp fs k (k + 1) d strict (omega arith) high)

@@ -8,6 +8,7 @@ use Rattle.std.proofs.lemmas.List.Folds.{Any-from_list_any, list_any-from_Any}
 use Rattle.std.proofs.lemmas.Bool.{false≢true}
 use Rattle.esc_bundle.specs.ElementLaws.{nothing_in, first_in, later, first_or_later}
 
+-- an element of joined lists is in one of them
 pub from_pieces : {X A : Type 0} (g : X → List A) (xs : List X) (a : A)
     → Contains (flat_map g xs) a → (x : X) × Contains xs x × Contains (g x) a
 from_pieces g [] a h = absurd (nothing_in a h)
@@ -16,6 +17,7 @@ from_pieces g (y ∷ xs) a h = elim (Contains-append_cases (g y) (flat_map g xs)
   | inr rest ↦ let r = from_pieces g xs a rest in (r.0, later y r.0 xs r.1, r.2)
 ]
 
+-- an element of one of the lists is in the joined one
 pub in_pieces : {X A : Type 0} (g : X → List A) (xs : List X) (x : X) (a : A)
     → Contains xs x → Contains (g x) a → Contains (flat_map g xs) a
 in_pieces g [] x a has one = absurd (nothing_in x has)
@@ -24,6 +26,7 @@ in_pieces {X} {A} g (y ∷ xs) x a has one = elim (first_or_later y x xs has) [
   | inr rest ↦ Contains-append_right (g y) (flat_map g xs) a (in_pieces g xs x a rest one)
 ]
 
+-- an element of what is chosen comes from one that passed
 pub from_chosen : {X A : Type 0} (p : X → Bool) (g : X → A) (xs : List X) (a : A)
     → Contains (map g (filter p xs)) a → (x : X) × Contains xs x × (p x ≡ true) × (a ≡ g x)
 from_chosen p g [] a h = absurd (nothing_in a h)
@@ -40,6 +43,7 @@ from_chosen {X} {A} p g (y ∷ xs) a h = pick (p y) refl (from_chosen p g xs a) 
         first (inl same) = (y, first_in y xs, e, sym same)
         first (inr rest) = let r = again rest in (r.0, later y r.0 xs r.1, r.2, r.3)
 
+-- one that passed is among what is chosen
 pub in_chosen : {X A : Type 0} (p : X → Bool) (g : X → A) (xs : List X) (x : X)
     → Contains xs x → p x ≡ true → Contains (map g (filter p xs)) (g x)
 in_chosen p g [] x has passes = absurd (nothing_in x has)
@@ -59,6 +63,7 @@ pub from_any : {X : Type 0} (p : X → Bool) (xs : List X)
     → list_any p xs ≡ true → (x : X) × Contains xs x × (p x ≡ true)
 from_any p xs h = let (k, x, lt, is, passes) = Any-from_list_any p xs h in (x, (k, lt, is), passes)
 
+-- some element passes where one does
 pub any_from : {X : Type 0} (p : X → Bool) (xs : List X) (x : X)
     → Contains xs x → p x ≡ true → list_any p xs ≡ true
 any_from p xs x (k, lt, is) passes = list_any-from_Any p xs (k, x, lt, is, passes)

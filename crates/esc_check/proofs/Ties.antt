@@ -33,5 +33,6 @@ exact_findings a b h =
       other = (all i).1.1.1.1.1;
     }
 
+-- findings that are told to be equal are one
 pub exact_finding_eq : (a b : FindingValue) → finding_eq a b ≡ true → a ≡ b
 exact_finding_eq a b h = exact_findings a b ((Equal-is (finding_cmp a b)).0 h)

@@ -201,6 +201,7 @@ gathered_all w g es counts leads =
     ∙ ap (λ (p : KeyName → Bool). link_findings p (all_links es)) met in
     λ i. (own i ++ links i) ++ flat_map (count_findings (keys i)) counts
 
+-- what was gathered of all objects are their findings
 pub walked_found : (w : ℤ) (g : Gathering) (es : List Entry)
     (counts : List (Kind × ℕ)) (found v : List FindingValue) → InOrder es → Leads w (printed w) g [] es
     → found ≡ (g.found.items

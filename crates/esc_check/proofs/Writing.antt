@@ -18,6 +18,7 @@ use Rattle.esc_check.proofs.Cells.{Cell, cells_from}
 use Rattle.esc_check.specs.Export.{cell_line, row_lines, is_of_table, number_behind, child_lines}
 use Rattle.esc_check.specs.Export.{object_lines, is_of, export_lines}
 
+-- the text of two lists of lines
 pub text_of-append : (a b : List Line) → text_of (a ++ b) ≡ text_of a ++ text_of b
 text_of-append a b = flat_map-append line_text a b
 
@@ -25,6 +26,7 @@ text_of-append a b = flat_map-append line_text a b
 abbrev pub cells_text : KeyName → ℕ → List ℕ → List Cell → List ℕ
 cells_text k n table cells = text_of (map (cell_line k n table) cells)
 
+-- one more cell is written
 pub cells_more : (k : KeyName) (n : ℕ) (table : List ℕ) (cells : List Cell) (i : ℕ) (x : Cell)
     → Some x ≡ slice_get cells i
     → cells_text k n table (drop i cells)
@@ -48,6 +50,7 @@ children_more k rows i x within is =
     ∙ ap (λ (l : List RowValue). text_of (row_lines k (number_behind (take i rows) x) x)
     ++ text_of (child_lines k l (drop (i + 1) rows))) (sym next)
 
+-- no rows have no lines
 pub children_end : (k : KeyName) (earlier : List RowValue) → child_lines k earlier [] ≡ []
 unfolding child_lines
 children_end k earlier = refl
@@ -81,6 +84,7 @@ pub one_object : (kind : Kind) (k : KeyName) (o : ObjectValue) → is_kind k.kin
     → text_of (export_lines kind ((k, o) ∷ [])) ≡ text_of (object_lines k o)
 one_object kind k o same = rw (same, append-nil (object_lines k o)) refl
 
+-- an object of another kind has no lines
 pub no_object : (kind : Kind) (k : KeyName) (o : ObjectValue) → is_kind k.kind kind ≡ false
     → text_of (export_lines kind ((k, o) ∷ [])) ≡ []
 no_object kind k o other = rw other refl
@@ -94,6 +98,7 @@ counted rows i x within is =
     count_by_more_yes (is_of_table x.table) rows i x within
     (ap (is_of_table x.table) (sym is) ∙ own)
 
+-- a row's number among those of its table
 pub numbered : (rows : List RowValue) (i : ℕ) (x : RowValue) → i < length rows → x ≡ get_or rows i x
     → count_by (is_of_table x.table) (take i rows) + 1 ≡ number_behind (take i rows) x
 numbered rows i x within is =

@@ -83,14 +83,7 @@ pub fn is_domain(kind: Kind) -> bool
 pub fn cell<'a>(row: &'a Row, field: &str) -> &'a str
     ensures { result.now ≡ cell field.now row.now }
 {
-    for at in 0..row.len() {
-        if let Some((name, text)) = row.cell(at) {
-            if field == name {
-                return text;
-            }
-        }
-    }
-    ""
+    row.text(field).unwrap_or("")
 }
 
 fn has_created(kind: Kind) -> bool

@@ -14,10 +14,12 @@ all_shown : (text : List ℕ) → list_all (λ byte. not (byte == 10)) (map show
 all_shown [] = refl
 all_shown (byte ∷ rest) = rw (never_ends byte, all_shown rest) refl
 
+-- a text without control characters, and its line end, is one line
 pub shown_line : (text shown_bytes line : List ℕ)
     → shown_bytes ≡ map shown text → line ≡ shown_bytes ++ 10 ∷ [] → IsLine line
 shown_line text shown_bytes line is_shown ends = (map shown text, rw (ends, is_shown) refl, all_shown text)
 
+-- the line where there is no memory is one line
 pub unsaid_line : IsLine (codes "why: memory was refused\n")
 unsaid_line = (codes "why: memory was refused", refl, refl)
 

@@ -90,6 +90,7 @@ leaves_either : (rest : List ℕ) (b : Bool) (q : Read) (o : Option Read) (p : R
 leaves_either rest true q o p at_end later e = subst (Leaves rest) (same_Some q p e) (at_end refl)
 leaves_either rest false q o p at_end later e = later p e
 
+-- what a record leaves is the end of the text
 pub leaves : (cfg : Config) (s : State) (fields : List (List ℕ)) (field xs : List ℕ) (p : Read)
     → next_record cfg s fields field xs ≡ Some p → Leaves xs p
 unfolding next_record
@@ -103,6 +104,7 @@ leaves cfg s fields field (c ∷ rest) p e =
     (λ r f. leaves cfg then_state _ _ rest r f) e in
     (omega (arith, l.0), l.1)
 
+-- a record takes a byte at least
 pub takes_a_byte : (cfg : Config) (s : State) (xs : List ℕ) (p : Read)
     → ends_at_end s ≡ false → next_record cfg s [] [] xs ≡ Some p → length p.2 < length xs
 unfolding next_record
@@ -117,6 +119,7 @@ takes_a_byte cfg s (c ∷ rest) p h e =
 
 -- ---- more turns than bytes give no more records
 
+-- records are the same for any bound that is large enough
 pub turns_at : (cfg : Config) (n m : ℕ) (s : State) (xs : List ℕ)
     → ends_at_end s ≡ false → length xs < n → length xs < m → (o : Option Read)
     → next_record cfg s [] [] xs ≡ o → records_from cfg n s xs ≡ records_from cfg m s xs

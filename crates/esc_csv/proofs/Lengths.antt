@@ -106,6 +106,7 @@ each n [] h = All-nil (λ r. All (λ f. length f ≤ n) r)
 each n (r ∷ rs) h = All-cons (λ r. All (λ f. length f ≤ n) r)
     r rs (All-from_recursion (λ f. length f ≤ n) r h.0) (each n rs h.1)
 
+-- a field is no longer than its text
 pub fields_fit : (text : List ℕ) → All (λ r. All (λ f. length f ≤ length text) r) (records_of text)
 fields_fit text = each (length text) (records_of text) (records_short default_config
     (length (strip_bom text) + 1) (length text) st.StartRecord (strip_bom text) (stripped text))

@@ -40,6 +40,7 @@ lines_read [] = none_left st.StartRecord [] refl
 lines_read (fields ∷ rest) = line_read fields (text_of rest)
     ∙ ap (λ (records : List Line). read_back fields ∷ records) (lines_read rest)
 
+-- lines that were written are read back
 pub read_back_whole : (lines : List Line)
     → IsUnmarked (text_of lines) → records_of (text_of lines) ≡ map read_back lines
 read_back_whole lines unmarked = ap (records_at st.StartRecord) unmarked ∙ lines_read lines

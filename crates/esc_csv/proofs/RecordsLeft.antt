@@ -12,11 +12,13 @@ use Rattle.esc_csv.proofs.Automaton.{leaves, takes_a_byte, turns_at}
 
 -- ---- the records that are left, from a state of the library's reader
 
+-- at the end no records are left
 pub none_left : (s : State) (xs : List ℕ)
     → next_record default_config s [] [] xs ≡ None → records_at s xs ≡ []
 unfolding records_from
 none_left s xs e = rw (add-one, e) refl
 
+-- a record that is read is the first of those left
 pub one_less : (s : State) (xs : List ℕ) (p : Read) → ends_at_end s ≡ false
     → next_record default_config s [] [] xs ≡ Some p → records_at s xs ≡ p.0 ∷ records_at p.1 p.2
 unfolding records_from
@@ -59,9 +61,11 @@ ended s xs (Some ys) fields s2 h = ended_next s xs ys fields s2 (next_record def
 
 -- ---- the same of a reader of a slice
 
+-- what a slice still has to give
 abbrev pub slice_rest : Bor (List ℕ) → Option (List ℕ)
 slice_rest s = Some s.now
 
+-- a read that returns a record took the first one left
 pub took_record : (old new : Reader (Bor (List ℕ))) (fields : List (List ℕ))
     → IsReading old → ReadRecord slice_rest old new true fields → is_flexible new ≡ is_flexible old
     → took_first new ≡ true → IsReading new × (records_left old ≡ fields ∷ records_left new)
@@ -82,6 +86,7 @@ took_record old new fields was read flexible first =
       rw (was.source, source) t.2,
     )
 
+-- a read that returns none had none left
 pub no_record : (old new : Reader (Bor (List ℕ))) (fields : List (List ℕ))
     → IsReading old → ReadRecord slice_rest old new false fields → records_left old ≡ []
 no_record old new fields was read =

@@ -25,6 +25,7 @@ next_start : (first : ℕ) → day_count (pos (suc first)) 1 1 ≡ day_count (po
 next_start first = day_count-next_year (pos first)
     (pos (suc first)) (omega (arith, signed_arith)) (omega (arith, signed_arith))
 
+-- the year that is searched for is the year of the day
 pub year_is_at : (count first last n : ℕ) → first + count ≡ last → day_count (pos first) 1 1 + n
     < day_count (pos last) 1 1 → IsYearAt first last n (year_at count first n)
 unfolding year_at
@@ -55,6 +56,7 @@ pub record IsMonthAt (year : ℤ) (first n : ℕ) (m : ℕ × ℕ) : Type 0 wher
   pub inside : m.1 < days_in_month year m.0
   pub same : days_of_months year (m.0 - 1) + m.1 ≡ days_of_months year (first - 1) + n
 
+-- the month that is searched for is the month of the day
 pub month_is_at : (count : ℕ) (year : ℤ) (first n : ℕ)
     → 1 ≤ first → first + count ≡ 13 → days_of_months year (first - 1) + n < days_of_months year 12
     → IsMonthAt year first n (month_at count year first n)
@@ -90,6 +92,7 @@ pub record IsDayOf (n : ℕ) (d : Day) : Type 0 where
   pub real : is_day d ≡ true
   pub number : days_from_civil (pos d.year) d.month d.day ≡ pos n
 
+-- the day that is made of a number has it
 pub day_is_of : (n : ℕ) → n < 106_651 → IsDayOf n (day_of n)
 unfolding day_of
 day_is_of n low =

@@ -13,9 +13,11 @@ use Rattle.esc_envelope.specs.Sequences.{◌>>=◌}
 use Rattle.esc_envelope.specs.Members.{AreBelow, declared_count, count_entry, counts_among, counts_in}
 use Rattle.esc_envelope.proofs.KindOrder.{are_below_push}
 
+-- the counts that were read
 abbrev pub Counted : Type 0
 Counted = List (Kind × ℕ)
 
+-- counts to which a count was added, if there is one
 abbrev pub added : Counted → Option Counted
 added es = Some es
 
@@ -28,6 +30,7 @@ pub record AreCounted (json : Data) (items : List Kind) (i : ℕ) (es : Counted)
   pub front : after_front es (counts_among json (drop i items)) ≡ counts_among json items
   pub below : AreBelow i es
 
+-- at the first kind nothing is counted
 pub started : (json : Data) (items : List Kind) → AreCounted json items 0 []
 started json items = record { front = none (counts_among json items); below = tt }
   where
@@ -51,6 +54,7 @@ here_is : (items : List Kind) (i : ℕ) (d : Kind)
     → i < length items → drop i items ≡ get_or items i d ∷ drop (i + 1) items
 here_is items i d inside = drop_more items i d inside
 
+-- one more kind is counted
 pub next : (json : Data) (items : List Kind) (i : ℕ) (d : Kind) (count : Option ℕ) (es more : Counted)
     → i < length items → kind_rank (get_or items i d) ≡ i
     → declared_count json (get_or items i d) ≡ Some count
@@ -65,6 +69,7 @@ next json items i d count es more inside rank told is known =
       below = rw is (are_below_push i es kind count rank known.below);
     }
 
+-- a count that is none refuses all
 pub fails : (json : Data) (items : List Kind) (i : ℕ) (d : Kind) (es : Counted)
     → i < length items → declared_count json (get_or items i d) ≡ None
     → AreCounted json items i es → None ≡ counts_among json items
@@ -74,6 +79,7 @@ fails json items i d es inside told known =
     sym none ∙ ap (λ (l : List Kind). after_front es (counts_among json l))
     (sym (here_is items i d inside)) ∙ known.front
 
+-- after the last kind all are counted
 pub ended : (json : Data) (items : List Kind) (i : ℕ) (es : Counted)
     → length items ≤ i → AreCounted json items i es → Some es ≡ counts_among json items
 unfolding counts_among
@@ -88,6 +94,7 @@ pub among_all : (json : Data) → counts_among
 unfolding kinds
 among_all json = refl
 
+-- each kind stands at its rank
 pub all_ranks : (i : ℕ) (d : Kind)
     → i < 6 → kind_rank (get_or (Registrar ∷ Contact ∷ Host ∷ Domain ∷ Idn ∷ Nndn ∷ []) i d) ≡ i
 all_ranks zero d low = refl
@@ -98,6 +105,7 @@ all_ranks (suc (suc (suc (suc zero)))) d low = refl
 all_ranks (suc (suc (suc (suc (suc zero))))) d low = refl
 all_ranks (suc (suc (suc (suc (suc (suc i)))))) d low = absurd (omega arith)
 
+-- the counts of an object of JSON
 pub counted_of : (json : Data) (o : Option Counted) → is_some (as_object json) ≡ true → o
     ≡ counts_among json (Registrar ∷ Contact ∷ Host ∷ Domain ∷ Idn ∷ Nndn ∷ []) → o ≡ counts_in json
 counted_of json o object same = rw object (same ∙ among_all json)

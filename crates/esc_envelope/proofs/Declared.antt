@@ -124,6 +124,7 @@ is_table_of json t name fields key =
       keyed = is_key json t.fields t.key key;
     }
 
+-- a table that is read is one
 pub is_table : (json : Data) (t : TableValue) → table_of json ≡ Some t → IsTable t
 unfolding table_of
 is_table json t h =
@@ -137,6 +138,7 @@ is_table json t h =
 
 -- ---- the tables
 
+-- tables of contents that are read are such
 pub are_contents : (values : List Data) (tables : List TableValue)
     → contents_in values ≡ Some tables → All IsTable tables × AreContents tables
 are_contents values tables h =
@@ -148,6 +150,7 @@ are_contents values tables h =
       and_parts (have_distinct_names made.it) (have_one_parent made.it) right.0,
     )
 
+-- tables of deletes that are read are such
 pub are_deletes : (values : List Data) (tables : List TableValue)
     → deletes_in values ≡ Some tables → All IsTable tables × AreDeletes tables
 are_deletes values tables h =

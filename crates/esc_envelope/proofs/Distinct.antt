@@ -19,6 +19,7 @@ use Rattle.std.proofs.Math.Bool.{or-false, or-true, or_assoc, and-false}
 use Rattle.std.proofs.lemmas.Cmp.{nat_list_eq_equiv}
 use Rattle.esc_envelope.specs.DeclaredTables.{is_text_among, are_distinct, text_index}
 
+-- a text among values is one among their texts
 pub among_map : {A : Type 0} (v : A → List ℕ) (text : List ℕ) (xs : List A)
     → list_any (λ x. bytes_eq (v x) text) xs ≡ is_text_among text (map v xs)
 among_map v text xs = sym (list_any_map (λ other. bytes_eq other text) v xs)
@@ -40,6 +41,7 @@ one_more v xs i d all inside new known =
     ≡ are_distinct (map v (drop (i + 1) xs)) = rw other refl in
     sym same ∙ sym here ∙ known
 
+-- a text that comes again makes the list repeat
 pub repeated : {A : Type 0} (v : A → List ℕ) (xs : List A) (i : ℕ) (d : A) (all : Bool)
     → i < length xs → list_any (λ x. bytes_eq (v x) (v (get_or xs i d)))
     (take (length xs - (i + 1)) (drop (i + 1) xs)) ≡ true
@@ -55,6 +57,7 @@ repeated v xs i d all inside again known =
     let same : are_distinct (map v (get_or xs i d ∷ drop (i + 1) xs)) ≡ false = rw other refl in
     sym same ∙ sym here ∙ known
 
+-- at the end no text came again
 pub all_once : {A : Type 0} (v : A → List ℕ) (xs : List A) (i : ℕ) (all : Bool)
     → length xs ≤ i → are_distinct (map v (drop i xs)) ≡ all → true ≡ all
 unfolding are_distinct
@@ -96,6 +99,7 @@ still_distinct (y ∷ ys) x once new =
     among_push y x ys ∙ rw (none, nat_list_eq_equiv.symm x y, apart.0) refl in
     rw first (still_distinct ys x here.1 apart.1)
 
+-- a text that was there already makes the list repeat
 pub never_distinct : (xs : List (List ℕ)) (x : List ℕ) (rest : List (List ℕ))
     → is_text_among x xs ≡ true → are_distinct (xs ++ (x ∷ rest)) ≡ false
 unfolding are_distinct
@@ -122,6 +126,7 @@ pub record AreSeen {A : Type 0} (v : A → List ℕ)
   pub once : are_distinct (map v (take i xs)) ≡ true
   pub has : (q : Bor (List ℕ)) → contains text_order s q ≡ is_text_among q.now (map v (take i xs))
 
+-- at the start nothing was seen
 pub none_seen : {A : Type 0} (v : A → List ℕ) (xs : List A) (s : BTreeSet (Bor (List ℕ)))
     → s.keys ≡ [] → AreSeen v xs 0 s
 unfolding are_distinct
@@ -131,6 +136,7 @@ grown : {A : Type 0} (v : A → List ℕ) (xs : List A) (i : ℕ) (d : A)
     → i < length xs → map v (take (i + 1) xs) ≡ map v (take i xs) ++ (v (get_or xs i d) ∷ [])
 grown v xs i d inside = ap (map v) (take_more xs i d inside) ∙ map-append v (take i xs) (get_or xs i d ∷ [])
 
+-- one more text was seen
 pub one_seen : {A : Type 0} (v : A → List ℕ) (xs : List A) (i : ℕ) (d : A)
     (key : Bor (List ℕ)) (s n : BTreeSet (Bor (List ℕ))) → i < length xs → key.now ≡ v (get_or xs i d)
     → contains text_order s key ≡ false
@@ -147,6 +153,7 @@ one_seen v xs i d key s n inside is new updates known =
           ∙ sym (among_push q.now (v (get_or xs i d)) front) ∙ ap (is_text_among q.now) (sym more);
     }
 
+-- a text that was seen before makes the list repeat
 pub seen_twice : {A : Type 0} (v : A → List ℕ) (xs : List A) (i : ℕ) (d : A)
     (key : Bor (List ℕ)) (s : BTreeSet (Bor (List ℕ))) → i < length xs → key.now ≡ v (get_or xs i d)
     → contains text_order s key ≡ true → AreSeen v xs i s → are_distinct (map v xs) ≡ false

@@ -12,6 +12,7 @@ use Rattle.jiff_fmt.specs.Reader.{fraction_value}
 use Rattle.jiff_fmt.proofs.ReaderLemmas.{tenth, ten_pow-pos, fraction_value-nil, fraction_value-drop}
 use Rattle.esc_envelope.specs.Moment.{is_fraction}
 
+-- a digit is at most 9
 pub digit_at : (digits : List ℕ) (i : ℕ)
     → is_fraction digits ≡ true → i < length digits → get_or digits i 0 - 48 ≤ 9
 digit_at digits i fraction inside =
@@ -21,6 +22,7 @@ digit_at digits i fraction inside =
       | inr other ↦ let none = list_all_at is_ascii_digit digits i 0 inside other in absurd (cc)
     ]
 
+-- a fraction has nine digits at most
 pub length_at_most : (digits : List ℕ) → is_fraction digits ≡ true → length digits ≤ 9
 length_at_most digits fraction = grind (arith, nat_tests, fraction)
 
@@ -37,6 +39,7 @@ tenth_is i place low is =
     let whole : 10 ^ (9 - i) ≡ 10 * 10 ^ (9 - (i + 1)) = tenth (9 - i) (9 - (i + 1)) (omega arith) in
     (omega (arith, whole, is), omega (arith, whole, is))
 
+-- one more digit is read
 pub next_digit : (digits : List ℕ) (i value place : ℕ)
     → is_fraction digits ≡ true → i < length digits → IsReadUpTo digits i value place
     → IsReadUpTo digits (i + 1) (value + (get_or digits i 0 - 48) * (place / 10)) (place / 10)
@@ -54,6 +57,7 @@ next_digit digits i value place fraction inside known =
       small = omega (arith, known.small, tenths.1, worth);
     }
 
+-- at the end the fraction's value is read
 pub all_read : (digits : List ℕ) (i value place : ℕ)
     → length digits ≤ i → IsReadUpTo digits i value place → value ≡ fraction_value 9 digits
 all_read digits i value place past known =
@@ -61,6 +65,7 @@ all_read digits i value place past known =
     at_drop_all (fraction_value (9 - i)) digits i past ∙ fraction_value-nil (9 - i) in
     omega (arith, known.value, left)
 
+-- the value stays below a second
 pub stays_small : (digits : List ℕ) (i value place : ℕ)
     → IsReadUpTo digits i value place → value < 1_000_000_000
 stays_small digits i value place known = omega (arith, known.small, known.place, ten_pow-pos (9 - i))

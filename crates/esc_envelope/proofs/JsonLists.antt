@@ -10,6 +10,7 @@ items_back : (ds : List Data) → items_list (items_of ds) ≡ ds
 items_back [] = refl
 items_back (d ∷ ds) = ap (λ (l : List Data). d ∷ l) (items_back ds)
 
+-- an array of JSON is a list of its values
 pub array_is : (vs : List Value) (o : Option Items)
     → Some (items_view vs) ≡ o → Some (map view vs) ≡ option_map items_list o
 array_is vs o same = ap (λ (l : List Data). Some l) (sym (items_back (map view vs)))

@@ -63,6 +63,7 @@ insert_last [] kind n below = refl
 insert_last (e ∷ es) kind n (low, below) =
     rw (cmp_above kind e.0 low) (ap (λ (l : List (Kind × ℕ)). e ∷ l) (insert_last es kind n below))
 
+-- a count that is added comes after those of lower kinds
 pub are_below_push : (rank : ℕ) (es : List (Kind × ℕ)) (kind : Kind) (count : Option ℕ)
     → kind_rank kind ≡ rank → AreBelow rank es → AreBelow (rank + 1) (es ++ count_entry kind count)
 are_below_push rank [] kind None same below = tt

@@ -171,6 +171,7 @@ never text json is members right n (inr (inl (six, other, at, lacks))) =
 never text json is members right n (inr (inr (seven, other, at, lacks))) =
     right (subst LacksTables (sym (same_json text json other is at)) lacks)
 
+-- what a text's envelope or refusal says
 pub told : (text : List ℕ) → Told text
 told text = elim (there (json_of text)) [
   | inl none ↦ inr (NotJson, no_json text none, (inl (refl, none), from_five text))
@@ -202,14 +203,17 @@ of_least text n (inr (m, is, other)) least =
     let one : m ≡ n = one_refusal m n (other.1 n least.0) (least.1 m other.0) in
     is ∙ ap (λ (k : Refusal). Err k) one
 
+-- the refusal that is returned is the least that applies
 pub is_least : (text : List ℕ) (n : Refusal) → envelope_of text ≡ Err n → IsLeastEnvelopeFault text n
 is_least text n = least_of text n (told text)
 
+-- the least refusal that applies is returned
 pub least_is : (text : List ℕ) (n : Refusal) → IsLeastEnvelopeFault text n → envelope_of text ≡ Err n
 least_is text n = of_least text n (told text)
 
 -- ---- what is promised of a result for a text
 
+-- a refusal that is returned is that of the text
 pub fault_told : (text : List ℕ) (result : Result EnvelopeValue Fault)
     → IfOk result (λ e. envelope_of text ≡ Ok e)
     → IfErr result (λ e. (n : Refusal) → e ≡ Refused n → envelope_of text ≡ Err n)

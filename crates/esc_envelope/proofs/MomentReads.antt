@@ -18,6 +18,7 @@ use Rattle.esc_envelope.specs.Moment.{is_fraction, moment_value, IsWatermark}
 use Rattle.esc_envelope.specs.SequenceLaws.{bound}
 use Rattle.esc_envelope.specs.Watermark.{two_at, byte_at, before_z, day_at, clock_at, billionths_of, watermark_of}
 
+-- a value that is there
 abbrev pub some_of : {A : Type 0} → A → Option A
 some_of x = Some x
 
@@ -32,11 +33,13 @@ two_again n rest h =
     let value : (48 + n / 10 - 48) * 10 + (48 + n % 10 - 48) ≡ n = omega arith in
     rw test (ap (λ (v : ℕ). some_of (v, rest)) value)
 
+-- a day whose parts have their lengths
 pub record IsShortDay (d : Day) : Type 0 where
   pub year : d.year < 10000
   pub month : d.month < 100
   pub day : d.day < 100
 
+-- a day has parts of their lengths
 pub short_day : (d : Day) → is_day d ≡ true → IsShortDay d
 short_day d real =
     let month_length = days_in_month_bounds (pos d.year) d.month in
@@ -46,6 +49,7 @@ short_day d real =
       day = grind (arith, nat_tests, month_length);
     }
 
+-- a day's text is read as the day
 pub day_again : (d : Day) (rest : List ℕ) → is_day d ≡ true → day_at (day_text d ++ rest) ≡ Some (d, rest)
 unfolding day_at
 day_again d rest real =
@@ -85,6 +89,7 @@ billionths_again : (digits : List ℕ) → (0 < length digits → is_fraction di
 billionths_again [] form = ap (λ (n : ℕ). some_of n) (sym (fraction_value-nil 9))
 billionths_again (d ∷ ds) form = rw (form (omega arith)) refl
 
+-- a watermark's text is read as it
 pub watermark_again : (text : List ℕ) (w : ℤ) → IsWatermark text w → watermark_of text ≡ Some w
 unfolding watermark_of
 watermark_again text w m =
@@ -255,5 +260,6 @@ watermark_takes text w e =
       value = sym told.1 ∙ ap (moment_value day.it.0 clock.it.0) parts.value;
     }
 
+-- a text is read as a moment exactly where it is its watermark
 pub watermark_exact : (text : List ℕ) (w : ℤ) → (watermark_of text ≡ Some w) ↔ IsWatermark text w
 watermark_exact text w = (watermark_takes text w, watermark_again text w)

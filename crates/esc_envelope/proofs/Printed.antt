@@ -60,6 +60,7 @@ printed_more n some low =
       value = omega (arith, told.2, whole);
     }
 
+-- a number of nanoseconds is printed as its fraction
 pub is_printed : (n : ℕ) → n < 1_000_000_000 → IsPrinted n
 is_printed zero low = printed_zero
 is_printed (suc n) low = printed_more (suc n) (omega arith) low
@@ -99,10 +100,12 @@ watermark_printed (pos n) text e =
       value = rw (printed.value, day_told.number) (omega (arith, signed_arith, split_moment n));
     }
 
+-- the text of a moment is read back
 pub watermark_read_back : (w : ℤ) (text : List ℕ)
     → watermark_text_of w ≡ Some text → watermark_of text ≡ Some w
 watermark_read_back w text e = watermark_again text w (watermark_printed w text e)
 
+-- a moment of the years has a text
 pub watermark_has_text : (w : ℤ) → IsInYears w → IsSome (watermark_text_of w)
 unfolding watermark_text_of
 watermark_has_text (negsuc n) years = absurd (omega (arith, signed_arith))

@@ -28,6 +28,7 @@ pub record IsShort (d : Day) (c : Clock) (n : ℕ) : Type 0 where
   pub second : c.second < 100
   pub nanosecond : n < 1_000_000_000
 
+-- the library takes a day and a time
 abbrev pub IsTold : Day → Clock → ℕ → Type 0
 IsTold d c n = IsDate (to_z w16 d.year) (to_z w8 d.month) (to_z w8 d.day)
     × IsTime (to_z w8 c.hour) (to_z w8 c.minute) (to_z w8 c.second) (to_z w32 n)
@@ -116,6 +117,7 @@ taken civil d c n s told ymd hms =
     ) at hms in
     rw real (ap (λ (z : ℤ). Some z) (value_of_parts civil d c n date time))
 
+-- what the library does not take is no moment
 pub refused : (d : Day) (c : Clock) (n : ℕ) → IsShort d c n → (IsTold d c n → ⊥) → None ≡ value_if d c n
 refused d c n s told =
     elim (cases_Bool (is_day d && is_clock c)) [

@@ -95,6 +95,7 @@ are_parts civil n value low =
       fraction = omega (arith, left, civil.time.subsec_in);
     }
 
+-- what the library prints of a moment of the years is its text
 pub shown : (civil : DateTime) (w : ℤ) → civil_nanos civil ≡ w
     → IsInYears w → watermark_text_of w ≡ Some (iso_datetime_text civil ++ (90 ∷ []))
 unfolding watermark_text_of
@@ -108,6 +109,7 @@ shown civil (pos n) value years =
     rw (parts.year, parts.month, parts.day, parts.hour, parts.minute, parts.second, parts.fraction, fraction_is) refl in
     rw (lt-ltb _ _ low) (ap (λ (l : List ℕ). some_of l) text)
 
+-- a moment outside of the years has no text
 pub not_shown : (w : ℤ) → (IsInYears w → ⊥) → None ≡ watermark_text_of w
 unfolding watermark_text_of
 not_shown (negsuc n) out = refl

@@ -45,6 +45,7 @@ sound_in json e h =
     subst IsSound (same_ok _ e deletes.2)
     (All-append IsTable contents.0 deletes.0 what_is.0 what_was.0, what_is.1, what_was.1)
 
+-- an envelope that is read is sound
 pub sound : (text : List ℕ) (e : EnvelopeValue) → envelope_of text ≡ Ok e → IsSound e
 unfolding envelope_of Found
 sound text e h = let json = found NotJson (json_of text) envelope_in e h in sound_in json.0 e json.2

@@ -14,6 +14,7 @@ before_first : day_count (pos 1969) 12 31 ≡ 4_371_952
 unfolding day_count days_of_years days_of_months
 before_first = refl
 
+-- the days of the years have small numbers
 pub days_in_range : (y : ℤ) (m d : ℕ) → IsCivilDate y m d → IsBetween (pos 1970) (pos 2261) y
     → (pos 0 ≤ℤ days_from_civil y m d) × (days_from_civil y m d <ℤ pos 106_651)
 days_in_range y m d date years =
@@ -33,6 +34,7 @@ days_in_range y m d date years =
       omega (arith, signed_arith, days_from_civil-day_count y m d, below, last_day),
     )
 
+-- a date of the years is a moment of the years
 pub civil_in_years : (civil : DateTime)
     → IsBetween (pos 1970) (pos 2261) civil.date.year → IsInYears (civil_nanos civil)
 civil_in_years civil years =

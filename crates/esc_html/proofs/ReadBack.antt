@@ -59,6 +59,7 @@ one_read rest text b known = elim (either b 38) [
   ]
 ]
 
+-- an escaped text is read back as it was
 pub read_back : (text : List ℕ) → read_text (escaped text) ≡ Some text
 unfolding Reads
 read_back [] = refl

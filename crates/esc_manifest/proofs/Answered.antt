@@ -13,6 +13,7 @@ use Rattle.esc_manifest.proofs.RowLeast.{rows_least, least_rows}
 use Rattle.esc_manifest.proofs.Extensions.{extension_refused}
 use Rattle.esc_manifest.proofs.UnionLeast.{reported_at, reported_once}
 
+-- the fault that is returned is that of the rows
 pub is_fault : (m : List MRow) (result : Result (List MRow) ManifestFault)
     (o : Option (ManifestRefusal × ℕ)) → rows_fault m ≡ o → (rows_fault m ≡ None → result ≡ Ok m)
     → ((code : ManifestRefusal) (row : ℕ) → rows_fault m ≡ Some (code, row)
@@ -43,11 +44,13 @@ union_fault m more listed added (Some f) is code row e =
     let row_is : blamed code m more ≡ row = ap (λ (c : ManifestRefusal). blamed c m more) (sym number) ∙ at in
     ((f.1, least), subst (IsReportedAt m more code) row_is (reported_at m more listed added code f.1 least.0))
 
+-- an extension is refused by the least fault of the union
 pub union_least : (m more : List MRow) → IsAccepted m → IsAccepted more → (code : ManifestRefusal)
     (row : ℕ) → extension m more ≡ Err (code, row) → IsLeastOfUnion m more code row
 unfolding extension
 union_least m more listed added = union_fault m more listed added (rows_fault (extended m more)) refl
 
+-- the least fault of the union refuses the extension
 pub least_union : (m more : List MRow) → IsAccepted m → IsAccepted more → (code : ManifestRefusal)
     (row : ℕ) → IsLeastOfUnion m more code row → extension m more ≡ Err (code, row)
 least_union m more listed added code row ((s, least), at) =

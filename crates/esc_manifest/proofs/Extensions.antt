@@ -8,6 +8,7 @@ use Rattle.esc_manifest.specs.declared.fault.ManifestFault.TheVariants.{Refused,
 use Rattle.esc_manifest.specs.RowFaults.{rows_fault}
 use Rattle.esc_manifest.specs.Extension.{extended, union_or, blamed, extension}
 
+-- an extension whose union has a fault is refused by it
 pub extension_refused : (m more : List MRow) (code : ManifestRefusal) (row : ℕ) → rows_fault
     (extended m more) ≡ Some (code, row) → extension m more ≡ Err (code, blamed code m more)
 unfolding extension

@@ -20,6 +20,7 @@ pub record IsFirst (test : ℕ → Bool) (n : ℕ) (o : Option ℕ) : Type 0 whe
   pub none : o ≡ None → (k : ℕ) → k < n → test k ≡ false
   pub some : (r : ℕ) → o ≡ Some r → (r < n) × (test r ≡ true) × ((k : ℕ) → k < r → test k ≡ false)
 
+-- the first item of a list that passes a test
 pub first_of_list : {X : Type 0} (test : X → Bool) (xs : List X) (d : X)
     → IsFirst (λ r. test (get_or xs r d)) (length xs) (position test xs)
 first_of_list test xs d = record { none = λ e. fails_at test xs d e; some = λ r e. position-Some test xs r d e }
@@ -44,6 +45,7 @@ least_is test (suc n) r e = elim (least_before (least test n) (test n) n r e) [
   )
 ]
 
+-- the least number that passes a test
 pub first_of_numbers : (test : ℕ → Bool) (n : ℕ) → IsFirst test n (least test n)
 first_of_numbers test n = record { none = λ e. none_holds test n e; some = λ r e. least_is test n r e }
 
@@ -65,6 +67,7 @@ pub record AtLeastRow (stands : ManifestRefusal → ℕ → Type 0)
   pub none : o ≡ None → (s : ℕ) → stands code s → ⊥
   pub some : (row : ℕ) → o ≡ Some row → stands code row × ((s : ℕ) → stands code s → row ≤ s)
 
+-- a fault that was found, with none before it
 pub found : (stands : ManifestRefusal → ℕ → Type 0) (low : ℕ) (code : ManifestRefusal) (row : ℕ)
     → stands code row → IsLeastAmong stands low code row → LeastFrom stands low (Some (code, row))
 found stands low code row here all = record {
@@ -127,10 +130,12 @@ lower stands low high o gap later = record {
 
 -- ---- faults at rows that count from 1
 
+-- the row below the heading
 abbrev pub up : Option ℕ → Option ℕ
 up None = None
 up (Some r) = Some (r + 1)
 
+-- a fault at an index is one at its row
 pub fault_or_is : (code : ManifestRefusal) (o : Option ℕ) (next : Option (ManifestRefusal × ℕ))
     → fault_or code o next ≡ index_or code (up o) next
 fault_or_is code None next = refl
@@ -141,6 +146,7 @@ abbrev pub StandsBy : (ManifestRefusal → ℕ → Type 0)
     → (ManifestRefusal → ℕ → Bool) → ℕ → ManifestRefusal → ℕ → Type 0
 StandsBy above has n code row = above code row ⊎ ((r : ℕ) × (r < n) × (row ≡ suc r) × (has code r ≡ true))
 
+-- the first row that has a fault
 pub at_row : (above : ManifestRefusal → ℕ → Type 0) (has : ManifestRefusal → ℕ → Bool)
     (n : ℕ) (code : ManifestRefusal) (o : Option ℕ) → ((s : ℕ) → above code s → ⊥)
     → IsFirst (has code) n o → AtLeastRow (StandsBy above has n) code (up o)
@@ -173,6 +179,7 @@ at_row above has n code (Some r) never first = record {
 
 -- ---- the least of all
 
+-- the fault that is returned is the least
 pub least_of : (stands : ManifestRefusal → ℕ → Type 0) (o : Option (ManifestRefusal × ℕ)) → LeastFrom
     stands 0 o → (code : ManifestRefusal) (row : ℕ) → o ≡ Some (code, row) → IsLeastOf stands code row
 least_of stands o all code row e = let l = all.some code row e in (l.0, λ k s there. l.1 k s (omega arith) there)
@@ -184,6 +191,7 @@ one_least a c b d (inl lt) (inr (same, le)) = absurd (omega (arith, lt, ap manif
 one_least a c b d (inr (same, le)) (inl gt) = absurd (omega (arith, gt, ap manifest_number same))
 one_least a c b d (inr (same, le)) (inr (back, ge)) = (same, omega arith)
 
+-- the least fault is returned
 pub is_least : (stands : ManifestRefusal → ℕ → Type 0) (o : Option (ManifestRefusal × ℕ)) → LeastFrom
     stands 0 o → (code : ManifestRefusal) (row : ℕ) → IsLeastOf stands code row → o ≡ Some (code, row)
 is_least stands None all code row least = absurd (all.none refl code row (omega arith) least.0)

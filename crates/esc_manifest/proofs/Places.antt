@@ -64,6 +64,7 @@ place_put m i row key p s n inside is own here alone put known r lt = elim (case
 some_is : (a b : Place) → ◌≡◌ {A = Option Place} (Some a) (Some b) → a ≡ b
 some_is a b e = cc
 
+-- where the map has each id's place none has moved
 pub ids_stay : (m : List MRow) (places : BTreeMap (Bor (List ℕ)) Place)
     → HavePlaces m places → first_against_earlier moved_id m ≡ None
 ids_stay m places have = no_earlier moved_id m (λ q r before lt. not_moved_id (row_at m q) (row_at m r)
@@ -86,6 +87,7 @@ named_later places Diff (Some prev) id p w at e = elim (cases_Bool (bytes_eq id 
   | inr off ↦ rw off refl
 ]
 
+-- where no row names a later one all name earlier ones
 pub names_are_earlier : (m : List MRow) (places : BTreeMap (Bor (List ℕ)) Place) → HavePlaces m places
     → list_all (λ row. not (names_later places row)) m ≡ true → first_against_any follows_later m ≡ None
 names_are_earlier m places have all = against_none follows_later m (λ q r in_q in_r.

@@ -14,6 +14,7 @@ use Rattle.esc_manifest.specs.declared.row.MRow.{MRow}
 use Rattle.esc_manifest.specs.RowFaults.{same_revision}
 use Rattle.esc_manifest.proofs.RowTests.{same_revision-Decides}
 
+-- a row's place and resend
 abbrev pub Revision : Type 0
 Revision = Place × ℕ
 
@@ -24,6 +25,7 @@ place_cmp = (derived.cmp-value).it
 abbrev pub revision_cmp : Revision → Revision → Ordering
 revision_cmp a b = ordering_then (place_cmp a.0 b.0) (nat_cmp a.1 b.1)
 
+-- the revision of a row
 abbrev pub revision_of : MRow → Revision
 revision_of row = (row.header.place, row.header.resend)
 
@@ -33,9 +35,11 @@ place_itself w Diff = rw (tied_itself int_cmp_total w) refl
 place_itself w Incr = rw (tied_itself int_cmp_total w) refl
 place_itself w Full = rw (tied_itself int_cmp_total w) refl
 
+-- a revision is equal to itself
 pub revision_itself : (a : Revision) → is_eq (revision_cmp a a) ≡ true
 revision_itself a = rw (place_itself a.0.watermark a.0.kind, tied_itself nat_cmp_total a.1) refl
 
+-- rows of one revision have one key
 pub one_revision_key : (q r : MRow) → same_revision q r ≡ true → revision_of q ≡ revision_of r
 one_revision_key q r same =
     let parts = (same_revision-Decides q r).0 same in

@@ -127,6 +127,7 @@ few_low : (m : List MRow) → length m ≤ most_manifest_rows
 few_low m few k s lt (inl there) = absurd (omega (arith, there.2))
 few_low m few k s lt (inr (r, below, is, holds)) = absurd (omega (arith, lt, (of_row m k r holds).0))
 
+-- the fault of rows is the least of all
 pub least_from : (m : List MRow) → LeastFrom (IsManifestFault m) 0 (rows_fault m)
 unfolding rows_fault
 least_from m = elim (cases_Bool (nat_lt most_manifest_rows (length m))) [
@@ -136,16 +137,19 @@ least_from m = elim (cases_Bool (nat_lt most_manifest_rows (length m))) [
       (lower (IsManifestFault m) 0 4 (chain m) (λ k s le lt. few_low m within k s lt) (all_numbers m))
 ]
 
+-- the fault that is returned is the least
 pub rows_least : (m : List MRow) (code : ManifestRefusal) (row : ℕ)
     → rows_fault m ≡ Some (code, row) → IsLeastManifestFault m code row
 rows_least m = least_of (IsManifestFault m) (rows_fault m) (least_from m)
 
+-- the least fault is returned
 pub least_rows : (m : List MRow) (code : ManifestRefusal) (row : ℕ)
     → IsLeastManifestFault m code row → rows_fault m ≡ Some (code, row)
 least_rows m = is_least (IsManifestFault m) (rows_fault m) (least_from m)
 
 -- ---- the row of a fault
 
+-- a fault is at a row that a manifest can have
 pub fault_row : (m : List MRow) (code : ManifestRefusal) (row : ℕ)
     → IsLeastManifestFault m code row → row ≤ 4096
 fault_row m code row (inl there, least) = omega (arith, there.1)

@@ -81,6 +81,7 @@ next_number text code o next over first later =
     (at_row (IsFaultAbove text) (λ c r. is_faulty (record_at (records_below text) r) c)
     (length (records_below text)) code o (λ s. not_above text code s over) first) later)
 
+-- the faults of the records below the heading
 abbrev pub below_chain : List ℕ → Option (ManifestRefusal × ℕ)
 below_chain text =
     fault_or WrongId (position lacks_id (records_below text))
@@ -220,6 +221,7 @@ or_next : (o next : Option (ManifestRefusal × ℕ)) (f : ManifestRefusal × ℕ
 or_next None next f e = inr (refl, e)
 or_next (Some g) next f e = inl e
 
+-- the fault that is returned of a text is its least
 pub text_least : (text : List ℕ) (code : ManifestRefusal) (row : ℕ)
     → manifest_of text ≡ Err (code, row) → IsLeastInText text code row
 unfolding manifest_of
@@ -255,6 +257,7 @@ nothing_first : (text : List ℕ) (o : Option (ManifestRefusal × ℕ)) → Leas
 nothing_first text None all none = refl
 nothing_first text (Some f) all none = absurd (none f.0 f.1 (least_of (IsFaultInText text) (Some f) all f.0 f.1 refl).0)
 
+-- the least fault of a text is returned
 pub least_text : (text : List ℕ) (code : ManifestRefusal) (row : ℕ)
     → IsLeastInText text code row → manifest_of text ≡ Err (code, row)
 least_text text code row (inl least) =
@@ -293,6 +296,7 @@ own_row text code row least (inr (r, lt, is, holds)) =
     let inside : suc r ≤ length (records_of text) - 1 = simp length-drop at lt in
     omega (arith, is)
 
+-- a fault of a text is at a row that a manifest can have
 pub text_row : (text : List ℕ) (code : ManifestRefusal) (row : ℕ) → IsLeastInText text code row → row ≤ 4096
 text_row text code row (inl least) = own_row text code row least least.0
 text_row text code row (inr (none, m, whole, least)) = fault_row m code row least

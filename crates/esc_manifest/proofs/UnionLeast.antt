@@ -311,6 +311,7 @@ never_whole code q r one (inr (inl e)) = let eleven = e.0 in absurd cc
 never_whole code q r one (inr (inr (inl e))) = let twelve = e.0 in absurd cc
 never_whole code q r one (inr (inr (inr e))) = let thirteen = e.0 in absurd cc
 
+-- a fault is reported at one row
 pub reported_once : (m more : List MRow) (code : ManifestRefusal) (a b : ℕ)
     → IsReportedAt m more code a → IsReportedAt m more code b → a ≡ b
 reported_once m more code a b (inl (one, p)) (inl (also, q)) = p ∙ sym q

@@ -200,6 +200,7 @@ object_takes bytes o are h =
     let small : is_small_object o ≡ true = rw (few, small_rows is_utf8 (object_rows o) good) refl in
     rw small (ap Some (sym is))
 
+-- an object that is read has the record
 pub found_is : (r : Result (Option ObjectValue) NoMemory) (bytes : List ℕ)
     → AreBytes bytes → IfOk r (λ found. found ≡ object_of_record is_utf8 bytes)
     → IfOk r (λ found. IfSome found (λ o. record_of o ≡ Some bytes))
@@ -207,6 +208,7 @@ found_is (Ok None) bytes are h = tt
 found_is (Ok (Some o)) bytes are h = object_takes bytes o are (sym h)
 found_is (Err e) bytes are h = tt
 
+-- where no object is read none has the record
 pub none_is : (r : Result (Option ObjectValue) NoMemory) (bytes : List ℕ)
     → IfOk r (λ found. found ≡ object_of_record is_utf8 bytes)
     → IfOk r (λ found. IfNone found ((o : ObjectValue) → IsOfTexts o → record_of o ≢ Some bytes))

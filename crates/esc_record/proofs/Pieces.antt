@@ -34,6 +34,7 @@ pub record Took {A : Type 0} (text : A → List ℕ)
   pub good : Good p.0
   pub rest : AreBytes p.1
 
+-- what a reader takes is the text of what it gives
 abbrev pub Takes : {A : Type 0}
     → (List ℕ → Option (A × List ℕ)) → (A → List ℕ) → (A → Type 0) → Type 0
 Takes {A} one text Good =
@@ -44,6 +45,7 @@ bytes_drop n bytes are i = rw get_or-drop (are (n + i))
 
 -- ---- so many bytes
 
+-- a text of a known length is cut off again
 pub cut_again : (a rest : List ℕ) (n : ℕ) → length a ≡ n → cut n (a ++ rest) ≡ Some (a, rest)
 cut_again a rest n is =
     let long : nat_lt (length (a ++ rest)) n ≡ false = let l = length-append a rest in grind (arith, nat_tests) in
@@ -71,6 +73,7 @@ cut_takes n bytes p h = elim (cases_Bool (nat_lt (length bytes) n)) [
 
 -- ---- numbers
 
+-- a number is read back
 pub number_again : Again number_in_front number_bytes (λ n. n < 2 ^ 32)
 unfolding number_bytes
 number_again n rest small = rw (cut_again (to_be_bytes w32 n) rest 4 refl, from_be_bytes-to_be_bytes_4 n small) refl
@@ -86,6 +89,7 @@ short_bytes n bytes are i = elim (cases_lt i n) [
       get_or_past (take n bytes) i 0 (let l = length-take n bytes in omega arith) in rw e (omega arith)
 ]
 
+-- what is read as a number is its text
 pub number_takes : Takes number_in_front number_bytes (λ n. n < 2 ^ 32)
 unfolding number_bytes
 number_takes bytes p are h =
@@ -101,6 +105,7 @@ number_takes bytes p are h =
 
 -- ---- lists of things
 
+-- many things are read back
 pub many_again : {A : Type 0} (one : List ℕ → Option (A × List ℕ))
     (text : A → List ℕ) (Good : A → Type 0) → Again one text Good
     → (xs : List A) (rest : List ℕ)
@@ -112,6 +117,7 @@ many_again one text Good again (x ∷ xs) rest all =
     (append_assoc (text x) (flat_map text xs) rest) ∙ again x (flat_map text xs ++ rest) all.0) in
     rw (first, many_again one text Good again xs rest all.1) refl
 
+-- what is known of many things that were read
 pub record TookMany {A : Type 0} (text : A → List ℕ)
     (Good : A → Type 0) (n : ℕ) (bytes : List ℕ) (p : List A × List ℕ) : Type 0 where
   pub is : bytes ≡ flat_map text p.0 ++ p.1
@@ -119,6 +125,7 @@ pub record TookMany {A : Type 0} (text : A → List ℕ)
   pub good : AllByRecursion Good p.0
   pub rest : AreBytes p.1
 
+-- what is read as many things is their texts
 pub many_takes : {A : Type 0} (one : List ℕ → Option (A × List ℕ))
     (text : A → List ℕ) (Good : A → Type 0) → Takes one text Good
     → (n : ℕ) (bytes : List ℕ) (p : List A × List ℕ)
@@ -144,9 +151,11 @@ many_takes {A} one text Good takes (suc n) bytes p are h =
 
 -- ---- texts, cells, rows
 
+-- a text that can be written
 abbrev pub IsGoodText : (List ℕ → Bool) → List ℕ → Type 0
 IsGoodText is_text t = (length t < 2 ^ 32) × (is_text t ≡ true)
 
+-- a text is read back
 pub text_again : (is_text : List ℕ → Bool) → Again (text_in_front is_text) text_bytes (IsGoodText is_text)
 text_again is_text t rest good =
     let e : text_bytes t ++ rest ≡ number_bytes (length t) ++ (t ++ rest) =
@@ -154,6 +163,7 @@ text_again is_text t rest good =
     ap (text_in_front is_text) e
     ∙ rw (number_again (length t) (t ++ rest) good.0, cut_again t rest (length t) refl, good.1) refl
 
+-- what is read as a text is its text
 pub text_takes : (is_text : List ℕ → Bool) → Takes (text_in_front is_text) text_bytes (IsGoodText is_text)
 text_takes is_text bytes p are h =
     let a = bound (number_in_front bytes) (λ n. cut
@@ -175,9 +185,11 @@ text_takes is_text bytes p are h =
       | inr bad ↦ let none : None ≡ Some p = rw bad at b.goes in absurd cc
     ]
 
+-- a cell that can be written
 abbrev pub IsGoodCell : (List ℕ → Bool) → List ℕ × List ℕ → Type 0
 IsGoodCell is_text cell = IsGoodText is_text cell.0 × IsGoodText is_text cell.1
 
+-- a cell is read back
 pub cell_again : (is_text : List ℕ → Bool) → Again (cell_in_front is_text) cell_bytes (IsGoodCell is_text)
 unfolding cell_in_front
 cell_again is_text c rest good =
@@ -188,6 +200,7 @@ cell_again is_text c rest good =
       text_again is_text c.1 rest good.1,
     ) refl
 
+-- what is read as a cell is its text
 pub cell_takes : (is_text : List ℕ → Bool) → Takes (cell_in_front is_text) cell_bytes (IsGoodCell is_text)
 unfolding cell_in_front
 cell_takes is_text bytes p are h =
@@ -205,11 +218,13 @@ cell_takes is_text bytes p are h =
       rest = v.rest;
     })
 
+-- a row that can be written
 pub record IsGoodRow (is_text : List ℕ → Bool) (row : RowValue) : Type 0 where
   pub table : IsGoodText is_text row.table
   pub few : length row.cells < 2 ^ 32
   pub cells : AllByRecursion (IsGoodCell is_text) row.cells
 
+-- a row is read back
 pub row_again : (is_text : List ℕ → Bool) → Again (row_in_front is_text) row_bytes (IsGoodRow is_text)
 unfolding row_in_front
 row_again is_text r rest good =
@@ -226,6 +241,7 @@ row_again is_text r rest good =
           cell_bytes (IsGoodCell is_text) (cell_again is_text) r.cells rest good.cells,
     ) refl
 
+-- what is read as a row is its text
 pub row_takes : (is_text : List ℕ → Bool) → Takes (row_in_front is_text) row_bytes (IsGoodRow is_text)
 unfolding row_in_front
 row_takes is_text bytes p are h =

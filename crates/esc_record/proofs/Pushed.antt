@@ -14,6 +14,7 @@ pub record IsPushed {X : Type 0} (fits : X → Bool)
   pub small : list_all fits (take i xs) ≡ true
   pub bytes : new ≡ old ++ flat_map text (take i xs)
 
+-- one more thing is written
 pub pushed_more : {X : Type 0} (fits : X → Bool)
     (text : X → List ℕ) (xs : List X) (old : List ℕ) (i : ℕ) (new newer : List ℕ) (d : X)
     → IsPushed fits text xs old i new → i < length xs → fits (get_or xs i d) ≡ true

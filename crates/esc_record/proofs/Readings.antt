@@ -15,6 +15,7 @@ pub record Reads {A : Type 0} (one : List ℕ → Option (A × List ℕ))
   pub within : i ≤ n
   pub rest_is : many one n bytes ≡ option_map (behind_done done) (many one (n - i) rest)
 
+-- a thing that is not read ends the list
 pub no_more : {A : Type 0} (one : List ℕ → Option (A × List ℕ))
     (n : ℕ) (bytes : List ℕ) (i : ℕ) (done : List A) (rest : List ℕ)
     → Reads one n bytes i done rest → i < n → one rest ≡ None → None ≡ many one n bytes
@@ -35,6 +36,7 @@ joined done x None = refl
 joined {A} done x (Some p) = let same : done ++ (x ∷ p.0) ≡ (done ++ (x ∷ [])) ++ p.0 =
     sym (append_assoc done (x ∷ []) p.0) in rw same refl
 
+-- one more thing is read
 pub one_more : {A : Type 0} (one : List ℕ → Option (A × List ℕ))
     (n : ℕ) (bytes : List ℕ) (i : ℕ) (done : List A) (rest : List ℕ) (x : A) (behind : List ℕ)
     → Reads one n bytes i done rest

@@ -44,6 +44,7 @@ has_record : (o : ObjectValue) → IsSmallObject o → IsSome (record_of o)
 unfolding record_of
 has_record o small = rw (object_fits o small) refl
 
+-- small objects have records
 pub have_records : (contents : List (KeyName × ObjectValue))
     → All (λ e. IsSmallObject e.1) contents → All (λ e. IsSome (record_of e.1)) contents
 have_records contents all = λ k d below. has_record _ (all k d below)

@@ -63,6 +63,7 @@ awaited_on front here size is (piece ∷ pieces) awaited =
     subst (λ (bytes : List ℕ). AreAwaited (IsShorter size) bytes (piece ∷ pieces))
     (ap (λ (n : ℕ). take n front) all ∙ take-length front) awaited
 
+-- what was read before and what is read now are the body
 pub read_on : (a b : Pieces) (front kept last : List ℕ) (here size long : ℕ) → here ≡ min (length front)
     size → long ≡ size → kept ≡ take here front → ReadsWhile (IsShorter long) a b kept last
     → (end : List ℕ) × ReadsWhile (IsShorter size) a b front end

@@ -52,6 +52,7 @@ module _ {A : Type 0} (p : HeaderLine → Bool)
 pub digit_value_is : (c : ℕ) → 48 ≤ c → c ≤ 57 → digit_value c + 48 ≡ c
 digit_value_is c low high = grind (arith, nat_tests)
 
+-- one more digit
 pub digits_more : (text : List ℕ) (i : ℕ)
     → i < length text → list_all is_ascii_digit (take i text) ≡ true
     → is_ascii_digit (get_or text i 0) ≡ true → list_all is_ascii_digit (take (i + 1) text) ≡ true

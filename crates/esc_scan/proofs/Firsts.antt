@@ -43,6 +43,7 @@ first_moment : (ms : List MomentRow) → option_map watermark_of_moment (slice_g
 first_moment [] = refl
 first_moment (m ∷ ms) = refl
 
+-- the first row of the table of the moment has it
 pub moment_is : (ms : List MomentRow) (found : Option StoredMoment) (rows : List Row) → rows ≡ map
     (stored_row Moment) ms → ReadsFirst (ReadsRow Moment moment_read watermark_of_moment) rows found
     → option_map moment_read found ≡ moment_set ms
@@ -61,6 +62,7 @@ found_at t shown told id rs found rows is h =
     ∙ ap (map (stored_row t)) (filter_same _ here (λ r. ap is_eq (value_cmp-Int (row_number t r) id)) rs) in
     first_is t shown told (filter here rs) found _ picked h ∙ ap (option_map told) (slice_get-filter here rs)
 
+-- the row with an object's number has the object
 pub object_is : (id : ℤ) (os : List ObjectRow) (found : Option StoredObject) (rows : List Row)
     → rows ≡ map (stored_row Objects) os
     → ReadsFirst (ReadsRow Objects stored_entry object_entry) (filter (has_rowid id) rows) found
@@ -79,6 +81,7 @@ row_bytes : (o : Option HeldRow) → option_map (λ (x : ℕ × List ℕ). x.1) 
 row_bytes None = refl
 row_bytes (Some h) = refl
 
+-- the row with a manifest row's number has its body
 pub body_is : (row : ℕ) (hs : List HeldRow) (found : Option HeldBody) (rows : List Row)
     → rows ≡ map (stored_row Held) hs
     → ReadsFirst (ReadsRow Held body_read body_of_row) (filter (has_rowid (pos row)) rows) found
@@ -90,6 +93,7 @@ body_is row hs found rows is h =
 
 -- ---- the version
 
+-- the first row of the info table has the version
 pub version_is : (found : Option StoredVersion) (trees : Trees) → ReadsFirst RowTellsVersion
     (trees info_tree) found → option_map Int (option_map version_read found) ≡ version_in trees
 version_is None trees h = rw h refl

@@ -49,6 +49,7 @@ abbrev pub HoldsOnlyAt : ℕ → Image → Type 0
 HoldsOnlyAt size image =
     (db : Trees) → HoldsDatabase image db → IsPageSize (stored_size size) × HoldsAt size image db
 
+-- the two files, of the page length that they name
 pub holds_plain : (image : Image) (found : Option PageSize) (by_log : ¬ IsIgnored image.log → Names
     found (be32 image.log 8)) (by_file : IsIgnored image.log → Names found (size_in_file image.db))
     (size : PageSize) → found ≡ Some size → IsPlain (bytes_of size) image → HoldsOnlyAt (bytes_of size) image
@@ -76,6 +77,7 @@ holds_database size image db valid held = (
   },
 )
 
+-- an opening at one length is one of the files
 pub opened_from : {D : Type 0} {g : Ghosts D} (size : ℕ) (image : Image)
     → HoldsOnlyAt size image → (it : Opened D g) → IsOpeningAt size image it → IsOpeningOf image it
 opened_from size image only (opened.Trees store) at = λ db c held is. record {

@@ -98,10 +98,12 @@ module _ (size t : ℕ) (pages : PageMap) (low : t < 65536) where
       ∙ ap (λ r. read_as (shape_at wanted t) r (get_or (roots_of size ours (in_use size pages)) t 0)) reals
       ∙ ap (read_as (shape_at wanted t) (reals_at wanted t)) root ∙ sym (told wanted) ∙ sym (named wanted)
 
+-- a table is one of the wanted ones
 abbrev pub IsTableAt : List Wanted → TableOf → Type 0
 IsTableAt wanted table = (table.tree < 65536)
     × (shape_at wanted table.tree ≡ Table) × (reals_at wanted table.tree ≡ table_reals table)
 
+-- an index is one of the wanted ones
 abbrev pub IsIndexAt : List Wanted → Schema → IndexOf → Type 0
 IsIndexAt wanted schema index = (index.tree < 65536) × (shape_at wanted index.tree ≡ Index index.order)
     × HasReals schema index (reals_at wanted index.tree)
@@ -157,6 +159,7 @@ module _ (size : ℕ) (wanted : List Wanted) (pages : PageMap) (schema : Schema)
         ),
       )
 
+-- what is read of the wanted tables is what the files hold
 pub reads_tables : (size : ℕ) (image : Image) (ours : List Wanted) (pages : PageMap)
     → Recovers size image pages → IsOurs size true ours pages
     → ReadsTables size image ours (file_trees size ours pages)
@@ -178,6 +181,7 @@ one_reals schema index a b x y =
     x.2 ∙ ap (λ (t : TableOf). index_reals (table_reals t) index.columns)
     (some_table _ _ (sym x.1 ∙ y.1)) ∙ sym y.2
 
+-- what is read of the wanted indexes is what the files hold
 pub reads_indexes : (size : ℕ) (image : Image) (ours : List Wanted) (pages : PageMap)
     → Recovers size image pages → IsOurs size true ours pages
     → ReadsIndexes size image ours (file_trees size ours pages)

@@ -15,6 +15,7 @@ from_all : (o : Order) (rows : List Row) → from_key o [] rows ≡ rows
 from_all o [] = refl
 from_all o (r ∷ rows) = refl
 
+-- a cursor at the start has all rows before it
 pub begins : (start now : View) (o : Order) (key : Row) (tree : ℕ) → key ≡ [] → now
     ≡ with_cursor start 0 (sought o Forward key (start.trees tree)) → left_of now ≡ start.trees tree
 begins start now o key tree none was =
@@ -25,6 +26,7 @@ begins start now o key tree none was =
 pub only_same : (old new : View) → new ≡ old → OnlyCursors old new
 only_same old new e = e ∙ sym (ap (λ (v : View). let w : View = record old { cursors = v.cursors } in w) e)
 
+-- two calls that move cursors alone
 pub only_then : (a b c : View) → OnlyCursors a b → OnlyCursors b c → OnlyCursors a c
 only_then a b c p q = q ∙ ap (λ (v : View). let w : View = record v { cursors = c.cursors } in w) p
 
@@ -42,6 +44,7 @@ pub record HasRead {V : Type 0} (IsRead : Row → V → Type 0)
   pub whole : given ++ left_of now ≡ rows
   pub read : AreRead IsRead given vs
 
+-- one more row was read
 pub read_more : {V : Type 0} (IsRead : Row → V → Type 0)
     (rows : List Row) (old new : View) (vs : List V) (v : V) → HasRead IsRead rows old vs
     → ReadsNext IsRead old new (Some v) → HasRead IsRead rows new (vs ++ v ∷ [])

@@ -20,6 +20,7 @@ is_listed Undo = inr (inr (inr (inr (inr (inr (inl refl))))))
 is_listed Parked = inr (inr (inr (inr (inr (inr (inr (inl refl)))))))
 is_listed Moment = inr (inr (inr (inr (inr (inr (inr (inr (inl refl))))))))
 
+-- what is read of the wanted tables is the store's content
 pub reads_store : (size : ℕ) (image : Image) (ours : List Wanted) (trees : Trees)
     → ReadsTables size image ours trees → HasTables ours → ReadsStoreAt size image trees
 reads_store size image ours trees reads has db c held store = record {

@@ -207,6 +207,7 @@ series_says parts d are q w =
 
 -- ---- the law
 
+-- a series makes of any tables what its deposit makes
 pub series_applied : (parts : List DepositValue) (d : DepositValue) → IsSeriesOf parts d
     → (t : ObjectsByKey) (q : KeyName) → applied_all t parts q ≡ applied t d q
 series_applied [] d are t q = absurd (omega (arith, are.types.some))
@@ -220,6 +221,7 @@ series_applied (p ∷ ps) d are t q =
     all_diffs [] all = tt
     all_diffs (r ∷ ds) all = (all 0 r (omega arith), all_diffs ds (λ k e below. all (suc k) e (omega arith)))
 
+-- a series may stand in a chain for its deposit
 pub series_chained : (parts : List DepositValue) (d : DepositValue) → IsSeriesOf parts d
     → (before after : List DepositValue) (q : KeyName)
     → tables (before ++ parts ++ after) q ≡ tables (before ++ d ∷ after) q
@@ -229,6 +231,7 @@ series_chained parts d are before after q =
     (tables-then before parts q ∙ series_says parts d are q (tables before q))
     ∙ sym (tables-then before (d ∷ after) q)
 
+-- a series alone says what its deposit says
 pub series_alone : (parts : List DepositValue) (d : DepositValue) → IsSeriesOf parts d
     → (q : KeyName) → tables parts q ≡ says q d
 series_alone parts d are q =
@@ -261,6 +264,7 @@ any_mention q (p ∷ ps) =
     mixed false (Some x) true v = refl
     mixed false (Some x) false v = refl
 
+-- a series mentions what its deposit mentions
 pub series_mentioned : (parts : List DepositValue) (d : DepositValue) → IsSeriesOf parts d
     → (q : KeyName) → list_any (mentions q) parts ≡ mentions q d
 series_mentioned parts d are q =

@@ -1,8 +1,6 @@
 -- The cells of a row from one place on.
-use Rattle.std.proofs.Common.{◌≡◌, ℕ, ◌+◌, ◌<◌, true, false, List, [], ◌∷◌, length, drop}
-use Rattle.std.proofs.Common.{Option, None, Some, slice_get, refl, sym, ap, ◌∙◌, subst}
-use Rattle.std.specs.Map.{lookup}
-use Rattle.std.specs.Str.{bytes_eq}
+use Rattle.std.proofs.Common.{◌≡◌, ℕ, ◌+◌, ◌<◌, List, [], ◌∷◌, length, drop, None, Some}
+use Rattle.std.proofs.Common.{slice_get, sym, ap, ◌∙◌, subst}
 use Rattle.std.proofs.lemmas.List.{drop_more}
 use Rattle.std.proofs.lemmas.Option.{none-some, slice_get_within, slice_get-get_or, get_or_from_slice_get}
 
@@ -21,17 +19,3 @@ next_cell cells i x is =
 pub no_cell : (cells : List Cell) (i n : ℕ) → n ≡ length cells → i < n → None ≡ slice_get cells i → ⊥
 no_cell cells i n all within is =
     none-some _ (is ∙ slice_get-get_or cells i ([], []) (subst (λ m. i < m) all within))
-
--- the text of a field among these cells
-abbrev pub text_among : List ℕ → List Cell → Option (List ℕ)
-text_among field cells = lookup (bytes_eq field) cells
-
-pub text_there : (field : List ℕ) (cells : List Cell) (i : ℕ) (x : Cell)
-    → Some x ≡ slice_get cells i → bytes_eq field x.0 ≡ true
-    → text_among field (drop i cells) ≡ Some x.1
-text_there field cells i x is same = ap (text_among field) (next_cell cells i x is) ∙ rw same refl
-
-pub text_further : (field : List ℕ) (cells : List Cell) (i : ℕ) (x : Cell)
-    → Some x ≡ slice_get cells i → bytes_eq field x.0 ≡ false
-    → text_among field (drop i cells) ≡ text_among field (drop (i + 1) cells)
-text_further field cells i x is other = ap (text_among field) (next_cell cells i x is) ∙ rw other refl

@@ -43,6 +43,7 @@ object_finished e es l = λ i. record {
   columns = sym (fold-append with_name l.columns (entry_fields l.table e) (flat_map (entry_fields l.table) es)) i;
 }
 
+-- the fields of one object more, in each layout
 pub all_finished : (e : Entry) (es : List Entry) (ls : List LayoutValue)
     → map (finished es) (map (with_fields e) ls) ≡ map (finished (e ∷ es)) ls
 all_finished e es [] = refl

@@ -24,6 +24,7 @@ objects_back l [] = refl
 objects_back l (e ∷ es) =
     rows_back l.columns e.0 (entry_rows l.table e) (flat_map (entry_lines l) es) (objects_back l es)
 
+-- the lines of a table are read back as they are
 pub lines_back : (l : LayoutValue) (es : List Entry) → map read_back (table_lines l es) ≡ table_lines l es
 lines_back l es = ap (λ (ls : List Line). (codes "key" ∷ l.columns) ∷ ls) (objects_back l es)
 

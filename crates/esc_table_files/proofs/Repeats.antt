@@ -7,6 +7,7 @@ use Rattle.std.proofs.lemmas.List.{take_all, drop-drop, length-drop}
 use Rattle.esc_bundle.specs.ListLaws.{list_any_map}
 use Rattle.esc_table_files.specs.Apart.{are_apart}
 
+-- the texts of borrowed names
 abbrev pub texts : List (Bor (List ℕ)) → List (List ℕ)
 texts names = map (λ n. n.now) names
 

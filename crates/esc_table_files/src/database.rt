@@ -3,7 +3,6 @@
 use crate::folder::NewFolder;
 use crate::layout::Layout;
 use crate::load_script::quoted;
-use crate::table_text::text_in;
 use crate::writing_fault::WritingFault;
 use esc_apply::Objects;
 use esc_bundle::NoMemory;
@@ -135,7 +134,7 @@ fn add_values<'a>(
 ) -> Result<(), NoMemory> {
     values.push(ValueRef::Text(key.text.as_bytes()))?;
     for column in columns {
-        let value = match text_in(row, column.as_str()) {
+        let value = match row.text(column.as_str()) {
             Some(text) => ValueRef::Text(text.as_bytes()),
             None => ValueRef::Null,
         };

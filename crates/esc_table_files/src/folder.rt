@@ -104,8 +104,20 @@ impl<'a> NewFolder<'a> {
         File::open(self.rt, path.as_str())
     }
 
+    /// Makes a folder in it.
+    pub fn create_folder(&self, name: &str) -> Result<(), Error> {
+        let path = self.path_of(name)?;
+        fs::create_dir(self.rt, path.as_str())
+    }
+
+    /// Waits until the names in a folder of it are on the disk.
+    pub fn sync_folder(&self, name: &str) -> Result<(), Error> {
+        let path = self.path_of(name)?;
+        sync_folder(self.rt, path.as_str())
+    }
+
     /// Writes a new file in it.
-    pub(crate) fn write_file(&self, name: &str, bytes: &[u8]) -> Result<(), Error> {
+    pub fn write_file(&self, name: &str, bytes: &[u8]) -> Result<(), Error> {
         let mut file = self.create_file(name)?;
         file.write_all(bytes)?;
         file.sync_all()

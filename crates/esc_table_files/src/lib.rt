@@ -4,9 +4,8 @@
 //!
 //! Objects come one at a time (`Objects` of `esc_apply`), as a desk's walk gives them, and so little
 //! memory is taken. `layouts_of` says which tables a kind has and which columns these have, from one
-//! walk. `write_tables` writes them as CSV, side by side, from another. `text_in` gives the text of
-//! a field in a row, and `repeated` finds names that are the same but for case. `digest_of` is the
-//! SHA-256 of what a reader gives.
+//! walk. `write_tables` writes them as CSV, side by side, from another. `repeated` finds names that
+//! are the same but for case. `digest_of` is the SHA-256 of what a reader gives.
 //!
 //! `check_layouts` says whether tables can be files. Then `write_table_files` and a [`Database`]
 //! write them to a [`NewFolder`], with their sums, and `write_load_script` the statements by which
@@ -61,6 +60,5 @@ pub use load_script::{LOAD_SCRIPT, write_load_script};
 pub use sums::digest_of;
 pub use table_file::{file_name, write_table_files};
 pub use table_name::TableName;
-pub use table_text::text_in;
 pub use table_writer::{TableWriter, write_tables};
 pub use writing_fault::WritingFault;

@@ -1,9 +1,7 @@
 //! The text of a table.
 
-ghost use Rattle.std.specs.Prelude.{◌≡◌, ◌∷◌, ◌++◌, map, filter, option_map, codes, IfOk, OnOk};
+ghost use Rattle.std.specs.Prelude.{◌≡◌, ◌∷◌, ◌++◌, map, filter, codes, IfOk, OnOk};
 ghost use Rattle.std.specs.Prelude.{string_bytes};
-ghost use Rattle.std.specs.Map.{lookup};
-ghost use Rattle.std.specs.Str.{bytes_eq};
 ghost use Rattle.esc_csv.specs.Lines.{line_text, text_of};
 ghost use Rattle.esc_check.specs.Export.{is_of_table};
 ghost use Rattle.esc_table_files.specs.Layouts.{row_line, entry_lines};
@@ -14,20 +12,6 @@ use esc_bundle::NoMemory;
 use esc_csv::Lines;
 use esc_tables::{Key, Object, Row};
 use std::alloc::Global;
-
-/// The text of a field in a row: that of its first cell; `None` if it has no such field.
-pub fn text_in<'a>(row: &'a Row, field: &str) -> Option<&'a str>
-    ensures { option_map (λ t. t.now) result ≡ lookup (bytes_eq field.now) row.now.cells }
-{
-    for at in 0..row.len() {
-        if let Some((name, text)) = row.cell(at) {
-            if field == name {
-                return Some(text);
-            }
-        }
-    }
-    None
-}
 
 fn heading_of<'a>(alloc: Global, columns: &'a [String]) -> Result<Vec<&'a [u8]>, NoMemory>
     ensures { IfOk result (λ line. map (λ f. f.now) line.items
@@ -53,7 +37,7 @@ fn line_of<'a>(
     let mut line: Vec<&[u8]> = Vec::new(alloc);
     line.push(key.text.as_bytes())?;
     for column in columns {
-        let text = text_in(row, column.as_str()).unwrap_or("");
+        let text = row.text(column.as_str()).unwrap_or("");
         line.push(text.as_bytes())?;
     }
     Ok(line)

@@ -24,6 +24,7 @@ abbrev Added : BTreeMap KeyName ObjectValue
 Added old new key row k = get key_cmp new k
     ≡ cond (key_eq k key) (option_map (with_child row) (get key_cmp old k)) (get key_cmp old k)
 
+-- a child row without a parent adds nothing
 pub none_added : (m : BTreeMap KeyName ObjectValue) (key : KeyName) (row : RowValue)
     → None ≡ get key_cmp m key → (k : KeyName) → Added m m key row k
 none_added m key row none k = elim (cases_Bool (key_eq k key)) [
@@ -32,6 +33,7 @@ none_added m key row none k = elim (cases_Bool (key_eq k key)) [
   | inr other ↦ rw other refl
 ]
 
+-- a child row is added to its parent's object
 pub child_added : (old new : BTreeMap KeyName ObjectValue) (key : KeyName) (row : RowValue)
     (before after : ObjectValue) → Some before ≡ get key_cmp old key → UpdatesBy key_cmp (key_cmp key)
     old new (Some after) → after ≡ with_child row before → (k : KeyName) → Added old new key row k
@@ -101,6 +103,7 @@ pub object_is_some : (parents cs : List (KeyName × RowValue)) (k : KeyName)
 object_is_some parents cs k = mapped_is_some (with_children (at_key k cs))
     (last_or None (at_key k parents)) ∙ last_is_some k parents None
 
+-- one more child row, which is an orphan or not
 pub orphans_more : (parents cs : List (KeyName × RowValue)) (c : KeyName × RowValue) → orphans_of
     parents (cs ++ (c ∷ [])) ≡ orphans_of parents cs + cond (not (has_pair parents c.0)) 1 0
 orphans_more parents cs c = sum_by_push (λ (d : KeyName × RowValue). cond (not (has_pair parents d.0)) 1 0) cs c

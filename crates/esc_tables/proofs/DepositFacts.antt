@@ -18,16 +18,19 @@ use Rattle.esc_tables.specs.Reading.{child_rows, sections_deposit, reading}
 
 -- ---- the tests in order
 
+-- files that are not those of the tables are refused
 pub told_unfiled : (files : List Named) (e : EnvelopeValue)
     → are_filed files (tables_of e) ≡ false → deposit_in files e ≡ Err WrongFiles
 unfolding deposit_in
 told_unfiled files e wrong = rw wrong refl
 
+-- rows that are refused refuse the deposit
 pub told_rows : (files : List Named) (e : EnvelopeValue) (n : Refusal) → are_filed files (tables_of e)
     ≡ true → check_rows (rows_in files (tables_of e)) ≡ Err n → deposit_in files e ≡ Err n
 unfolding deposit_in
 told_rows files e n filed wrong = rw (filed, wrong) refl
 
+-- rows that are right make the deposit
 pub told_deposit : (files : List Named) (e : EnvelopeValue)
     → are_filed files (tables_of e) ≡ true → check_rows (rows_in files (tables_of e)) ≡ Ok tt
     → deposit_in files e ≡ Ok (deposit_of_files files e)
@@ -43,15 +46,18 @@ read_filed files e (Ok d) filed passed made =
     told_deposit files e filed passed ∙ ap (λ (x : DepositValue). Ok x) (sym made)
 read_filed files e (Err fault) filed passed made = tt
 
+-- a body that is no frame is refused as such
 pub no_frame : (body : List ℕ) (n : Refusal) → frame body ≡ Err n → reading body ≡ Err n
 unfolding reading
 no_frame body n wrong = rw wrong refl
 
+-- a body whose envelope is refused is refused by it
 pub no_envelope : (body : List ℕ) (first : Named) (files : List Named) (n : Refusal)
     → frame body ≡ Ok (first ∷ files) → envelope_of first.bytes ≡ Err n → reading body ≡ Err n
 unfolding reading sections_deposit
 no_envelope body first files n framed wrong = rw (framed, wrong) refl
 
+-- a body is read as its envelope and its files
 pub same_reading : (body : List ℕ) (first : Named) (files : List Named) (e : EnvelopeValue) → frame body
     ≡ Ok (first ∷ files) → envelope_of first.bytes ≡ Ok e → reading body ≡ deposit_in files e
 unfolding reading sections_deposit
@@ -59,6 +65,7 @@ same_reading body first files e framed told = rw (framed, told) refl
 
 -- ---- a deposit is its parts
 
+-- a deposit is made of its parts
 pub made_of : (files : List Named) (e : EnvelopeValue) (d : DepositValue)
     → d.header ≡ e.header → d.counts ≡ e.counts → d.deletes ≡ map key_of (rows_in files e.deletes)
     → d.contents ≡ objects_of (parent_rows files e) (child_rows files e) → d.orphans
@@ -75,9 +82,11 @@ made_of files e d header counts deletes contents orphans = λ i. record {
 abbrev no_section : Section
 no_section = record { name = record { ref_ptr = (0, 0); now = [] }; bytes = record { ref_ptr = (0, 0); now = [] } }
 
+-- the first section
 abbrev pub first_of : List Section → Named
 first_of ss = view (get_or ss 0 no_section)
 
+-- the sections after the first
 abbrev pub rest_of : List Section → List Named
 rest_of ss = views (take (length ss - 1) (drop 1 ss))
 
@@ -88,6 +97,7 @@ first_and_rest (s ∷ ss) some =
     let others : length (s ∷ ss) - 1 ≡ length ss = omega arith in
     ap (λ (us : List Section). view s ∷ views us) (sym (ap (λ (n : ℕ). take n ss) others ∙ take-length ss))
 
+-- a frame has its first section and the others
 pub framed_as : (body : List ℕ) (items now : List Section) → frame body ≡ Ok (views items)
     → now ≡ items → 1 ≤ length now → frame body ≡ Ok (first_of now ∷ rest_of now)
 framed_as body items now framed same some = framed ∙ ap (λ (ss : List Section). Ok (views ss))

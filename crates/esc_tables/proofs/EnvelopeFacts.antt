@@ -14,10 +14,12 @@ use Rattle.esc_tables.specs.Reading.{deposit_of_files, deposit_in, sections_depo
 use Rattle.esc_tables.specs.Reading.{sections_envelope, bundled_envelope}
 use Rattle.esc_tables.proofs.ExactFacts.{parts_of, same_ok}
 
+-- a body that is no frame has no envelope
 pub unframed : (body : List ℕ) (n : Refusal) → frame body ≡ Err n → bundled_envelope body ≡ Err n
 unfolding bundled_envelope
 unframed body n wrong = rw wrong refl
 
+-- the envelope of a body is that of its first section
 pub same_envelope : (body : List ℕ) (first : Named) (files : List Named)
     → frame body ≡ Ok (first ∷ files) → bundled_envelope body ≡ envelope_of first.bytes
 unfolding bundled_envelope sections_envelope

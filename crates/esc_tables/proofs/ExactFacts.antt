@@ -52,11 +52,13 @@ made_only files e d made =
 
 -- ---- the tests in order
 
+-- what is known of rows that are right
 pub record Right (rows : List TableRow) : Type 0 where
   pub whole : list_all is_whole rows ≡ true
   pub named : list_all has_key rows ≡ true
   pub few : length rows ≤ most_rows
 
+-- rows that pass their tests are right
 pub right_rows : (rows : List TableRow) → check_rows rows ≡ Ok tt → Right rows
 unfolding check_rows
 right_rows rows h =
@@ -75,15 +77,18 @@ unfolding check_rows
 rows_right rows whole named few = let test : nat_le (length rows) most_rows ≡ true =
     grind (arith, nat_tests) in rw (whole, named, test) refl
 
+-- two Ok with one value
 pub same_ok : {A : Type 0} (x y : A) → ◌≡◌ {A = Result A Refusal} (Ok x) (Ok y) → x ≡ y
 same_ok x y h = cc
 
 -- ---- a deposit is read
 
+-- what a deposit is made of
 abbrev pub Parts : List Named → EnvelopeValue → DepositValue → Type 0
 Parts files e d = (are_filed files (tables_of e) ≡ true)
     × (check_rows (all_rows files e) ≡ Ok tt) × (d ≡ deposit_of_files files e)
 
+-- a deposit that is read is made of its parts
 pub parts_of : (files : List Named) (e : EnvelopeValue) (d : DepositValue)
     → deposit_in files e ≡ Ok d → Parts files e d
 unfolding deposit_in
@@ -121,6 +126,7 @@ is_deposit_at body (first ∷ files) d bundle h =
     let step = bind_done (envelope_of first.bytes) (deposit_in files) d h in
     is_deposit_in body first files step.0 d bundle step.1 (parts_of files step.0 d step.2)
 
+-- frames are read exactly where they are bundles
 abbrev pub FrameIsExact : Type 0
 FrameIsExact = (body : List ℕ) (ss : List Named) → (frame body ≡ Ok ss) ↔ IsBundle body ss
 
@@ -135,6 +141,7 @@ reads exact body d is =
     ∙ told_deposit is.files is.envelope is.filed (rows_right (all_rows is.files is.envelope) is.whole is.named is.few)
     ∙ ap (λ (x : DepositValue). Ok x) (sym (made_only is.files is.envelope d is.made))
 
+-- a body is read as a deposit exactly where it is one
 pub reading_exact : FrameIsExact
     → (body : List ℕ) (d : DepositValue) → (reading body ≡ Ok d) ↔ IsDepositOf body d
 reading_exact exact body d = (is_deposit exact body d, reads exact body d)
@@ -280,6 +287,7 @@ unfolding sections_deposit
 refused_sections body [] n bundle h = absurd (omega (arith, bundle.some))
 refused_sections body (first ∷ files) n bundle h = inr (first, files, bundle, refused_envelope first files n h)
 
+-- frames are refused exactly where they have a fault
 abbrev pub FaultIsExact : Type 0
 FaultIsExact = (body : List ℕ) (n : Refusal) → (frame body ≡ Err n) ↔ IsFault body n
 
@@ -303,6 +311,7 @@ refuses exact fault body n (inl wrong) = no_frame body n ((fault body n).1 wrong
 refuses exact fault body n (inr step) =
     refuses_at body step.0 step.1 n ((exact body (step.0 ∷ step.1)).1 step.2) step.3
 
+-- a body is refused exactly where the rules refuse it
 pub refusal_exact : FrameIsExact
     → FaultIsExact → (body : List ℕ) (n : Refusal) → (reading body ≡ Err n) ↔ IsRefused body n
 refusal_exact exact fault body n = (is_refused exact fault body n, refuses exact fault body n)

@@ -14,6 +14,7 @@ cell_is (a ∷ names) [] i f t n x = absurd cc
 cell_is (a ∷ names) (b ∷ texts) zero f t n x = cc
 cell_is (a ∷ names) (b ∷ texts) (suc i) f t n x = cell_is names texts i f t n x
 
+-- there is no cell where there is no name
 pub no_name : (names texts : List (List ℕ)) (i : ℕ)
     → None ≡ field_at names i → slice_get (zip names texts) i ≡ None
 unfolding field_at
@@ -22,6 +23,7 @@ no_name (a ∷ names) [] i n = refl
 no_name (a ∷ names) (b ∷ texts) zero n = absurd cc
 no_name (a ∷ names) (b ∷ texts) (suc i) n = no_name names texts i n
 
+-- there is no cell where there is no text
 pub no_text : (names texts : List (List ℕ)) (i : ℕ)
     → None ≡ field_at texts i → slice_get (zip names texts) i ≡ None
 unfolding field_at

@@ -35,6 +35,7 @@ onward_same (t ∷ ts) us =
     (IsPermutation-trans (us ++ (t ∷ ts)) (t ∷ (us ++ ts)) (placed us t ++ ts) first second)
     (onward_same ts (placed us t))
 
+-- tables in the order of names are the same tables
 pub by_name_same : (ts : List TableValue) → IsPermutation ts (by_name ts)
 by_name_same ts = onward_same ts []
 
@@ -87,5 +88,6 @@ sorted_at (t ∷ ts) (suc k) d h lt = sorted_at ts k d h.1 (omega arith)
 sorted_from_rises : (ts : List TableValue) → Rises ts → IsSortedBy is_before ts
 sorted_from_rises ts h = λ k d low lt. let e : k + 1 ≡ suc k = omega arith in rw e (sorted_at ts k d h (omega arith))
 
+-- tables in the order of names rise
 pub by_name_rises : (ts : List TableValue) → IsSortedBy is_before (by_name ts)
 by_name_rises ts = sorted_from_rises (by_name ts) (onward_rises ts [] tt)

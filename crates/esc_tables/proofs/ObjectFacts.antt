@@ -18,6 +18,7 @@ use Rattle.esc_tables.specs.KeyLaws.{keys_total, keys_exact, one_key}
 
 -- ---- the words of the map, and those of the definition
 
+-- what is found at a key is what is looked up
 pub found_is : {X : Type 0} (k : KeyName) (es : List (KeyName × X))
     → find key_cmp k es ≡ lookup (is_at (key_cmp k)) es
 found_is k [] = refl
@@ -33,6 +34,7 @@ below_from k [] h = tt
 below_from k (e ∷ es) h = both_hold (is_lt (key_cmp k e.0))
     (below_all key_cmp k es) (subst (λ (r : Ordering). T (is_lt r)) (sym h.0) tt) (below_from k es h.1)
 
+-- keys that rise are sorted
 pub sorted_from : {X : Type 0} (es : List (KeyName × X))
     → IsStrictlySortedBy key_cmp (keys_of es) → T (is_sorted key_cmp es)
 unfolding IsStrictlySortedBy
@@ -47,10 +49,12 @@ same_objects es fs first then same = same_entries key_cmp keys_total keys_exact 
 
 -- ---- each key once, with its last value
 
+-- the last entry of a key, one entry further
 pub last_at : {X : Type 0} (k : KeyName) (p : KeyName × X) (ps : List (KeyName × X)) (o : Option X)
     → last_or o (at_key k (p ∷ ps)) ≡ last_or (cond (key_eq k p.0) (Some p.1) o) (at_key k ps)
 last_at k p ps o = elim (cases_Bool (key_eq k p.0)) [ inl e ↦ rw e refl | inr e ↦ rw e refl ]
 
+-- entries with one more put at its key
 abbrev pub putting : {X : Type 0} → List (KeyName × X) → KeyName × X → List (KeyName × X)
 putting entries p = put key_cmp p.0 p.1 entries
 
@@ -67,10 +71,12 @@ sorted_onward [] es h = h
 sorted_onward (p ∷ ps) es h =
     sorted_onward ps (put key_cmp p.0 p.1 es) (is_sorted-put key_cmp keys_total p.0 p.1 es h)
 
+-- at each key is what came last
 pub last_by_key_found : {X : Type 0} (k : KeyName) (ps : List (KeyName × X))
     → find key_cmp k (last_by_key ps) ≡ last_or None (at_key k ps)
 last_by_key_found k ps = found_from k ps []
 
+-- entries by key are sorted
 pub last_by_key_sorted : {X : Type 0} (ps : List (KeyName × X)) → T (is_sorted key_cmp (last_by_key ps))
 last_by_key_sorted ps = sorted_onward ps [] tt
 
@@ -105,6 +111,7 @@ unfolding objects_of
 objects_found parents children k = found_object k children (last_by_key parents)
     ∙ ap (option_map (with_children (at_key k children))) (last_by_key_found k parents)
 
+-- the objects of rows are sorted by key
 pub objects_sorted : (parents children : List (KeyName × RowValue))
     → T (is_sorted key_cmp (objects_of parents children))
 unfolding objects_of

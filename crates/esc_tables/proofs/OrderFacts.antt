@@ -18,6 +18,7 @@ one_and n = omega arith
 
 -- ---- the place of a table
 
+-- the place of the first that passes, or the end
 pub place_or_end : {X : Type 0} (p : X → Bool) (xs : List X)
     → unwrap_or (position p xs) (length xs) ≡ position_or_len p xs
 place_or_end p xs =
@@ -27,12 +28,15 @@ place_or_end p xs =
       | inr e ↦ let ge : length xs ≤ position_or_len p xs = grind (arith, nat_tests) in rw e (omega arith)
     ]
 
+-- this place is within the list
 pub place_fits : {X : Type 0} (p : X → Bool) (xs : List X) → unwrap_or (position p xs) (length xs) ≤ length xs
 place_fits p xs = rw (place_or_end p xs) (prefix_len-le-length (λ x. not (p x)) xs)
 
+-- the table that is pointed to
 abbrev pub pointed : Bor TableValue → TableValue
 pointed t = t.now
 
+-- whether a table comes after another
 abbrev pub is_after : TableValue → Bor TableValue → Bool
 is_after t u = is_before t u.now
 
@@ -44,6 +48,7 @@ inserted_at (u ∷ us) t = elim (cases_Bool (is_before t.now u.now)) [
   | inr e ↦ rw (e, one_and) (ap (λ (ts : List TableValue). u.now ∷ ts) (inserted_at us t))
 ]
 
+-- a table that is inserted stands at its place
 pub inserted : (us : List (Bor TableValue)) (t : Bor TableValue) (i : ℕ)
     → i ≡ unwrap_or (position (is_after t.now) us) (length us)
     → map pointed (insert us i t) ≡ placed (map pointed us) t.now
@@ -51,6 +56,7 @@ inserted us t i is = rw (is, place_or_end (is_after t.now) us) (inserted_at us t
 
 -- ---- one more table
 
+-- the first of a list, and one more
 pub take_next : {X : Type 0} (xs : List X) (i : ℕ) (x : X)
     → i < length xs → x ≡ get_or xs i x → take (i + 1) xs ≡ take i xs ++ (x ∷ [])
 take_next {X = X} xs i x lt is = take_more xs i x lt ∙ ap (λ (y : X). take i xs ++ (y ∷ [])) (sym is)
@@ -58,6 +64,7 @@ take_next {X = X} xs i x lt is = take_more xs i x lt ∙ ap (λ (y : X). take i 
 abbrev is_child : TableValue → Bool
 is_child t = not t.parent
 
+-- one more child table is placed
 pub next_table : (ts : List TableValue) (i : ℕ) (t : TableValue)
     → i < length ts → t ≡ get_or ts i t → t.parent ≡ false
     → by_name (filter is_child (take (i + 1) ts)) ≡ placed (by_name (filter is_child (take i ts))) t
@@ -83,6 +90,7 @@ onward_all P [] us todo all = all
 onward_all P (t ∷ ts) us todo all = onward_all P ts (placed us t)
     (All-tail P t ts todo) (placed_all P us t (todo 0 t (omega arith)) all)
 
+-- what holds of all tables holds of those in order
 pub by_name_all : (P : TableValue → Type 0) (test : TableValue → Bool) (ts : List TableValue)
     → All P ts → All P (by_name (filter test ts))
 by_name_all P test ts all = onward_all P (filter test ts) [] (All-filter test P ts all) (All-nil P)

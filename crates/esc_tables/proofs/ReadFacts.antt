@@ -57,18 +57,21 @@ next_piece : {A : Type 0} (rows_of : A → List TableRow) (xs : List A) (i : ℕ
 next_piece rows_of xs i x lt is =
     ap (flat_map rows_of) (take_next xs i x lt is) ∙ sym (flat_map_more rows_of [] (take i xs) x)
 
+-- one more piece of rows is read
 pub piece_read : {A X : Type 0} {of_row : TableRow → X} (rows_of : A → List TableRow)
     (xs : List A) (i : ℕ) (x : A) {a b c : Survey × List X} → i < length xs → x ≡ get_or xs i x
     → AreSurveyed of_row (flat_map rows_of (take i xs)) a b → AreSurveyed of_row (rows_of x) b c
     → AreSurveyed of_row (flat_map rows_of (take (i + 1) xs)) a c
 piece_read rows_of xs i x lt is before step = rw (next_piece rows_of xs i x lt is) (more_read before step)
 
+-- after the last piece all rows are read
 pub all_read : {A X : Type 0} {of_row : TableRow → X} (rows_of : A → List TableRow)
     (xs : List A) (i : ℕ) {a b : Survey × List X} → length xs ≤ i
     → AreSurveyed of_row (flat_map rows_of (take i xs)) a b → AreSurveyed of_row (flat_map rows_of xs) a b
 all_read {of_row = of_row} rows_of xs i {a = a} {b = b} end read =
     subst (λ ys. AreSurveyed of_row (flat_map rows_of ys) a b) (take_all i xs end) read
 
+-- a fault of a piece is one of all rows
 pub piece_refused : {A : Type 0} (rows_of : A → List TableRow)
     (xs : List A) (i : ℕ) (x : A) (fault : Fault) → i < length xs
     → x ≡ get_or xs i x → IsFaultOf (rows_of x) fault → IsFaultOf (flat_map rows_of xs) fault
@@ -79,15 +82,19 @@ piece_refused {A = A} rows_of xs i x fault lt is told = λ n same.
 
 -- ---- of a parent table its rows, and of another none
 
+-- the rows of a table, if it is a parent
 abbrev pub if_parent : List Named → TableValue → List TableRow
 if_parent files t = cond t.parent (table_rows files t) []
 
+-- those of a parent are its rows
 pub of_parent : (files : List Named) (t : TableValue) → t.parent ≡ true → if_parent files t ≡ table_rows files t
 of_parent files t parent = ap (λ (b : Bool). cond b (table_rows files t) []) parent
 
+-- those of another table are none
 pub of_other : (files : List Named) (t : TableValue) → t.parent ≡ false → if_parent files t ≡ []
 of_other files t other = ap (λ (b : Bool). cond b (table_rows files t) []) other
 
+-- the rows of all parents
 pub all_parents : (files : List Named) (ts : List TableValue)
     → flat_map (if_parent files) ts ≡ rows_in files (filter (λ t. t.parent) ts)
 all_parents files [] = refl

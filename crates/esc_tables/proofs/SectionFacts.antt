@@ -10,6 +10,7 @@ use Rattle.esc_bundle.specs.declared.section.Section.{Section}
 use Rattle.esc_bundle.specs.Bundle.{Named, view, views}
 use Rattle.esc_tables.specs.TableRow.{bytes_named}
 
+-- what is found in a mapped list
 pub find_map : {A B : Type 0} (f : A → B) (test : B → Bool) (xs : List A)
     → find test (map f xs) ≡ option_map f (find (λ x. test (f x)) xs)
 find_map f test [] = refl

@@ -69,6 +69,7 @@ one_table_less files p t ts few = by_test (p t)
     )
     by_test false = omega (arith, few, length-append (table_rows files t) (rows_in files ts))
 
+-- some tables have no more rows than all
 pub fewer_tables : (files : List Named) (p : TableValue → Bool) (ts : List TableValue)
     → length (rows_in files (filter p ts)) ≤ length (rows_in files ts)
 fewer_tables files p [] = omega arith
@@ -104,17 +105,20 @@ all_placed files (t ∷ ts) us = omega (
   length-append (table_rows files t) (rows_in files ts),
 )
 
+-- tables in another order have as many rows
 pub same_length : (files : List Named) (ts : List TableValue)
     → length (rows_in files (by_name ts)) ≡ length (rows_in files ts)
 same_length files ts = omega (arith, all_placed files ts [])
 
 -- ---- the deposit
 
+-- the rows of two lists of tables
 pub joined_length : (files : List Named) (cs ds : List TableValue)
     → length (rows_in files (cs ++ ds)) ≡ length (rows_in files cs) + length (rows_in files ds)
 joined_length files cs ds = ap (λ (rows : List TableRow). length rows)
     (flat_map-append (table_rows files) cs ds) ∙ length-append (rows_in files cs) (rows_in files ds)
 
+-- the contents have no more rows than the bundle
 pub few_contents : (files : List Named) (e : EnvelopeValue)
     → length (rows_in files e.contents) ≤ length (all_rows files e)
 few_contents files e = omega (arith, joined_length files e.contents e.deletes)
@@ -152,6 +156,7 @@ few_at (first ∷ files) d h =
     let step = bind_done (envelope_of first.bytes) (deposit_in files) d h in
     few_parts files step.0 d (parts_of files step.0 d step.2)
 
+-- a deposit has no more deletes and objects than a bundle's rows
 pub few_mentions : (body : List ℕ) (d : DepositValue)
     → reading body ≡ Ok d → length d.deletes + length d.contents ≤ most_rows
 unfolding reading

@@ -222,6 +222,7 @@ small_at fit forms (first ∷ files) d small h =
     small_parts fit files e d small.1 (All-from_recursion
     IsTable e.contents (front_all IsTable e.contents e.deletes all)) (parts_of files e d step.2)
 
+-- the objects of a deposit are small
 pub small_deposit : FieldsFit
     → TablesFit → ((body : List ℕ) (ss : List Named) → (frame body ≡ Ok ss) ↔ IsBundle body ss)
     → (body : List ℕ) (d : DepositValue) → reading body ≡ Ok d → All (λ e. IsSmallObject e.1) d.contents

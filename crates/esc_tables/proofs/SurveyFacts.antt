@@ -25,6 +25,7 @@ no_records : records_of [] ≡ []
 unfolding strip_bom records_from next_record
 no_records = refl
 
+-- an empty file has no rows
 pub no_rows : (files : List Named) (t : TableValue)
     → (length (bytes_named files t.file) == 0) ≡ true → table_rows files t ≡ []
 no_rows files t none =
@@ -38,6 +39,7 @@ all_in_each test f [] = refl
 all_in_each test f (x ∷ xs) = list_all-append test (f x) (flat_map f xs)
     ∙ ap (λ (b : Bool). list_all test (f x) && b) (all_in_each test f xs)
 
+-- a further test that always passes
 pub and_true : (b : Bool) → b ≡ (b && true)
 and_true true = refl
 and_true false = refl
@@ -64,6 +66,7 @@ rows_seen s (r ∷ rows) h = let more = one_more s.rows (length rows) h in
 abbrev pub SeenOf : List TableRow → Survey → Type 0
 SeenOf rows s = (s.has_keys ≡ list_all has_key rows) × (s.rows ≡ min (length rows) 100_001)
 
+-- what is seen of all rows
 pub seen_is : (rows : List TableRow) → SeenOf rows (fold surveyed unseen rows)
 seen_is rows = (keys_seen unseen rows, rows_seen unseen rows (omega arith) ∙ omega arith)
 
@@ -80,6 +83,7 @@ test_seen len n is = elim (cases_Bool (nat_le len 100_000)) [
       let same : n ≡ 100_001 = omega (arith, is, over) in rw (many, same) refl
 ]
 
+-- the verdict on rows is that of what was seen
 pub judged : (rows : List TableRow) (s : Survey)
     → list_all is_whole rows ≡ true → SeenOf rows s → check_rows rows ≡ verdict s
 unfolding check_rows
@@ -90,6 +94,7 @@ both_pass true true h = refl
 both_pass true false h = absurd cc
 both_pass false b h = absurd cc
 
+-- what is judged right is right
 pub right_verdict : (s : Survey) → verdict s ≡ Ok tt → is_right s ≡ true
 right_verdict s h = both_pass s.has_keys (nat_le s.rows 100_000) h
 
@@ -106,6 +111,7 @@ right_before s r h = by_test (nat_le s.rows 100_000) refl
     by_test false many = absurd
         (cc (sym many ∙ (and_parts (s.has_keys && has_key r) (nat_le s.rows 100_000) (rw many at h)).1))
 
+-- what is right in the end was right before
 pub right_at_first : (s : Survey) (rows : List TableRow)
     → is_right (fold surveyed s rows) ≡ true → is_right s ≡ true
 right_at_first s [] h = h

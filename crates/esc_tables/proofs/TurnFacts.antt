@@ -109,9 +109,11 @@ parted_length files (t ∷ ts) = by_test t.parent (parted_length files ts)
 
 -- ---- the rows of tables in turn have the same faults
 
+-- the rows of the parents
 abbrev pub parents_in : List Named → List TableValue → List TableRow
 parents_in files contents = rows_in files (filter is_parent contents)
 
+-- the rows of the children
 abbrev pub children_in : List Named → List TableValue → List TableRow
 children_in files contents = rows_in files (by_name (filter is_child contents))
 
@@ -196,12 +198,14 @@ refused_in_first rows more fault told = λ n same.
     let one = told n same in
     (one.0, rw (list_all-append is_whole rows more, one.1) refl)
 
+-- a fault of later rows is one of all
 pub refused_in_rest : (rows more : List TableRow) (fault : Fault)
     → IsFaultOf more fault → IsFaultOf (rows ++ more) fault
 refused_in_rest rows more fault told = λ n same.
     let one = told n same in
     (one.0, rw (list_all-append is_whole rows more, one.1) (and-false (list_all is_whole rows)))
 
+-- a fault in the order of reading is one of the bundle
 pub refused_in_turn : (files : List Named) (contents deletes : List TableValue) (fault : Fault)
     → IsFaultOf (in_parts files contents deletes) fault
     → (n : Refusal) → fault ≡ Refused n → check_rows (rows_in files (contents ++ deletes)) ≡ Err n

@@ -3,6 +3,8 @@
 ghost use Rattle.std.specs.Prelude.{◌≡◌, ◌++◌, IfOk, OnOk, length, map, option_map, slice_get};
 ghost use Rattle.std.specs.Prelude.{string_bytes};
 ghost use Rattle.std.specs.List.{zip};
+ghost use Rattle.std.specs.Map.{lookup};
+ghost use Rattle.std.specs.Str.{bytes_eq};
 ghost use Rattle.csv.specs.Records.{fields_of};
 ghost use Rattle.esc_tables.specs.TableRow.{heading_of};
 
@@ -154,6 +156,20 @@ impl Row {
         let field = self.heading.as_ref().fields.get(at)?;
         let text = self.texts.get(at)?;
         Some((field, text))
+    }
+
+    /// The text of a field: that of its first cell; `None` if the row has no such field.
+    pub fn text(&self, field: &str) -> Option<&str>
+        ensures { option_map (λ t. t.now) result ≡ lookup (bytes_eq field.now) self.now.cells }
+    {
+        for at in 0..self.len() {
+            if let Some((name, text)) = self.cell(at) {
+                if field == name {
+                    return Some(text);
+                }
+            }
+        }
+        None
     }
 
     /// An equal row. `NoMemory` out of memory.
