@@ -17,9 +17,11 @@ use Rattle.esc_events.specs.Amended.{judged, numbers_from, is_adopted, adopted_r
 
 -- ---- numbers that rise by one
 
+-- a number is one of those that begin at another
 abbrev pub IsWithin : ℕ → ℕ → ℕ → Type 0
 IsWithin first count q = (first ≤ q) × (q < first + count)
 
+-- consecutive numbers are within their range
 pub numbers_within : (first count : ℕ) → All (IsWithin first count) (numbers_from first count)
 numbers_within first zero = All-nil (IsWithin first zero)
 numbers_within first (suc count) =
@@ -29,6 +31,7 @@ numbers_within first (suc count) =
       omega (arith, at.1),
     )) (numbers_from (suc first) count) (numbers_within (suc first) count))
 
+-- consecutive numbers rise
 pub numbers_rise : (first count : ℕ) → IsRising (numbers_from first count)
 numbers_rise first zero = tt
 numbers_rise first (suc count) = (
@@ -37,6 +40,7 @@ numbers_rise first (suc count) = (
   numbers_rise (suc first) count,
 )
 
+-- a number within the range is one of them
 pub in_numbers : (first count q : ℕ) → first ≤ q → q < first + count → Contains (numbers_from first count) q
 in_numbers first zero q le lt = absurd (omega (arith, le, lt))
 in_numbers first (suc count) q le lt =

@@ -41,6 +41,7 @@ none_passes p xs k d none lt passes =
     let behind : length xs ≤ position_or_len p xs = grind (arith, common_steps, none) in
     true≢false (sym passes ∙ fails_before_first p xs k d (omega (arith, behind, lt)))
 
+-- the row that has a digest is the one that is found by it
 pub row_is : {m : List MRow} → IsAccepted m
     → {r : ℕ} {d : List ℕ} → r < length m → (row_at m r).digest ≡ d → row_with_digest m d ≡ Some r
 row_is {m = m} ok {r = r} {d = d} lt is = by_row (row_with_digest m d) refl
@@ -52,6 +53,7 @@ row_is {m = m} ok {r = r} {d = d} lt is = by_row (row_with_digest m d) refl
         let at = position-Some (λ (row : MRow). bytes_eq row.digest d) m q no_row found in
         ap Some (ok.one_digest q r at.0 lt ((bytes_decides (row_at m q).digest d).0 at.1 ∙ sym is))
 
+-- the row that is found by a digest has it
 pub row_has : (m : List MRow) {r : ℕ} (d : List ℕ)
     → row_with_digest m d ≡ Some r → (r < length m) × ((row_at m r).digest ≡ d)
 row_has m {r = r} d found = let at = position-Some (λ (row : MRow). bytes_eq row.digest d)
@@ -70,6 +72,7 @@ row_found m r (Some q) (Ok d) is = by_test _ is
 
 -- ---- searches
 
+-- nothing is found where nothing passes
 pub find_never : (p : Coming → Bool) (l : List Coming)
     → ((c : Coming) → Among l c → p c ≡ true → ⊥) → find p l ≡ None
 find_never p [] never = refl
@@ -219,6 +222,7 @@ module _ (digest : List ℕ → List ℕ) {n : List MRow} (okn : IsAccepted n) {
 abbrev pub IsBelow : ℕ → Option ℕ → Type 0
 IsBelow n row = IfSome row (λ q. q < n)
 
+-- receipts tell of rows that are listed
 abbrev pub AreBelow : ℕ → List ReceiptValue → Type 0
 AreBelow n [] = Unit {0}
 AreBelow n (r ∷ rs) = IsBelow n r.row × AreBelow n rs
@@ -231,6 +235,7 @@ same_kept m x (Some q) below =
     let same : row_at (m ++ x) q ≡ row_at m q = get_or_append_left m x no_row q below in
     (ap (λ (row : MRow). Some row.header.id) same, ap (λ (row : MRow). Some row.header.resend) same)
 
+-- a reply stays where rows are added
 pub reply_same : (m x : List MRow) (n : ℕ) (number digest : List ℕ) (rs : List ReceiptValue)
     → AreBelow (length m) rs → reply_alike (m ++ x) n number digest rs ≡ reply_alike m n number digest rs
 reply_same m x n number digest [] below = refl
@@ -257,6 +262,7 @@ longer m (arrived a ∷ e) = longer m e
 longer m (moved t ∷ e) = longer m e
 longer m (arrived_early a ∷ e) = longer m e
 
+-- an arrival came when no more rows were listed than now
 pub rows_short : (m : List MRow) (e : List EventValue) (c : Coming)
     → Among (comings_after m e) c → length c.rows ≤ length (union_after m e)
 rows_short m [] c among = absurd among

@@ -54,6 +54,7 @@ told_before before rows told (Some r) = sym (set.contains-from_list_nat rows r)
     back any = list_any-from_Contains (eq_by_cmp_equiv nat_cmp_total)
         r rows ((told.each r).1 (any_says sha256 reading r [] before any))
 
+-- a new arrival gets the receipt that the definition gives it
 pub new_receipt : (e : List EventValue) (a : ArrivalValue) (k : StoreState)
     (found : Assessment) (cache : Cache) (receipt : ReceiptValue) → IsNew e a k found cache receipt
     → receipt ≡ receipt_for sha256 reading (distinct sha256 reading (comings e)) (coming (union e) a)

@@ -35,6 +35,7 @@ none_either_way : {X : Type 0} {none : Option X} (b : Bool) → cond b none none
 none_either_way true = refl
 none_either_way false = refl
 
+-- a new store stands for its manifest alone
 pub stands_at_first : (m : List MRow) → IsStateAfter sha256 reading (listed m ∷ []) (fresh m)
 stands_at_first m = record {
   books = record {
@@ -64,6 +65,7 @@ arrivals_set_none (a ∷ l) = arrivals_set_none l
 no_moment : (m : List MRow) (l : List ArrivalValue) → last_moment (manifest_then m l) ≡ None
 no_moment m l = arrivals_set_none l
 
+-- what a manifest and arrivals leave, whatever their order
 pub left_by_arrivals : AreLeftByArrivals
 left_by_arrivals m l k stood apart =
     let e = manifest_then m l in

@@ -17,6 +17,7 @@ use Rattle.esc_desk.specs.Again.{IsUnkept}
 use Rattle.esc_desk.specs.Calls.{HasNoPlace, IsCause}
 use Rattle.esc_desk.specs.Causes.{IsCrowded}
 
+-- what is so of the error is so of the result
 pub if_err_is : {X E : Type 0} (r : Result X E) (f : E) (P : E → Type 0) → r ≡ Err f → P f → IfErr r P
 if_err_is r f P is p = rw is p
 

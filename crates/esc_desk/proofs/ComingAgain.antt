@@ -141,9 +141,11 @@ is_again e n body k reply digest same stands is there = record {
   found_is = refl;
 }
 
+-- a verdict that is not A2
 abbrev pub IsOther : Verdict → Type 0
 IsOther v = (v ≡ A1) ⊎ ((n : ℕ) × (v ≡ A3 n)) ⊎ (v ≡ A4) ⊎ (v ≡ A5)
 
+-- such a verdict is not A2
 pub no_verdict : (v : Verdict) → IsOther v → v ≡ A2 → ⊥
 no_verdict v (inl is) same = let never : ⊥ = cc in never
 no_verdict v (inr (inl (n, is))) same = let never : ⊥ = cc in never

@@ -13,6 +13,7 @@ use Rattle.esc_desk.proofs.EventLemmas.{comings_then}
 abbrev pub counting : List Coming → List Coming
 counting l = filter (λ c. not (is_lost sha256 reading c)) l
 
+-- which arrivals count, of two lists
 pub counting-append : (xs ys : List Coming) → counting (xs ++ ys) ≡ counting xs ++ counting ys
 counting-append xs ys = filter-append (λ c. not (is_lost sha256 reading c)) xs ys
 
@@ -20,6 +21,7 @@ all_count : (m : List MRow) (l : List ArrivalValue) → counting (map (coming m)
 all_count m [] = refl
 all_count m (a ∷ l) = ap (λ (cs : List Coming). coming m a ∷ cs) (all_count m l)
 
+-- all arrivals after a manifest count
 pub counted_then : (m : List MRow) (l : List ArrivalValue)
     → kept_arrivals sha256 reading (manifest_then m l) ≡ map (coming m) l
 counted_then m l = ap counting (comings_then m l) ∙ all_count m l

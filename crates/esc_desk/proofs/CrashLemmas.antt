@@ -47,6 +47,7 @@ one_at_least trees e (x ∷ doubtful) one = inr (one_at_least trees e doubtful o
 
 -- ---- an event that was refused
 
+-- what a crash leaves is still one of what it may leave, with one more event in doubt
 pub one_with : (trees : Trees) (e doubtful : List EventValue) (x : EventValue) (f : StoreFault)
     → IsStoreForOneOf trees e doubtful → IsStoreForOneOf trees e (doubtful_with f x doubtful)
 one_with trees e doubtful x (Failed cause) one = inr one

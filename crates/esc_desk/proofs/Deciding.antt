@@ -80,6 +80,7 @@ module _ (r : Option ReceiptValue) (l : Option Listing) (b : Storing) (t : Optio
 
 -- ---- an edit that changes nothing
 
+-- an edit has no part
 pub record IsNone (edit : Edit) : Type 0 where
   pub receipt : edit.receipt ≡ None
   pub listing : edit.listing ≡ None
@@ -87,6 +88,7 @@ pub record IsNone (edit : Edit) : Type 0 where
   pub moment : edit.moment ≡ None
   pub plan : edit.plan ≡ None
 
+-- an empty edit has no part
 pub is_none_of : (edit : Edit) → is_empty edit ≡ true → IsNone edit
 is_none_of edit = by_parts edit.receipt edit.listing edit.body edit.moment edit.plan
   where
@@ -102,6 +104,7 @@ is_none_of edit = by_parts edit.receipt edit.listing edit.body edit.moment edit.
     by_parts None None Nothing (Some t) p is = absurd (true≢false (sym is))
     by_parts None None Nothing None (Some p) is = absurd (true≢false (sym is))
 
+-- an edit without a part changes nothing
 pub nothing_edited : (edit : Edit) (k : StoreState) → IsNone edit → edited edit k ≡ k
 nothing_edited edit k is =
     ap (λ (x : Edit). edited x k)

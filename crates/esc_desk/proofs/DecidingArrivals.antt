@@ -51,6 +51,7 @@ some_where (Some body) there = refl
 
 -- ---- what stays beside the receipts
 
+-- a store differs from another by a receipt at most
 pub record IsBesides (r : Option ReceiptValue) (k later : StoreState) : Type 0 where
   pub listed : later.listed ≡ k.listed
   pub receipts : later.receipts ≡ (receipted r k).receipts
@@ -162,6 +163,7 @@ module _ {e : List EventValue} {a : ArrivalValue} {k : StoreState} {found : Asse
 
 -- ---- a new arrival, and one that comes again
 
+-- a new arrival is decided with its receipt
 pub arriving_new : {e : List EventValue} {a : ArrivalValue} {k : StoreState} {before : Cache}
     {r : Received} → IsReceived e a k before r → IsArriving e a k r.found r.cache (Some r.receipt)
 arriving_new {k = k} got =
@@ -178,6 +180,7 @@ arriving_new {k = k} got =
       late = books_held noted;
     }
 
+-- one that comes again is decided without a receipt
 pub arriving_again : {e : List EventValue} {a : ArrivalValue} {k : StoreState} {found : Assessment}
     {cache : Cache} {reply : ReplyValue} → IsAgain e a k found reply → IsCacheOf k cache
     → IsArriving e a k found cache None

@@ -192,6 +192,7 @@ module _ (m : List MRow) (l : List ArrivalValue) where
 
 -- ---- what is kept
 
+-- a store of version 1 stands for its events
 pub stands_early : (m : List MRow) (l : List ArrivalValue) (k : StoreState)
     → StoodFor sha256 reading m l k → IsStateAfter sha256 reading (events_before m l) k
 stands_early m l k stood = record {

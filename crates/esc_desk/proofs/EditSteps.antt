@@ -75,9 +75,11 @@ pub timed_bodies : (t : Option (Option ℤ)) (k : StoreState) → (timed t k).bo
 timed_bodies None k = refl
 timed_bodies (Some t) k = refl
 
+-- what stays by two parts of a change
 pub stays_then : {a b c : StoreState} → StaysPut a b → StaysPut b c → StaysPut a c
 stays_then p q = record { steps = q.steps ∙ p.steps; registry = q.registry ∙ p.registry }
 
+-- an edit of the books leaves the tables
 pub stays_put : (edit : Edit) (k : StoreState) → StaysPut k (books_edited edit k)
 stays_put edit k =
     let a = receipted edit.receipt k in

@@ -49,11 +49,13 @@ unmapped : (P : KeyName → Type 0) (es : List Entry)
 unmapped P [] all = tt
 unmapped P (e ∷ es) all = (all.0, unmapped P es all.1)
 
+-- entries that rise are in order
 pub in_order : (es : List Entry) → Rises es → InOrder es
 unfolding IsStrictlySortedBy
 in_order [] up = tt
 in_order (e ∷ es) up = (mapped (λ k. key_cmp e.0 k ≡ Less) es up.0, in_order es up.1)
 
+-- entries in order rise
 pub rises : (es : List Entry) → InOrder es → Rises es
 unfolding IsStrictlySortedBy
 rises [] up = tt
@@ -65,6 +67,7 @@ above-filter k p es above =
     (All-filter p (λ (f : Entry). key_cmp k f.0 ≡ Less)
     es (All-from_recursion (λ (f : Entry). key_cmp k f.0 ≡ Less) es above))
 
+-- entries that pass a test still rise
 pub rises-filter : (p : Entry → Bool) (es : List Entry) → Rises es → Rises (filter p es)
 rises-filter p [] up = tt
 rises-filter p (e ∷ es) up =
@@ -73,6 +76,7 @@ rises-filter p (e ∷ es) up =
       | false ↦ rises-filter p es up.1
     ]
 
+-- what a filter leaves passed its test
 pub all_passed : (p : Entry → Bool) (es : List Entry) → Pass p (filter p es)
 all_passed p es = recursion_from_All (λ (e : Entry). p e ≡ true) (filter p es) (filter_passes p es)
 
@@ -92,12 +96,14 @@ rises-append p q below (a ∷ xs) ys up then ps qs =
 
 -- ---- look-ups
 
+-- a key is looked up in one list, and then in another
 pub lookup-append : (q : KeyName) (xs ys : List Entry)
     → lookup (key_eq q) (xs ++ ys) ≡ option_or (lookup (key_eq q) xs) (lookup (key_eq q) ys)
 lookup-append q [] ys = refl
 lookup-append q (a ∷ xs) ys = elim (cases_Bool (key_eq q a.0))
     [ inl is ↦ rw is refl | inr other ↦ rw other (lookup-append q xs ys) ]
 
+-- whether an entry is what its key gives
 abbrev pub is_found : List Entry → Entry → Bool
 is_found es e = is_some (lookup (key_eq e.0) es)
 
@@ -133,6 +139,7 @@ first_found e es = rw (key_itself e.0) refl
 abbrev SameLookups : List Entry → List Entry → Type 0
 SameLookups xs ys = (q : KeyName) → lookup (key_eq q) xs ≡ lookup (key_eq q) ys
 
+-- a key that has nothing is not that of the first entry
 pub no_first : (e : Entry) (es : List Entry) (o : Option ObjectValue)
     → o ≡ None → lookup (key_eq e.0) (e ∷ es) ≡ o → ⊥
 no_first e es o none is = let never : Some e.1 ≡ None = sym (first_found e es) ∙ is ∙ none in absurd cc

@@ -26,6 +26,7 @@ holds_from_says row number digest early (Differing r) again says = let verdict =
 holds_from_says row number digest early (Holding r d) again says =
     ap (λ (q : ℕ). holds_row q (Holding r d)) (sym (same_Some _ _ says.1)) ∙ same_self r
 
+-- the receipt of a body that a row holds says so
 pub says_from_holds : (row : ℕ) (number digest : List ℕ) (early : Bool) (f : Assessment) (again : Bool)
     → holds_row row f ≡ true → SaysHeld row (receipt_by number digest early f again)
 says_from_holds row number digest early Unlisted again is = absurd (true≢false (sym is))

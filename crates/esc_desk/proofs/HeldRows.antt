@@ -16,6 +16,7 @@ use Rattle.esc_events.specs.Receipts.{is_row}
 use Rattle.esc_events.specs.StateAfter.{with_some, holds_by, rows_of_arrivals}
 use Rattle.esc_events.specs.HeldLaws.{same_test}
 
+-- the row that is meant
 pub is_row_of : (r : ℕ) (row : Option ℕ) → is_row r row ≡ true → row ≡ Some r
 is_row_of r None is = absurd (true≢false (sym is))
 is_row_of r (Some q) is = ap Some (eqb-true q r is)
@@ -26,6 +27,7 @@ pub listed_row : (m : List MRow) (row : Option ℕ) (told : Result DepositValue 
 listed_row m None told listed = absurd (listed refl)
 listed_row m (Some q) told listed = refl
 
+-- where no row lists a body none is found
 pub unlisted_row : (m : List MRow) (row : Option ℕ) (told : Result DepositValue Refusal)
     → found_at m row told ≡ Unlisted → row ≡ None
 unlisted_row m None told is = refl

@@ -31,10 +31,12 @@ use Rattle.esc_desk.proofs.Moving.{IsMove}
 abbrev pub IsRefused : Assessment → Type 0
 IsRefused found = ((r : ℕ) × (n : Refusal) × (found ≡ Unreadable r n)) ⊎ ((r : ℕ) × (found ≡ Differing r))
 
+-- a body that is refused is listed
 pub refused_listed : (found : Assessment) → IsRefused found → found ≡ Unlisted → ⊥
 refused_listed found (inl (r, n, is)) same = let never : ⊥ = cc in never
 refused_listed found (inr (r, is)) same = let never : ⊥ = cc in never
 
+-- a body that is refused is held by no row
 pub refused_row : (found : Assessment) → IsRefused found → held_row found ≡ None
 refused_row found (inl (r, n, is)) = ap held_row is
 refused_row found (inr (r, is)) = ap held_row is

@@ -72,10 +72,12 @@ module _ (number digest : List ℕ) where
 
 -- ---- the rows of which a body is held
 
+-- the body that was put is there
 pub put_at : (bodies : ℕ → Option (List ℕ)) (row : ℕ) (body : List ℕ)
     → body_put bodies row body row ≡ Some body
 put_at bodies row body = ap (λ b. cond b (Some body) (bodies row)) (same_self row)
 
+-- the rows that are held, with one more
 pub held_more : (bodies : ℕ → Option (List ℕ)) (row : ℕ) (body : List ℕ) (held more : List ℕ)
     → AreHeld bodies held → IsInserted held row more → AreHeld (body_put bodies row body) more
 held_more bodies row body held more are inserted = record {
@@ -99,10 +101,12 @@ held_more bodies row body held more are inserted = record {
 
 -- ---- whether a row is one of them
 
+-- a row that is found among others is one of them
 pub contained : (rows : List ℕ) (r : ℕ) → list_any (λ q. nat_eq q r) rows ≡ true → Contains rows r
 contained rows r any = Contains-from_any exact
     r rows (sym (set.contains-from_list nat_cmp_total rows r) ∙ set.contains-from_list_nat rows r ∙ any)
 
+-- a row that is not among those with a body has none
 pub no_body : (bodies : ℕ → Option (List ℕ)) (rows : List ℕ)
     → AreHeld bodies rows → (r : ℕ) → list_any (λ q. nat_eq q r) rows ≡ false → bodies r ≡ None
 no_body bodies rows are r other = by_body (bodies r) refl

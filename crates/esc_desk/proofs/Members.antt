@@ -12,12 +12,14 @@ use Rattle.esc_events.specs.Receipts.{alike, distinct}
 use Rattle.esc_events.specs.StateAfter.{Among, arrived_body}
 use Rattle.esc_desk.proofs.Searches.{any_find}
 
+-- some arrival passes where one of them does
 pub any_of : (p : Coming → Bool) (l : List Coming) (a : Coming)
     → Among l a → p a ≡ true → list_any p l ≡ true
 any_of p [] a among e = absurd among
 any_of p (b ∷ l) a (inl is) e = ap (λ (x : Coming). p x || list_any p l) (sym is) ∙ ap (λ t. t || list_any p l) e
 any_of p (b ∷ l) a (inr there) e = ap (λ t. p b || t) (any_of p l a there e) ∙ or_right (p b) true refl
 
+-- one of them passes where some does
 pub one_of : (p : Coming → Bool) (l : List Coming)
     → list_any p l ≡ true → (a : Coming) × Among l a × (p a ≡ true)
 one_of p [] e = absurd (true≢false (sym e))
@@ -39,15 +41,18 @@ first_of p (b ∷ l) y e = by_test (p b) refl e (first_of p l y)
     by_test true is e rest = (inl (sym (same_Some _ _ e)), ap p (sym (same_Some _ _ e)) ∙ is)
     by_test false is e rest = let x = rest e in (inr x.0, x.1)
 
+-- one of the first list is one of both
 pub among-front : (l m : List Coming) (a : Coming) → Among l a → Among (l ++ m) a
 among-front [] m a among = absurd among
 among-front (b ∷ l) m a (inl is) = inl is
 among-front (b ∷ l) m a (inr there) = inr (among-front l m a there)
 
+-- the last arrival is one of them
 pub among-last : (l : List Coming) (a : Coming) → Among (l ++ a ∷ []) a
 among-last [] a = inl refl
 among-last (b ∷ l) a = inr (among-last l a)
 
+-- what a filter leaves was there
 pub passed_among : (p : Coming → Bool) (l : List Coming) (a : Coming) → Among (filter p l) a → Among l a
 passed_among p [] a among = among
 passed_among p (b ∷ l) a among = by_test (p b) among (passed_among p l a)
@@ -58,6 +63,7 @@ passed_among p (b ∷ l) a among = by_test (p b) among (passed_among p l a)
     by_test true (inr there) rest = inr (rest there)
     by_test false there rest = inr (rest there)
 
+-- what a filter leaves passed its test
 pub passed_test : (p : Coming → Bool) (l : List Coming) (a : Coming) → Among (filter p l) a → p a ≡ true
 passed_test p [] a among = absurd among
 passed_test p (b ∷ l) a among = by_test (p b) refl among (passed_test p l a)
@@ -68,6 +74,7 @@ passed_test p (b ∷ l) a among = by_test (p b) refl among (passed_test p l a)
     by_test true is (inr there) rest = rest there
     by_test false is there rest = rest there
 
+-- what passes is left by the filter
 pub among_passed : (p : Coming → Bool) (l : List Coming) (a : Coming)
     → Among l a → p a ≡ true → Among (filter p l) a
 among_passed p [] a among passes = among
@@ -82,6 +89,7 @@ among_passed p (b ∷ l) a (inr there) passes = by_test (p b) (among_passed p l 
     by_test true rest = inr rest
     by_test false rest = rest
 
+-- the distinct arrivals are among all
 pub distinct_among : (digest : List ℕ → List ℕ) (reads : List ℕ → Result DepositValue Refusal)
     (l : List Coming) (a : Coming) → Among (distinct digest reads l) a → Among l a
 distinct_among digest reads [] a among = among
@@ -97,6 +105,7 @@ any_found p l = any_find p l ∙ with_body (find p l)
     with_body None = refl
     with_body (Some c) = refl
 
+-- where no body is found no arrival is
 pub no_first : (p : Coming → Bool) (l : List Coming) → arrived_body (find p l) ≡ None → find p l ≡ None
 no_first p l none = by_find (find p l) refl
   where

@@ -41,6 +41,7 @@ pub each_of : (P : ℕ → Type 0) (rows : List ℕ)
 each_of P [] all = tt
 each_of P (r ∷ rows) all = (all 0 (omega arith), each_of P rows (λ i within. all (suc i) (omega (arith, within))))
 
+-- two functions that agree on rows map them alike
 pub same_maps : {X : Type 0} (f g : ℕ → X) (rows : List ℕ)
     → AllByRecursion (λ r. f r ≡ g r) rows → map f rows ≡ map g rows
 same_maps f g [] all = refl
@@ -109,6 +110,7 @@ module _ (digest : List ℕ → List ℕ) (reads : List ℕ → Result DepositVa
   contains_held e r = rows.contains_held digest reads (union e) (kept_arrivals digest reads e) r
       ∙ any_found (holds_by digest reads (union e) r) (kept_arrivals digest reads e)
 
+-- a Bool that is true
 pub true_of : (b : Bool) → IsTrue b → b ≡ true
 true_of true is = refl
 true_of false is = is
@@ -143,6 +145,7 @@ all_same : (steps : List Step) → prefix_len same_step (zip steps steps) ≡ le
 all_same [] = refl
 all_same (s ∷ steps) = rw (same_itself s) (omega (arith, all_same steps))
 
+-- a chain has all of itself in front
 pub front_of_same : (steps : List Step) → common_front steps steps ≡ length steps
 front_of_same steps = length-prefix_len same_step (zip steps steps) ∙ all_same steps
 
@@ -174,6 +177,7 @@ nothing_done n c same =
     ap (λ (ds : List DepositValue). sum_by mention_count ds + 0) (nothing_undone c n same) in
     λ i. record { cleared = cleared i; undone = undone i; applied = applied i; writes = writes i }
 
+-- to stay at a chain costs nothing
 pub no_move : (steps : List Step) (c : List DepositValue)
     → length c ≡ length steps → cost c steps steps [] ≡ no_work
 no_move steps c same =

@@ -31,11 +31,13 @@ use Rattle.esc_desk.proofs.CrashLemmas.{one_with}
 
 -- ---- two lists of events with the same rows, arrivals and moment
 
+-- two lists of events stand for the same
 pub record AreAlike (e f : List EventValue) : Type 0 where
   pub rows : union f ≡ union e
   pub came : comings f ≡ comings e
   pub moment : last_moment f ≡ last_moment e
 
+-- a store that stands for one of them stands for the other
 pub stands_alike : {e f : List EventValue} {k : StoreState}
     → AreAlike e f → IsStateAfter sha256 reading e k → IsStateAfter sha256 reading f k
 stands_alike {e} {f} {k} same stood =

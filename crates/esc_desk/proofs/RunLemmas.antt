@@ -70,6 +70,7 @@ module _ (e f : List EventValue) (came : Coming) (last : comings f ≡ comings e
       ap₂ (λ (m : List MRow) (rs : List ReceiptValue). reply_alike m 1 a.number (sha256 a.body) rs) rows grown.1
       ∙ alike-front (union e) a.number (sha256 a.body) 1 (receipts_of sha256 reading e) grown.0 r is
 
+-- a reply stays after one more event
 pub reply_stays : (e : List EventValue) (x : EventValue) → KeepsReplies e (e ++ x ∷ [])
 reply_stays e (listed more) a r is = replies_stay e more a ∙ is
 reply_stays e (arrived b) a r is = reply_grows e (e ++ arrived b ∷ [])
@@ -82,6 +83,7 @@ reply_stays e (moved t) a r is =
     λ m cs. reply_alike m 1 a.number (sha256 a.body) (receipts_after sha256 reading [] (distinct sha256 reading cs)) in
     ap₂ reply (union-moved e t) (comings-moved e t) ∙ is
 
+-- a reply stays after any events
 pub replies_kept : (e more : List EventValue) → KeepsReplies e (e ++ more)
 replies_kept e [] a r is = ap (λ (k : List EventValue). reply_to sha256 reading k a) (append-nil e) ∙ is
 replies_kept e (x ∷ more) a r is =

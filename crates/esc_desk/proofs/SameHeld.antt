@@ -21,6 +21,7 @@ use Rattle.esc_desk.specs.Laws.{TablesAreOfEvents, HoldTheSame, SameHeldSameKept
 use Rattle.esc_desk.proofs.ReadLemmas.{same_content}
 use Rattle.esc_desk.proofs.WalkSteps.{held_in_range}
 
+-- the tables are those of the events
 pub tables_are_of : TablesAreOfEvents
 tables_are_of e k stood apart = record { latest = chain_of e k stood apart; content = same_content e k stood apart }
 
@@ -64,6 +65,7 @@ module _ {e f : List EventValue} (same : HoldTheSame e f) where
   body_same : (r : ℕ) → held_body sha256 reading e r ≡ held_body sha256 reading f r
   body_same r = same_body e f same.apart r r (some_same r) (ap (λ (m : List MRow). (row_at m r).digest) same.listed)
 
+-- where the same is held the same is kept
 pub same_kept : OneLatestChainAt → SameHeldSameKept
 same_kept law e f k l accepted same apart others stood other =
     let h = held_rows sha256 reading e in

@@ -76,6 +76,7 @@ module _ {e f : List EventValue} (same : HoldTheSameRows e f) where
       let first = ap (deposit_of reading) (body_same r s held.0 others.0 row) in
       ap₂ (λ (x : DepositValue) (xs : List DepositValue). x ∷ xs) first (deposits_same c d held.1 others.1 rest)
 
+-- where the same rows are listed and held the tables are the same
 pub same_tables : ChainsAreOfRows → SameRowsSameTables
 same_tables law e f k l accepted same apart others stood other =
     let h = held_rows sha256 reading e in

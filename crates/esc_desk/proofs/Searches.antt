@@ -18,10 +18,12 @@ any_find p (x ∷ xs) = by_test (p x) (any_find p xs)
     by_test true rest = refl
     by_test false rest = rest
 
+-- what is found in the first list is found in both
 pub find-front : {X : Type 0} (p : X → Bool) (xs ys : List X) (y : X)
     → find p xs ≡ Some y → find p (xs ++ ys) ≡ Some y
 find-front {X = X} p xs ys y e = find-append p xs ys ∙ ap (λ (o : Option X). option_or o (find p ys)) e
 
+-- what is not in the first list is looked for in the second
 pub find-back : {X : Type 0} (p : X → Bool) (xs ys : List X)
     → find p xs ≡ None → find p (xs ++ ys) ≡ find p ys
 find-back {X = X} p xs ys e = find-append p xs ys ∙ ap (λ (o : Option X). option_or o (find p ys)) e

@@ -31,6 +31,7 @@ pub tells_of_row : (m : List MRow) (digest : List ℕ) (row : ℕ) → row_with_
     → (r : ReceiptValue) → TellsUnlisted digest r → TellsOf m row r
 tells_of_row m digest row lists r tells = inr ((tells.0, refl), ap (row_with_digest m) tells.1 ∙ lists)
 
+-- a receipt of an unlisted body tells of the row that lists it later
 pub any_of_row : (m : List MRow) (digest : List ℕ) (row : ℕ) → row_with_digest m digest ≡ Some row
     → (rs : List ReceiptValue) → Any (TellsUnlisted digest) rs → Any (TellsOf m row) rs
 any_of_row m digest row lists rs any =

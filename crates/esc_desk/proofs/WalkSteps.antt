@@ -38,6 +38,7 @@ use Rattle.esc_desk.proofs.Walks.{page_turned, from_the_first}
 
 -- ---- the rows that are held are listed
 
+-- the rows that are held are rows
 pub held_in_range : (e : List EventValue) → InRange (union e) (held_rows sha256 reading e)
 held_in_range e r held =
     let holds = sym (contains_held sha256 reading (union e) (kept_arrivals sha256 reading e) r) ∙ held in
@@ -60,6 +61,7 @@ entries_kept {e} {es} {k} law accepted apart stood entries q =
 
 -- ---- the page at hand
 
+-- an iterator at its end gives nothing more
 pub no_items : {X Z : Type 0} (it : IntoIter X Z) → into_iter_len it ≡ 0 → into_iter_items it ≡ []
 no_items it is = nil_from_length (into_iter_items it) (sym it.rest.ok.0 ∙ is)
 
@@ -162,6 +164,7 @@ module _ {S : Type 0} (g : Ghosts S) where
 
 -- ---- the last entry of a page
 
+-- the last entry of a page has its last key
 pub last_found : (page : List Entry) (e : Entry)
     → slice_get page (length page - 1) ≡ Some e → last_text page ≡ Some e.0.text
 last_found [] e is = absurd cc

@@ -40,6 +40,7 @@ idle_by e a k row stood none held work apart same =
 
 -- ---- another moment is set
 
+-- the move to a moment, from the chain that is kept to the latest one
 pub moment_move : {e : List EventValue} {k : StoreState} {t : Option ℤ} {cache : Cache} {plan : Plan}
     {listed : List MRow} {rows : List ℕ} → IsStateAfter sha256 reading e k → IsCacheOf k cache
     → listed ≡ k.listed → rows ≡ cache.held_rows.items

@@ -150,7 +150,7 @@ impl<S: Alter> Reads for Desk<S> {
     ghost was_honest = { λ a b p clean. honest_before p.same clean };
 }
 
-// The parked bodies with these digests. `S1` if one of them isn't parked.
+// Digests and lengths of the parked bodies with these digests. `S1` if one of them isn't parked.
 fn parked_bodies<S: Alter>(
     store: &mut Store<S>,
     alloc: Global,
@@ -169,7 +169,7 @@ fn parked_bodies<S: Alter>(
     Ok(bodies)
 }
 
-// The parked body with a digest. `S1` if there is none.
+// Digest and length of the parked body with a digest. `S1` if there is none.
 fn parked_body<S: Alter>(store: &mut Store<S>, digest: &[u8; 32]) -> Result<ParkedBody, StoreFault>
     ensures same { IsAsBefore S.Store store.old store.new }
     ensures digest { IfOk result (λ p. p.digest ≡ digest.now) }
@@ -177,12 +177,12 @@ fn parked_body<S: Alter>(store: &mut Store<S>, digest: &[u8; 32]) -> Result<Park
         → IfOk result (IsParkedBody k.parked) }
     ensures cause { IfErr result IsFailure }
 {
-    let Some(body) = store.parked_body(digest)? else {
+    let Some(bytes) = store.parked_length(digest)? else {
         return Err(StoreFault::Failed(Cause::NoBody));
     };
     Ok(ParkedBody {
         digest: *digest,
-        bytes: body.len() as u64,
+        bytes,
     })
 }
 

@@ -36,23 +36,25 @@ fn latest_steps(
     Ok(steps_of(alloc, manifest.rows(), &chain)?)
 }
 
-// The steps of the latest chain of these rows up to a moment, where `chain` is that of the rows but
-// for one. Where that row goes at the end of `chain`, no chain is made anew. `S1`, `S2` as of
+// The steps of the latest chain of the held rows up to a moment, where the cached chain is that of
+// the rows but for one. Where that row goes at its end, no chain is made anew. `S1`, `S2` as of
 // `latest_steps`.
 fn steps_with(
     alloc: Global,
     manifest: &Manifest,
-    chain: &[Step],
-    rows: &[usize],
+    cache: &Cache,
     moment: Option<i64>,
     row: usize,
 ) -> Result<Vec<Step>, StoreFault>
     ensures few { IfOk result (λ steps. length steps.items ≤ 4096) }
     ensures steps { IfOk result
-        (λ steps. IsChainWithout manifest.now rows.now moment row chain.now
-        → AreLatestSteps manifest.now rows.now moment steps.items) }
+        (λ steps. IsChainWithout manifest.now cache.now.held_rows.items moment row
+        cache.now.chain.items
+        → AreLatestSteps manifest.now cache.now.held_rows.items moment steps.items) }
     ensures cause { IfErr result IsFailure }
 {
+    let chain = cache.chain.as_slice();
+    let rows = cache.held_rows.as_slice();
     if lengthens(manifest, chain, rows, moment, row) {
         let last = step_of(manifest.rows(), row);
         return Ok(with_step(alloc, chain, last)?);
@@ -153,7 +155,7 @@ pub(crate) fn plan_arrived(
         → AreLatestSteps manifest.now cache.old.held_rows.items moment p.new.items) }
     ensures cause { IfErr result IsFailure }
 {
-    let new = steps_with(alloc, manifest, &cache.chain, &cache.held_rows, moment, row)?;
+    let new = steps_with(alloc, manifest, cache, moment, row)?;
     plan_to(alloc, cache, new)
 }
 

@@ -26,7 +26,7 @@ pub use Rattle.esc_sql.proofs.ObjectLemmas.{inserts_objects, update_part, adds_o
 pub use Rattle.esc_sql.proofs.ObjectLemmas.{puts_new}
 pub use Rattle.esc_sql.proofs.ObjectLists.{shows_kinds, lists_kinds, shows_from, lists_from}
 pub use Rattle.esc_sql.proofs.ParkedLemmas.{finds_moment, clears_moment, moment_is, sets_moment}
-pub use Rattle.esc_sql.proofs.ParkedLemmas.{shows_digests, finds_parked, removes_parked, puts_parked}
+pub use Rattle.esc_sql.proofs.ParkedLemmas.{shows_length, shows_digests, finds_parked, removes_parked, puts_parked}
 pub use Rattle.esc_sql.proofs.ParkedLemmas.{lists_parked}
 pub use Rattle.esc_sql.proofs.PartLemmas.{parts, part_as, then_part, tells, makes, read_part, read_then, refused}
 pub use Rattle.esc_sql.proofs.ReceiptLemmas.{shows_verdict_digests, shows_last, finds_receipt}

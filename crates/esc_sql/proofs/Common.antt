@@ -69,7 +69,7 @@ pub use Rattle.sqlite_schema.specs.declared.command.Returning.{Returning}
 pub use Rattle.sqlite_schema.specs.declared.program.Program.{Program}
 pub use Rattle.sqlite_sql.specs.declared.ops.BinaryOp.TheVariants.{Compare}
 pub use Rattle.sqlite_sql.specs.declared.ops.CompareOp.TheVariants.{Eq, Ge}
-pub use Rattle.sqlite_sql.specs.declared.ops.UnaryOp.TheVariants.{ToNumeric}
+pub use Rattle.sqlite_sql.specs.declared.ops.UnaryOp.TheVariants.{ToNumeric, Length}
 pub use Rattle.sqlite_value.proofs.OrderLemmas.{value_cmp-Int, value_cmp-Blob}
 pub use Rattle.sqlite_value.specs.Order.{Row, column, value_cmp}
 pub use Rattle.sqlite_value.specs.declared.keys.Key.{Key}
@@ -111,7 +111,7 @@ pub use Rattle.esc_sql.specs.Texts.{clear_objects_text, find_object_text, object
 pub use Rattle.esc_sql.specs.Texts.{select_kinds_text, insert_undo_text, insert_images_text}
 pub use Rattle.esc_sql.specs.Texts.{select_undo_text, delete_undo_text, clear_undo_text}
 pub use Rattle.esc_sql.specs.Texts.{insert_parked_text, find_parked_text, parked_digests_text}
-pub use Rattle.esc_sql.specs.Texts.{delete_parked_text, clear_moment_text, insert_moment_text}
+pub use Rattle.esc_sql.specs.Texts.{parked_length_text, delete_parked_text, clear_moment_text, insert_moment_text}
 pub use Rattle.esc_sql.specs.Texts.{find_moment_text}
 pub use Rattle.esc_sql.specs.declared.object.TheConstants.{ROWS_AT_ONCE}
 unfoldable pub use Rattle.sqlite_value.specs.Keys.{first_key}

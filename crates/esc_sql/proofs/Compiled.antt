@@ -7,7 +7,7 @@ use Rattle.esc_sql.proofs.Common.{bytes_eq-Decides, IsPlain, command_of, stateme
 use Rattle.esc_sql.proofs.Common.{next_tree, Binary, Select, Insert, Update, Delete, CreateTable}
 use Rattle.esc_sql.proofs.Common.{lacks_sequence, reads_listing, understood, Query, Schema, Values}
 use Rattle.esc_sql.proofs.Common.{Table, Term}
-use Rattle.esc_sql.proofs.Common.{col, lit, op1, op2, Program, Compare, Eq, Ge, ToNumeric, Key, Null}
+use Rattle.esc_sql.proofs.Common.{col, lit, op1, op2, Program, Compare, Eq, Ge, ToNumeric, Length, Key, Null}
 use Rattle.esc_sql.proofs.Common.{Int, Command, Compiled, Returning, is_write_text, is_read_text}
 use Rattle.esc_sql.proofs.Common.{table_at, schema_of, store_schema, first_schema, info_tree}
 use Rattle.esc_sql.proofs.Common.{receipt_tree}
@@ -30,6 +30,7 @@ pub record IsWrite (text : List ℕ) (command : Command) : Type 0 where
   pub plain : IsPlain (understood store_schema text)
   pub writes : is_write_text text ≡ true
 
+-- the program of a query
 abbrev pub program_of : Query → Program
 program_of q = record { lets = []; body = q }
 
@@ -45,6 +46,7 @@ pub record IsQueryOver (schema : Schema) (text : List ℕ) (q : Query) : Type 0 
 abbrev pub IsQuery : List ℕ → Query → Type 0
 IsQuery = IsQueryOver store_schema
 
+-- the term that compares two terms
 abbrev pub equals : Term → Term → Term
 equals a b = op2 (Compare Eq Binary) a b
 
@@ -76,15 +78,19 @@ rows_terms one step (suc n) at = one at ++ rows_terms one step n (at + step)
 abbrev is_of : ℕ → Term
 is_of at = equals (col 1 at) (op1 ToNumeric (col 0 0))
 
+-- what WHERE tests of an object: its kind and its key
 abbrev pub object_tests : List Term
 object_tests = is_of 1 ∷ equals (col 1 2) (col 0 1) ∷ []
 
+-- what SET gives an object: its bytes
 abbrev pub object_sets : List Term
 object_sets = col 1 0 ∷ col 1 0 ∷ col 1 1 ∷ col 1 2 ∷ col 0 2 ∷ []
 
+-- the terms of one object in an INSERT of many
 abbrev pub new_object_terms : ℕ → List Term
 new_object_terms at = lit Null ∷ given ((at + 0) ∷ (at + 1) ∷ (at + 2) ∷ [])
 
+-- what WHERE tests of a before-image: its step
 abbrev pub undo_tests : List Term
 undo_tests = is_of 1 ∷ []
 
@@ -92,6 +98,7 @@ undo_tests = is_of 1 ∷ []
 abbrev pub new_image_terms : ℕ → List Term
 new_image_terms at = lit Null ∷ given (0 ∷ suc (at + 0) ∷ suc (at + 1) ∷ suc (at + 2) ∷ [])
 
+-- what WHERE tests of a parked body: its digest
 abbrev pub parked_tests : List Term
 parked_tests = equals (col 1 1) (col 0 0) ∷ []
 
@@ -177,6 +184,10 @@ queries =
       scan undo_tree undo_tests (shown (2 ∷ 3 ∷ 4 ∷ [])) (up (col 1 2) ∷ up (col 1 3) ∷ []) no_limit,
     )
     ∷ (texts.find_parked_text, scan parked_tree parked_tests (shown (2 ∷ [])) [] no_limit)
+    ∷ (
+      texts.parked_length_text,
+      scan parked_tree parked_tests (op1 Length (col 1 2) ∷ []) [] no_limit,
+    )
     ∷ (texts.parked_digests_text, scan parked_tree [] (shown (1 ∷ [])) (up (col 1 1) ∷ []) no_limit)
     ∷ (texts.find_moment_text, scan moment_tree [] (shown (2 ∷ [])) [] no_limit)
     ∷ []
@@ -199,16 +210,19 @@ each f g (w ∷ table) all text a is = elim (cases_Bool (bytes_eq text w.0)) [
 abbrev pub Parts : Type 0
 Parts = Command × Option Returning × List (List ℕ)
 
+-- a compiled text as its command, what it returns and what is left
 abbrev pub parts : Result Compiled CompileError → Option Parts
 parts (Ok c) = Some (c.command, c.returning, c.formats)
 parts (Err e) = None
 
+-- a text with this command alone is plain
 pub parted : (r : Result Compiled CompileError) (command : Command)
     → parts r ≡ Some (command, None, []) → (command_of r ≡ command) × IsPlain r
 parted (Ok c) command is = let e : ◌≡◌ {A = Parts} (c.command, c.returning, c.formats)
     (command, None, []) = cc in (ap (λ p. p.0) e, (ap (λ p. p.1) e, ap (λ p. p.2) e))
 parted (Err e) command is = absurd cc
 
+-- a text that is said to write has this command
 pub write_is : {text : List ℕ} {command : Command} → said writes text ≡ Some command → IsWrite text command
 unfolding understood is_write_text everything
 write_is {text} {command} is =
@@ -240,11 +254,13 @@ query_over schema text q h =
     let both = parted (understood schema text) _ (ap (λ p. p.0) h) in
     record { names = _; is = both.0; plain = both.1; unlisted = ap (λ p. p.1) h; reads = ap (λ p. p.2) h }
 
+-- a text that is said to ask has this query
 pub query_is : {text : List ℕ} {q : Query} → said queries text ≡ Some q → IsQuery text q
 unfolding understood is_read_text everything
 query_is {text} {q} is = query_over
     store_schema text q (each (asked store_schema) (select store_schema) queries refl text q is)
 
+-- the query of the version is a scan of the info table
 pub select_version_is : (schema : Schema) → IsOfSomeVersion schema
     → IsQueryOver schema texts.select_version_text (scan info_tree [] (shown (2 ∷ [])) [] no_limit)
 unfolding understood is_read_text everything
@@ -253,6 +269,7 @@ select_version_is schema (inr first) = rw first (query_over first_schema texts.s
 
 -- ---- CREATE
 
+-- what is known of the first texts that make a store, each with its command
 abbrev pub Made : Type 0
 Made = Result Table CompileError × Schema × Option Parts × List ℕ × Bool × Bool × List Table × ℕ
 
@@ -271,6 +288,7 @@ made at =
       next_tree (schema_of at),
     )
 
+-- what is known of one of them
 abbrev pub one_more : ℕ → Made
 one_more at = (
   Ok (record (table_at at) { tree = 0 }),
@@ -283,6 +301,7 @@ one_more at = (
   (table_at at).tree,
 )
 
+-- each of the nine texts that create a table is compiled
 pub create_is : (at : ℕ) → at < 9 → made at ≡ one_more at
 unfolding understood is_write_text everything digits
 create_is at low =

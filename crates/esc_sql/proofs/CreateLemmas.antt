@@ -108,6 +108,7 @@ nothing : (t : StoreTable) → ([] ≡ map (stored_row t) (rows_of (fresh_conten
 nothing listed = (refl, tt)
 nothing _ = (refl, tt)
 
+-- the first row of the info table makes a store without rows
 pub makes_empty : IsWriting insert_info_text [] MakesEmpty
 makes_empty = record {
   writes = (write_is {text = insert_info_text} refl).writes;
@@ -122,6 +123,7 @@ makes_empty = record {
       (λ t. (nothing t).1);
 }
 
+-- the query of the version shows it
 pub shows_version : (old new : State) (rows : List Row)
     → Shown select_version_text [] old new rows → ShowsVersion old.now rows
 shows_version old new rows shown known few =
@@ -144,6 +146,7 @@ before (r ∷ rows) (suc at) d up low = (
   before rows at d up.1 (omega arith),
 )
 
+-- a further row of the manifest is added to those before it
 pub adds_next : (rows : List ListedRow) (at : ℕ) (d : ListedRow) (old new : Database)
     → at < length rows → IsKeyedBy listed_number rows → HoldsContent old (fresh_content (take at rows))
     → PutsListed (get_or rows at d) old new → HoldsContent new (fresh_content (take (at + 1) rows))
@@ -154,6 +157,7 @@ adds_next rows at d old new low up holds adds =
 
 -- ---- the version of a store is raised
 
+-- the text that raises the version does so
 pub raises : IsWriting raise_version_text [] RaisesVersion
 raises = record {
   writes = (write_is {text = raise_version_text} refl).writes;
@@ -189,6 +193,7 @@ stay : (at : ℕ) (old new : Database) → IsTableAdded at old new → (t : Stor
     → new.trees (tree_of t) ≡ old.trees (tree_of t)
 stay at old new added t = of_first (λ s. new.trees s.tree ≡ old.trees s.tree) at t added.others
 
+-- two tables that are added one after the other
 pub adds_both : (a b d : Database) → AddsTable 7 a b → AddsTable 8 b d → AddsBoth a d
 adds_both a b d parked moment c h = record {
   schema_is = last.schema_is;

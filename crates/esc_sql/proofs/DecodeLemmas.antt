@@ -5,6 +5,7 @@ use Rattle.esc_sql.proofs.Common.{number_value, AreRead, map-map, zero, suc, ari
 use Rattle.sqlite_keyed.proofs.ListLemmas.{map_back}
 use Rattle.std.proofs.Common.{add-one}
 
+-- a further row that was read joins those that were read
 pub one_more : {V : Type 0} (IsRead : Row → V → Type 0) (rows : List Row) (vs : List V) (v : V)
     (k : ℕ) (d : Row) → k < length rows → AreRead IsRead (take k rows) vs → IsRead (get_or rows k d) v
     → AreRead IsRead (take (k + 1) rows) (vs ++ v ∷ [])
@@ -35,6 +36,7 @@ module _ {R V : Type 0} (shown : R → Row) (view : V → R) where
 
 -- ---- rows of one number each
 
+-- rows that were read as numbers have these in their first column
 pub reads_numbers : (rows : List Row) (ns : List ℕ)
     → AreRead (λ row n. number_value n ≡ first_of row) rows ns → map number_value ns ≡ map first_of rows
 reads_numbers [] [] all = refl

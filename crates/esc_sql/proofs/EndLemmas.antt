@@ -43,14 +43,17 @@ module _ (text : List ℕ) (command : Command)
             s c.returning c.command (text_of text c) (timed [] c.formats h.1.now) trees) same h.2,
       )
 
+-- BEGIN commits nothing
 pub begin_commits_none : (s : State) (trees : Trees) → ¬ CommitsBy begin_text [] s trees
 begin_commits_none s trees h =
     let m = (may_commit begin_text Begin 15 (λ s. (bare_is s).0) s trees h).1 in grind (arith, m)
 
+-- ROLLBACK commits nothing
 pub rollback_commits_none : (s : State) (trees : Trees) → ¬ CommitsBy rollback_text [] s trees
 rollback_commits_none s trees h =
     let m = (may_commit rollback_text Rollback 8 (λ s. (bare_is s).2) s trees h).1 in grind (arith, m)
 
+-- COMMIT leaves what there is now
 pub commit_leaves : (s : State) (trees : Trees) → CommitsBy commit_text [] s trees → trees ≡ s.now.trees
 commit_leaves s trees h =
     let m = (may_commit commit_text Commit 6 (λ s. (bare_is s).1) s trees h).1 in grind (arith, m)

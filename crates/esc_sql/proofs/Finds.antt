@@ -19,21 +19,25 @@ use Rattle.std.specs.Cmp.{IsEquivalence}
 use Rattle.std.proofs.lemmas.List.Elements.{filter_passes}
 use Rattle.sqlite_tied.proofs.RuleLemmas.{clash_is}
 
+-- tests that agree find the same
 pub find_same : {X : Type 0} (p q : X → Bool)
     → ((x : X) → p x ≡ q x) → (xs : List X) → find p xs ≡ find q xs
 find_same p q same xs = sym (slice_get-filter p xs)
     ∙ ap (λ ys. slice_get ys 0) (filter_same p q same xs) ∙ slice_get-filter q xs
 
+-- what is found in a mapped list is what is found before the map
 pub found-map : {X Y V : Type 0} (out : Y → V) (p : Y → Bool) (f : X → Y) (xs : List X)
     → option_map out (find p (map f xs)) ≡ option_map (λ x. out (f x)) (find (λ x. p (f x)) xs)
 found-map out p f [] = refl
 found-map out p f (x ∷ xs) = grind (arith, found-map out p f xs)
 
+-- two filters are one
 pub filter-and : {X : Type 0} (p q : X → Bool) (xs : List X)
     → filter p (filter q xs) ≡ filter (λ x. q x && p x) xs
 filter-and p q [] = refl
 filter-and p q (x ∷ xs) = grind (arith, filter-and p q xs)
 
+-- what is found in a filtered list passes both tests
 pub find-filter : {X : Type 0} (p q : X → Bool) (xs : List X) → find p (filter q xs) ≡ find (λ x. q x && p x) xs
 find-filter p q [] = refl
 find-filter p q (x ∷ xs) = grind (arith, find-filter p q xs)
@@ -76,6 +80,7 @@ module _ {X V : Type 0} (out : X → V)
 abbrev pub both_eq : {A B : Type 0} → (A → A → Bool) → (B → B → Bool) → A × B → A × B → Bool
 both_eq E F a b = E a.0 b.0 && F a.1 b.1
 
+-- pairs are compared by an equivalence where both parts are
 pub both_equiv : {A B : Type 0} {E : A → A → Bool} {F : B → B → Bool}
     → IsEquivalence E → IsEquivalence F → IsEquivalence (both_eq E F)
 both_equiv {A} {B} e f = and_equiv (on_equiv (λ (k : A × B). k.0) e) (on_equiv (λ (k : A × B). k.1) f)

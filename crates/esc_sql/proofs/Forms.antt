@@ -31,6 +31,7 @@ use Rattle.sqlite_catalog.proofs.ReadLemmas.{lists_once}
 use Rattle.esc_sql.specs.Content.{AreStoreTrees}
 use Rattle.esc_sql.specs.FirstVersion.{AreFirstTrees}
 
+-- two Ok with one value
 pub same_value : {B E : Type 0} {a b : B} → ◌≡◌ {A = Result B E} (Ok a) (Ok b) → a ≡ b
 same_value e = cc
 
@@ -142,6 +143,7 @@ pub read_from : (t : StoreTable) (trees : Trees) → overlay trees [] (tree_of t
 read_from Listed trees = refl
 read_from _ trees = refl
 
+-- no table of rows is the info table
 pub not_info : (t : StoreTable) → info_tree ≢ tree_of t
 not_info Listed e = cc
 not_info _ e = cc
@@ -170,12 +172,14 @@ pub record IsWritten (tree : ℕ) (old new : Database) : Type 0 where
   pub others : AllByRecursion (λ t. t.tree ≢ tree → new.trees t.tree ≡ old.trees t.tree) store_schema.tables
   pub sound : IsSound store_schema new.trees
 
+-- an edit of a table is a write of its tree
 pub written : (old new : Database) (edit : Edit) → old.schema ≡ store_schema
     → IsDatabase new → IsEdited old new edit → IsWritten edit.table.tree old new
 written old new edit has live it =
     let same = it.same_schema ∙ has in
     record { same_schema = same; others = it.applies.tables; sound = subst (λ s. IsSound s new.trees) same live }
 
+-- a write of one tree leaves the rows of other tables
 pub other_rows : (tree : ℕ) (old new : Database) → IsWritten tree old new
     → (s : StoreTable) → tree_of s ≢ tree → new.trees (tree_of s) ≡ old.trees (tree_of s)
 other_rows tree old new w s = of_table (λ t. t.tree ≢ tree → new.trees t.tree ≡ old.trees t.tree) s w.others
@@ -195,6 +199,7 @@ each_with P c Parked xs this others Parked = this
 each_with P c Moment xs this others Moment = this
 each_with P c t xs this others s = others s (eqb-false (tree_of s) (tree_of t) refl)
 
+-- the content after a write of one table
 pub content_then : (old new : Database) (c : Content)
     → HoldsContent old c → (t : StoreTable) → IsWritten (tree_of t) old new
     → (xs : List (RowOf t)) → new.trees (tree_of t) ≡ map (stored_row t) xs
@@ -222,6 +227,7 @@ opens_store db c live it = record {
   store = it;
 }
 
+-- a database whose trees are those of a version 1 has its content
 pub opens_first : (db : Database) (c : Content)
     → IsDatabase db → AreFirstTrees db.trees c → HoldsFirstContent db c
 opens_first db c live it = record {

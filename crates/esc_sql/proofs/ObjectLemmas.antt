@@ -36,11 +36,13 @@ use Rattle.esc_sql.proofs.Statements.{finds, cuts, clears}
 use Rattle.sqlite_keyed.proofs.KeyedLemmas.{IsKeyedBy-update_where}
 use Rattle.sqlite_keyed.proofs.WriteLemmas.{puts_update}
 
+-- keys that are found alike are alike
 pub keys_are : (k : ℕ) (q : List ℕ) (kind : ℕ) (key : List ℕ)
     → is_same_key k q kind key ≡ true → (k ≡ kind) × (q ≡ key)
 keys_are k q kind key h = let both = and_parts (k == kind) (bytes_eq q key) h in
     (eqb-true k kind both.0, (bytes_eq-Decides q key).0 both.1)
 
+-- kind and text are a key of objects
 pub object_keys : IsKey Objects (λ o. (o.kind, o.key)) (both_eq ◌==◌ bytes_eq)
 unfolding first_key
 object_keys =
@@ -48,6 +50,7 @@ object_keys =
     (λ a b. rw (same_number a.kind b.kind, same_blob a.key b.key, and_true (bytes_eq a.key b.key)) refl)
     (λ trees row h. (and_parts _ true h).0)
 
+-- the parameters that write an object
 abbrev pub object_params : ℕ → List ℕ → List ℕ → Row
 object_params kind key bytes = Int (pos kind) ∷ Blob key ∷ Blob bytes ∷ []
 
@@ -57,6 +60,7 @@ at_key kind key more o = rw (same_number_of o.kind kind, same_blob o.key key, an
 
 -- ---- find
 
+-- the query of one object shows it
 pub finds_object : (kind : ℕ) (key : List ℕ)
     → IsAsking find_object_text (Int (pos kind) ∷ Blob key ∷ []) (ShowsObject kind key)
 finds_object kind key = finds Objects (is_object_at kind key) shown_bytes (query_is refl)
@@ -81,6 +85,7 @@ adds_objects es it given =
     (λ old new put c h. let it = put c h in
     (it.0, it.1, record { fresh = λ k q. (it.2 (k, q)).0; same = λ k q. (it.2 (k, q)).1 }))
 
+-- the INSERT of one object adds it
 pub adds_object : (kind : ℕ) (key bytes : List ℕ)
     → IsWriting insert_object_text (object_params kind key bytes) (AddsObject kind key bytes)
 adds_object kind key bytes =
@@ -93,6 +98,7 @@ adds_object kind key bytes =
       λ k q. grind (arith, it.2.same k q),
     ))
 
+-- the INSERT of many objects puts them
 pub inserts_objects : (es : List ObjectEntry) → length es ≡ ROWS_AT_ONCE
     → IsWriting insert_objects_text (flat_map shown_entry es) (PutsObjects es)
 inserts_objects es long =
@@ -215,6 +221,7 @@ module _ (kind : ℕ) (key bytes : List ℕ) where
 
 -- ---- delete
 
+-- the DELETE of one object removes it
 pub removes_object : (kind : ℕ) (key : List ℕ)
     → IsWriting delete_object_text (Int (pos kind) ∷ Blob key ∷ []) (RemovesObject kind key)
 removes_object kind key =
@@ -225,5 +232,6 @@ removes_object kind key =
           kind key k q) (λ o. key_test object_keys (kind, key) (k, q) (o.kind, o.key)) c.objects,
     ))
 
+-- the DELETE of all objects leaves none
 pub clears_objects : IsWriting clear_objects_text [] (Becomes without_objects)
 clears_objects = clears Objects (write_is refl)

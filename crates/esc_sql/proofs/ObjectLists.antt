@@ -23,9 +23,11 @@ use Rattle.esc_sql.proofs.Statements.{asks_sorted}
 use Rattle.std.specs.Cmp.{tied_itself}
 use Rattle.esc_sql.proofs.Scan.{not_below, and_true, same_number_of}
 
+-- what objects are sorted by
 abbrev pub sorted_by : ObjectRow → Row
 sorted_by o = Int (pos o.kind) ∷ Blob o.key ∷ []
 
+-- the order of keys is total
 pub key_total : IsTotalOrder by_key
 key_total = both_total (λ (o : ObjectRow). o.kind) (λ (o : ObjectRow). o.key)
 
@@ -58,10 +60,12 @@ objects_found p k q e same db c h =
     (is_entry_at k q) object_entry by_key key_total p c.objects (few object_keys p (k, q) db c h)
     ∙ found-and (λ o. o.bytes) p (is_object_at k q) e same c.objects
 
+-- the query of kinds shows that of each object
 pub shows_kinds : IsAsking select_kinds_text [] ShowsKinds
 shows_kinds = asks_sorted Objects (λ o. (sorted_by o, shown_kind o))
     (query_is refl) every (λ o. refl) by_key key_total (λ a b. key_values a b) apart
 
+-- the kinds that are shown are those of the objects, by key
 pub lists_kinds : (db : Database) (c : Content) (found : List ℕ)
     → HoldsContent db c → found ≡ map (λ o. o.kind) (sort_by by_key c.objects) → ListsKinds c found
 lists_kinds db c found h is = record {
@@ -78,6 +82,7 @@ lists_kinds db c found h is = record {
 
 -- ---- a page of objects: what its query gives, and what that is
 
+-- the query of a kind's objects shows those from a key on
 pub shows_from : (kind : ℕ) (from : List ℕ)
     → IsAsking objects_from_text (Int (pos kind) ∷ Blob from ∷ []) (ShowsFrom kind from)
 shows_from kind from =

@@ -9,13 +9,15 @@ use Rattle.esc_sql.proofs.Common.{insert_by}
 use Rattle.esc_sql.proofs.Common.{has_key, sort_by, delete_where, value_cmp-Blob, Row, Int, Blob}
 use Rattle.esc_sql.proofs.Common.{Becomes, HoldsContent, Content, first_of, by_digest, shown_digest}
 use Rattle.esc_sql.proofs.Common.{parked_digest, stored_row, Parked, Moment, insert_parked_text}
-use Rattle.esc_sql.proofs.Common.{find_parked_text, parked_digests_text, delete_parked_text}
+use Rattle.esc_sql.proofs.Common.{find_parked_text, parked_length_text, parked_digests_text, delete_parked_text}
 use Rattle.esc_sql.proofs.Common.{clear_moment_text, insert_moment_text, find_moment_text, first_key}
 use Rattle.esc_sql.proofs.Common.{IsPermutation-refl, arith, IsPermutation-map}
+use Rattle.sqlite.specs.Ops.{unary}
 use Rattle.std.proofs.lemmas.Map.Views.{Contains-from_any, list_any-from_Contains}
 use Rattle.esc_sql.specs.Rows.{ParkedRow, MomentRow, moment_number}
 use Rattle.esc_sql.specs.Content.{parked_at, is_parked_at, moment_set}
 use Rattle.esc_sql.specs.Parked.{PutsParked, RemovesParked, ListsParked, shown_parked, ShowsParked}
+use Rattle.esc_sql.specs.Parked.{shown_length, ShowsLength}
 use Rattle.esc_sql.specs.Parked.{ShowsDigests, without_moment, moment_row, SetsMoment, shown_moment}
 use Rattle.esc_sql.specs.Parked.{ShowsMoment}
 use Rattle.esc_sql.proofs.Compiled.{parked_tests, write_is, query_is}
@@ -39,6 +41,7 @@ parked_keys = unique_key Parked (1 ∷ []) _ bytes_eq nat_list_eq_equiv (λ a b.
 
 -- ---- insert
 
+-- the INSERT of a parked body puts it
 pub puts_parked : (digest body : List ℕ)
     → IsWriting insert_parked_text (Blob digest ∷ Blob body ∷ []) (PutsParked digest body)
 puts_parked digest body =
@@ -60,6 +63,7 @@ at_digest : (digest : List ℕ) (p : ParkedRow)
     → is_match parked_tests (Blob digest ∷ []) (stored_row Parked p) ≡ is_parked_at digest p
 at_digest digest p = and_true _ ∙ same_blob p.digest digest
 
+-- the DELETE of a parked body removes it
 pub removes_parked : (digest : List ℕ) → IsWriting delete_parked_text (Blob digest ∷ []) (RemovesParked digest)
 removes_parked digest =
     writing_as (cuts Parked (is_parked_at digest) (write_is refl) (at_digest digest)) (λ old new cut c h. (
@@ -71,8 +75,14 @@ removes_parked digest =
 
 -- ---- find
 
+-- the query of one parked body shows it
 pub finds_parked : (digest : List ℕ) → IsAsking find_parked_text (Blob digest ∷ []) (ShowsParked digest)
 finds_parked digest = finds Parked (is_parked_at digest) shown_parked (query_is refl)
+    (at_digest digest) (λ p. refl) (few parked_keys (λ _. true) digest)
+
+pub shows_length : (digest : List ℕ) → IsAsking parked_length_text (Blob digest ∷ []) (ShowsLength digest)
+unfolding unary
+shows_length digest = finds Parked (is_parked_at digest) shown_length (query_is refl)
     (at_digest digest) (λ p. refl) (few parked_keys (λ _. true) digest)
 
 -- ---- the digests
@@ -85,6 +95,7 @@ unlike : (db : Database) (c : Content)
 unlike db c h = ascending_weaker _ (λ a b. is_eq (by_digest a b) ≡ false)
     (λ a b e. is_eq-slice_cmp a.digest b.digest ∙ e) c.parked (parked_keys.apart db c h)
 
+-- the query of digests shows that of each parked body
 pub shows_digests : IsAsking parked_digests_text [] ShowsDigests
 shows_digests =
     asking_as (asks_sorted Parked (λ p. (Blob p.digest ∷ [], Blob p.digest ∷ [])) (query_is refl) every
@@ -97,6 +108,7 @@ found_any : (d : List ℕ) (ps : List ParkedRow)
 found_any d [] = refl
 found_any d (p ∷ ps) = grind (arith, nat_list_eq_equiv.symm d p.digest, found_any d ps)
 
+-- the digests that are shown are those of the parked bodies, in order
 pub lists_parked : (db : Database) (c : Content) (found : List (List ℕ))
     → HoldsContent db c → found ≡ map parked_digest (sort_by by_digest c.parked) → ListsParked c found
 lists_parked db c found h is = subst (ListsParked c) (sym is) (record {
@@ -116,6 +128,7 @@ lists_parked db c found h is = subst (ListsParked c) (sym is) (record {
 
 -- ---- the moment
 
+-- the DELETE of the moment leaves none
 pub clears_moment : IsWriting clear_moment_text [] (Becomes without_moment)
 clears_moment = clears Moment (write_is refl)
 
@@ -124,6 +137,7 @@ none_free : (ms : List MomentRow) → has_key moment_number ms (pos 1) ≡ false
 none_free [] free = refl
 none_free (m ∷ ms) free = absurd cc
 
+-- the INSERT of a moment sets it
 pub sets_moment : (watermark : ℤ) → IsWriting insert_moment_text (Int watermark ∷ []) (SetsMoment watermark)
 sets_moment watermark =
     let m = moment_row watermark in
@@ -132,6 +146,7 @@ sets_moment watermark =
     let none = none_free c.moment (added c h).1 in
     (subst (λ ms. HoldsContent new (record c { moment = insert_by moment_number ms m })) none (added c h).0, none))
 
+-- the query of the moment shows it
 pub finds_moment : IsAsking find_moment_text [] ShowsMoment
 finds_moment =
     asks_in_order Moment (λ m. ([], shown_moment m)) (query_is refl) every (λ m. refl) (λ c. c.moment)
@@ -141,6 +156,7 @@ finds_moment =
           moment_number (pos 1) (λ _. true) (λ m is. refl) c.moment (h.store.ordered Moment))),
     ))
 
+-- the moment that is read of the rows is the one that is set
 pub moment_is : (c : Content) (rows : List Row) (found : Option ℤ) → ShowsMoment c rows
     → option_map Int found ≡ option_map first_of (slice_get rows 0) → found ≡ moment_set c.moment
 moment_is c rows found shows is = go c.moment found (is ∙ ap (λ l. option_map first_of (slice_get l 0)) shows)

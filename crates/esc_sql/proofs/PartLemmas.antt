@@ -30,10 +30,12 @@ Ran Runs g sql params old new result = record {
   survives : is_write_text sql ≡ true → Survives (state g old) (state g new) (λ _. ⊥);
 }
 
+-- what a call did that wrote rows and counted them
 abbrev pub Counted : {S : Type 0}
     → Ghosts S → List ℕ → Row → Held S → Held S → Result ℕ Error → Type 0
 Counted = Ran (ExecutesInside 0)
 
+-- what a call did that wrote rows
 abbrev pub Wrote : {S : Type 0}
     → Ghosts S → List ℕ → Row → Held S → Held S → Result (Unit {0}) Error → Type 0
 Wrote = Ran RunsInside
@@ -221,6 +223,7 @@ tells {Within} {text} {params} {old} {new} {rows_of} {result} a asked same =
 
 -- ---- a read, and then its rows made values
 
+-- what a read says of what it shows
 pub read_then : {X Y E : Type 0}
     {old new : State} {Shows : Content → X → Type 0} {Says : Content → Y → Type 0} {x : X}
     {r : Result Y E} → IsRead {X = X} {E = E} old new (Tells Shows) (Ok x)

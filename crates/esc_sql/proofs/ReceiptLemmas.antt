@@ -33,6 +33,7 @@ use Rattle.std.proofs.lemmas.List.Elements.{All-map}
 
 -- ---- insert
 
+-- the INSERT of a receipt adds it
 pub adds_receipt : (r : ReceiptRow) → IsWriting insert_receipt_text (shown_receipt r) (AddsReceipt r)
 adds_receipt r =
     appends Receipts (write_is refl) r refl
@@ -59,6 +60,7 @@ receipt_keys =
       and_true (bytes_eq a.digest b.digest),
     ) refl) (λ trees row h. (and_parts _ true h).0)
 
+-- the query of one receipt shows it
 pub finds_receipt : (number digest : List ℕ)
     → IsAsking find_receipt_text (Text number ∷ Blob digest ∷ []) (ShowsReceipt number digest)
 finds_receipt number digest =
@@ -72,9 +74,11 @@ finds_receipt number digest =
 
 -- ---- all, and the last
 
+-- the query of receipts shows each
 pub shows_receipts : IsAsking select_receipts_text [] ShowsReceipts
 shows_receipts = lists Receipts shown_receipt (query_is refl) (λ r. refl)
 
+-- the query of the last receipt shows it
 pub shows_last : IsAsking last_receipt_text [] ShowsLast
 shows_last =
     asks_in_order Receipts (λ r. (Int (pos r.receipt) ∷ [], Int (pos r.receipt) ∷ []))
@@ -99,10 +103,12 @@ newest c rows first shows is =
     go [] = refl
     go (r ∷ rs) = sym (ap last_number (reverse-cons r rs) ∙ last_push (reverse rs) r)
 
+-- the number that is read of the last receipt is its own
 pub last_is : (c : Content) (rows : List Row) (row : Row) (n : ℕ) → ShowsLast c rows
     → slice_get rows 0 ≡ Some row → column row 0 ≡ Int (pos n) → n ≡ last_number c.receipts
 last_is c rows row n shows first is = sym (ap number_in is) ∙ newest c rows (Some row) shows first
 
+-- where no receipt is shown the last number is 0
 pub none_is : (c : Content) (rows : List Row)
     → ShowsLast c rows → slice_get rows 0 ≡ None → 0 ≡ last_number c.receipts
 none_is c rows = newest c rows None
@@ -135,6 +141,7 @@ of_verdict : (verdict : ℕ) (rs : List ReceiptRow)
     (Int (pos verdict) ∷ []) (stored_row Receipts r)) rs ≡ filter (is_of_verdict verdict) rs
 of_verdict verdict = filter_same _ (is_of_verdict verdict) (λ r. and_true _ ∙ same_number_of r.verdict verdict)
 
+-- the query of the rows with a verdict shows them
 pub shows_rows : (verdict : ℕ) → IsAsking verdict_rows_text (Int (pos verdict) ∷ []) (ShowsRows verdict)
 shows_rows verdict = record {
   reads = (query_is {text = verdict_rows_text} refl).reads;
@@ -159,6 +166,7 @@ shows_rows verdict = record {
 
 -- ---- as numbers
 
+-- the rows that are shown are those with the verdict
 pub lists_rows : (verdict : ℕ) (c : Content) (rows : List Row) (found : List ℕ)
     → ShowsRows verdict c rows → map number_value found ≡ map first_of rows → ListsRows verdict c found
 lists_rows verdict c rows found shows are =
@@ -175,6 +183,7 @@ lists_rows verdict c rows found shows are =
 
 -- ---- digests
 
+-- the query of the digests with a verdict shows them
 pub shows_verdict_digests : (verdict : ℕ)
     → IsAsking verdict_digests_text (Int (pos verdict) ∷ []) (ShowsVerdictDigests verdict)
 shows_verdict_digests verdict =

@@ -82,10 +82,12 @@ module _ (text : List ℕ) (params : Row)
   unfolding CommitsBy
   commits_none db h = commits_nothing old old 0 inside text params h.0 h.1 (tame h.0 h.1.is) db h
 
+-- a text that reads returns no rows of a write
 pub no_returning : (text : List ℕ) → is_read_text text ≡ true
     → (schema : Schema) (c : Compiled) → understood schema text ≡ Ok c → c.returning ≡ None
 no_returning text reads schema c is = (fits text schema c is).1 reads
 
+-- a text that reads commits nothing
 pub reads_commit_none : (text : List ℕ) (params : Row) (s : State)
     → is_read_text text ≡ true → (db : Trees) → ¬ CommitsShowing text params s db
 unfolding CommitsShowing

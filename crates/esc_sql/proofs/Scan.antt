@@ -33,6 +33,7 @@ scan tree tests project order limit = record {
   offset = lit (Int (pos 0));
 }
 
+-- the limit of a query that has none
 abbrev pub no_limit : ℤ
 no_limit = negsuc 0
 
@@ -100,29 +101,36 @@ short_rises R (x ∷ y ∷ xs) few = absurd (omega arith)
 
 -- ---- the tests
 
+-- a truth value is as true as its Bool
 pub true_back : (b : Bool) → is_true (from_truth (Some b)) ≡ b
 true_back b = grind arith
 
+-- texts are compared byte for byte
 pub same_text : (a b : List ℕ) → is_true (binary (Compare Eq Binary) (Text a) (Text b)) ≡ bytes_eq a b
 unfolding binary
 same_text a b = true_back _ ∙ ap is_eq (value_cmp-Text a b) ∙ is_eq-slice_cmp a b
 
+-- blobs are compared byte for byte
 pub same_blob : (a b : List ℕ) → is_true (binary (Compare Eq Binary) (Blob a) (Blob b)) ≡ bytes_eq a b
 unfolding binary
 same_blob a b = true_back _ ∙ ap is_eq (value_cmp-Blob a b) ∙ is_eq-slice_cmp a b
 
+-- a blob is not below another in the order of bytes
 pub not_below : (a b : List ℕ)
     → is_true (binary (Compare Ge Binary) (Blob a) (Blob b)) ≡ is_ge (slice_cmp nat_cmp a b)
 unfolding binary
 not_below a b = true_back _ ∙ ap is_ge (value_cmp-Blob a b)
 
+-- integers are compared as numbers
 pub same_int : (a b : ℤ) → is_true (binary (Compare Eq Binary) (Int a) (Int b)) ≡ int_eq a b
 unfolding binary
 same_int a b = true_back _ ∙ ap is_eq (value_cmp-Int a b)
 
+-- natural numbers are compared as such
 pub same_number : (a b : ℕ) → is_true (binary (Compare Eq Binary) (Int (pos a)) (Int (pos b))) ≡ (a == b)
 same_number a b = same_int (pos a) (pos b) ∙ grind arith
 
+-- a number is not below another
 pub not_below_number : (a b : ℕ)
     → is_true (binary (Compare Ge Binary) (Int (pos a)) (Int (pos b))) ≡ not (ltb a b)
 unfolding binary
@@ -134,5 +142,6 @@ pub same_number_of : (a b : ℕ)
 unfolding unary
 same_number_of a b = same_number a b
 
+-- a further test that always passes
 pub and_true : (b : Bool) → (b && true) ≡ b
 and_true b = grind arith

@@ -10,6 +10,7 @@ use Rattle.sqlite_schema.specs.Code.{op_term, term_to, term_in, terms_in}
 use Rattle.esc_sql.specs.Schema.{first_is_one}
 use Rattle.esc_sql.specs.Shape.{node_at, IsFirstOne}
 
+-- a term whose nodes test that the first is one is that test
 pub term_from_nodes : (ops : List Op) (root : ℕ) → IsFirstOne ops root → term_in ops root ≡ first_is_one
 term_from_nodes ops root h = let e : length ops ≡ suc (suc (length ops - 2)) =
     (let d = h.deep in omega arith) in rw (e, h.is, h.left_is, h.right_is) refl
@@ -46,12 +47,14 @@ nodes_at : (ops : List Op) (depth root : ℕ)
 nodes_at ops zero root len h = absurd cc
 nodes_at ops (suc depth) root len h = nodes_of ops depth root (node_at ops root) len refl h
 
+-- a list of length one is its first
 pub alone_of : (ops : List Op) (roots : List ℕ) (d : ℕ)
     → length roots ≡ 1 → roots ≡ slice_index_or roots 0 d ∷ []
 alone_of ops [] d h = absurd (omega arith)
 alone_of ops (x ∷ []) d h = refl
 alone_of ops (x ∷ y ∷ more) d h = absurd (omega arith)
 
+-- terms are that test alone exactly where their nodes are
 pub tests_first : (ops : List Op) (roots : List ℕ) (d : ℕ) → length roots ≡ 1
     → (IsFirstOne ops (slice_index_or roots 0 d) → terms_in ops roots ≡ first_is_one ∷ [])
     × (terms_in ops roots ≡ first_is_one ∷ [] → IsFirstOne ops (slice_index_or roots 0 d))

@@ -25,10 +25,12 @@ find-sorted cmp total p xs few = find-permutation
 pub number_cmp : (a b : ℕ) → int_cmp (pos a) (pos b) ≡ nat_cmp a b
 number_cmp a b = grind arith
 
+-- two keys are equal in the order where kind and text are
 pub key_eq : (k : ℕ) (q : List ℕ) (kind : ℕ) (key : List ℕ)
     → is_eq (ordering_then (nat_cmp k kind) (slice_cmp nat_cmp q key)) ≡ ((k == kind) && bytes_eq q key)
 key_eq k q kind key = grind (arith, is_eq-slice_cmp q key)
 
+-- an order without a further part
 pub then_equal : (o : Ordering) → ordering_then o Equal ≡ o
 then_equal o = grind arith
 
@@ -52,18 +54,21 @@ module _ {X : Type 0} (kind : X → ℕ) (key : X → List ℕ) where
 
 -- ---- the first of rows that rise in an order
 
+-- what holds of all holds of the first
 pub all-take : {X : Type 0} (P : X → Type 0) (n : ℕ) (xs : List X)
     → AllByRecursion P xs → AllByRecursion P (take n xs)
 all-take P zero xs all = tt
 all-take P (suc n) [] all = tt
 all-take P (suc n) (x ∷ xs) all = (all.0, all-take P n xs all.1)
 
+-- the first of a rising list rise
 pub ascending-take : {X : Type 0} (R : X → X → Type 0) (n : ℕ) (xs : List X)
     → IsAscending R xs → IsAscending R (take n xs)
 ascending-take R zero xs up = tt
 ascending-take R (suc n) [] up = tt
 ascending-take R (suc n) (x ∷ xs) up = (all-take (R x) n xs up.0, ascending-take R n xs up.1)
 
+-- what a filter leaves passed its test
 pub all_passed : {X : Type 0} (p : X → Bool) (xs : List X) → AllByRecursion (λ x. p x ≡ true) (filter p xs)
 all_passed p xs = recursion_from_All (λ x. p x ≡ true) (filter p xs) (filter_passes p xs)
 

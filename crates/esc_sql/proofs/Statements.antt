@@ -28,6 +28,7 @@ use Rattle.esc_sql.proofs.Finds.{alone}
 
 -- ---- SELECT
 
+-- what a query over one tree shows, where the tree has typed rows
 pub asks_tree : {X : Type 0} (stored : X → Row) (out : X → Output)
     (tree : ℕ) {tests project : List Term} {order : List (Term × Key)} {limit : ℤ} {params : Row}
     {text : List ℕ} {schema : Schema} → IsQueryOver schema text (scan tree tests project order limit)

@@ -15,28 +15,34 @@ use Rattle.esc_sql.proofs.Statements.{finds, lists, cuts, adds, appends}
 use Rattle.esc_sql.proofs.PartLemmas.{IsAsking, IsWriting, writing_as}
 use Rattle.sqlite_keyed.proofs.RuleLemmas.{at_most_one}
 
+-- the INSERT of a held body holds it
 pub holds_body : (b : HeldRow) → IsWriting insert_held_text (shown_held b) (HoldsBody b)
 holds_body b = adds Held (write_is refl) b refl (rw (cast_null, cast_int (pos b.row)) refl)
 
+-- the query of one held body shows it
 pub finds_body : (row : ℕ) → IsAsking find_body_text (Int (pos row) ∷ []) (ShowsBody row)
 finds_body row =
     finds Held (λ b. int_eq (held_number b) (pos row)) shown_body (query_is refl)
     (λ b. and_true _ ∙ same_int (pos b.row) (pos row)) (λ b. refl)
     (λ db c h. at_most_one held_number (pos row) _ (λ b is. is) c.held (h.store.ordered Held))
 
+-- the INSERT of a step adds it
 pub adds_step : (s : StepRow) → IsWriting insert_step_text (shown_step s) (AddsStep s)
 adds_step s = appends Steps (write_is refl)
     s refl (rw (cast_null, cast_int (pos s.pos), cast_int (pos s.row)) refl) (λ x. x.pos) (λ x. refl)
 
+-- the DELETE of steps leaves those before
 pub clears_steps_from : (at : ℕ) → IsWriting clear_steps_from_text (Int (pos at) ∷ []) (Becomes (steps_before at))
 clears_steps_from at =
     writing_as (cuts Steps (λ s. not (ltb s.pos at)) (write_is refl) (λ s. and_true _ ∙ not_below_number s.pos at))
     (λ old new cut c h. subst (λ ss. HoldsContent new (record c { steps = ss }))
     (filter_same _ (λ (s : StepRow). ltb s.pos at) (λ s. grind arith) c.steps) (cut c h))
 
+-- the query of steps shows each
 pub shows_steps : IsAsking select_steps_text [] ShowsSteps
 shows_steps = lists Steps shown_step (query_is refl) (λ s. refl)
 
+-- the INSERT of a manifest row puts it
 pub puts_listed : (r : ListedRow) → IsWriting insert_listed_text (shown_listed r) (PutsListed r)
 puts_listed r =
     writing_as (adds Listed (write_is refl) r refl (rw (
@@ -49,5 +55,6 @@ puts_listed r =
     ) refl))
     (λ old new added c h. (added c h).0)
 
+-- the query of the manifest's rows shows each
 pub shows_listed : IsAsking select_listed_text [] ShowsListed
 shows_listed = lists Listed shown_listed (query_is refl) (λ r. refl)

@@ -24,6 +24,7 @@ use Rattle.std.proofs.lemmas.Cmp.{by_ranked}
 use mathlib.Core.Bool.{and_comm}
 use Rattle.sqlite_tied.proofs.RuleLemmas.{any_stored}
 
+-- a filter that passes all leaves all
 pub every : {X : Type 0} (xs : List X) → filter (λ _. true) xs ≡ xs
 every xs = filter_all (λ _. true) xs (all_of _ (λ _. refl) xs)
 

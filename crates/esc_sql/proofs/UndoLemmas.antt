@@ -82,6 +82,7 @@ module _ (at : ℕ) where
       (λ before after e. let behind = column_behind before (shown_image_entry e ++ after) in
       rw (behind 0, behind 1, behind 2) refl) ROWS_AT_ONCE es long)
 
+-- the INSERT of a before-image puts it
 pub puts_image : (at kind : ℕ) (key : List ℕ) (before : Option (List ℕ)) → IsWriting insert_undo_text
     (Int (pos at) ∷ Int (pos kind) ∷ Blob key ∷ blob_or_null before ∷ []) (PutsImage at kind key before)
 puts_image at kind key before =
@@ -96,12 +97,14 @@ puts_image at kind key before =
 
 -- ---- delete
 
+-- whether a before-image is of a step
 abbrev pub of_step : ℕ → UndoRow → Bool
 of_step at u = u.pos == at
 
 at_step : (at : ℕ) (u : UndoRow) → is_match undo_tests (Int (pos at) ∷ []) (stored_row Undo u) ≡ of_step at u
 at_step at u = and_true _ ∙ same_number_of u.pos at
 
+-- the DELETE of a step's before-images removes them
 pub removes_images : (at : ℕ) → IsWriting delete_undo_text (Int (pos at) ∷ []) (RemovesImages at)
 removes_images at =
     writing_as (cuts Undo (of_step at) (write_is refl) (at_step at)) (λ old new cut c h. (
@@ -111,6 +114,7 @@ removes_images at =
           (of_step at) (is_image_at p k q) (at == p) (λ u is. grind (arith, is)) c.undo,
     ))
 
+-- the DELETE of all before-images leaves none
 pub clears_undo : IsWriting clear_undo_text [] (Becomes without_undo)
 clears_undo = clears Undo (write_is refl)
 
@@ -136,12 +140,14 @@ step_apart at db c h =
 image_total : IsTotalOrder by_image
 image_total = both_total (λ (u : UndoRow). u.kind) (λ (u : UndoRow). u.key)
 
+-- the query of a step's before-images shows them
 pub shows_images : (at : ℕ) → IsAsking select_undo_text (Int (pos at) ∷ []) (ShowsImages at)
 shows_images at =
     asks_sorted Undo (λ u. (Int (pos u.kind) ∷ Blob u.key ∷ [], shown_image u))
     (query_is refl) (filter_same _ (of_step at) (at_step at)) (λ u. refl) by_image image_total
     (λ a b. both_values (λ (u : UndoRow). u.kind) (λ (u : UndoRow). u.key) a b) (step_apart at)
 
+-- the images that are shown are those of the step, by key
 pub lists_images : (db : Database) (at : ℕ) (c : Content) (found : List ImageEntry) → HoldsContent db c
     → found ≡ map image_entry (sort_by by_image (filter (of_step at) c.undo)) → ListsImages at c found
 lists_images db at c found h is = record {

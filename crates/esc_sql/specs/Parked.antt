@@ -6,7 +6,7 @@ use Rattle.std.specs.Cmp.Lexicographic.{slice_cmp}
 use Rattle.std.specs.List.{Contains}
 use Rattle.std.specs.Option.{option_to_list}
 use Rattle.std.specs.Prelude.{◌≡◌, ◌↔◌, ℕ, ℤ, List, [], ◌∷◌, map, find, Some, None, IsSome}
-use Rattle.std.specs.Prelude.{bytes_eq, if◌then◌else◌}
+use Rattle.std.specs.Prelude.{bytes_eq, if◌then◌else◌, length, pos}
 use Rattle.sqlite_value.specs.declared.value.Value.TheVariants.{Int, Blob}
 use Rattle.sqlite_value.specs.Order.{Row}
 use Rattle.sqlite.specs.Effect.{Database}
@@ -62,6 +62,13 @@ shown_parked p = Blob p.body ∷ []
 abbrev pub ShowsParked : List ℕ → Content → List Row → Type 0
 ShowsParked digest c rows = rows
     ≡ map shown_parked (option_to_list (find (is_parked_at digest) c.parked))
+
+abbrev pub shown_length : ParkedRow → Row
+shown_length p = Int (pos (length p.body)) ∷ []
+
+abbrev pub ShowsLength : List ℕ → Content → List Row → Type 0
+ShowsLength digest c rows = rows
+    ≡ map shown_length (option_to_list (find (is_parked_at digest) c.parked))
 
 abbrev pub shown_digest : List ℕ → Row
 shown_digest digest = Blob digest ∷ []

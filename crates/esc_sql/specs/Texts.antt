@@ -120,6 +120,9 @@ insert_parked_text = codes "INSERT INTO parked (digest, body) VALUES (?1, ?2)"
 abbrev pub find_parked_text : List ℕ
 find_parked_text = codes "SELECT body FROM parked WHERE digest = ?1"
 
+abbrev pub parked_length_text : List ℕ
+parked_length_text = codes "SELECT length(body) FROM parked WHERE digest = ?1"
+
 abbrev pub parked_digests_text : List ℕ
 parked_digests_text = codes "SELECT digest FROM parked ORDER BY digest"
 

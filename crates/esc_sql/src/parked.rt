@@ -1,12 +1,12 @@
 //! The table of parked bodies, which no row of the manifest lists, by their SHA-256.
 
-ghost use Rattle.std.specs.Prelude.{◌≡◌, ℕ, List, map, option_map};
+ghost use Rattle.std.specs.Prelude.{◌≡◌, ℕ, List, length, map, option_map};
 ghost use Rattle.sqlite.specs.Held.{state};
 ghost use Rattle.esc_sql.specs.Part.{IsPart, IsRead};
 ghost use Rattle.esc_sql.specs.Content.{parked_at};
 ghost use Rattle.esc_sql.specs.Changes.{Tells};
 ghost use Rattle.esc_sql.specs.Parked.{PutsParked, RemovesParked, ListsParked, ShowsParked};
-ghost use Rattle.esc_sql.specs.Parked.{ShowsDigests, shown_digest};
+ghost use Rattle.esc_sql.specs.Parked.{ShowsLength, ShowsDigests, shown_digest};
 
 use crate::reader::{FromRow, read_rows};
 use crate::within::write_within;
@@ -58,6 +58,31 @@ pub fn find_parked<S: Alter>(
         ≡ parked_at digest.now c.parked)) result }
 {
     let rows = ask_parked(conn, digest)?;
+    match rows.first() {
+        Some(row) => Ok(Some(row.get(0)?)),
+        None => Ok(None),
+    }
+}
+
+fn ask_length<S: Alter>(conn: &mut Connection<S>, digest: &[u8]) -> Result<Vec<Row>, Error>
+    ensures read { IsRead (state S.Store conn.old) (state S.Store conn.new)
+        (λ db rows. Tells (ShowsLength digest.now) db rows.items) result }
+{
+    conn.query_all(
+        "SELECT length(body) FROM parked WHERE digest = ?1",
+        params![digest],
+    )
+}
+
+/// How many bytes the body has that is parked under the digest, if one is. The body isn't returned.
+pub fn parked_length<S: Alter>(
+    conn: &mut Connection<S>,
+    digest: &[u8],
+) -> Result<Option<u64>, Error>
+    ensures read { IsRead (state S.Store conn.old) (state S.Store conn.new)
+        (Tells (λ c found. found ≡ option_map length (parked_at digest.now c.parked))) result }
+{
+    let rows = ask_length(conn, digest)?;
     match rows.first() {
         Some(row) => Ok(Some(row.get(0)?)),
         None => Ok(None),

@@ -121,6 +121,7 @@ module _ (s : State) (c : Content)
         ∙ (ap (λ b. cond b (Some (value q)) None) (among q)
         ∙ back (kind_rank q.kind == kind_rank kind) (s.content q)))
 
+-- the tallies of the kinds in the table are the counts of its objects
 pub are_counts : (c : Content) (s : State) (numbers : List ℕ) (counts : List (Kind × ℕ))
     → IsRegistry c s → ListsKinds c numbers → counts ≡ tallies numbers → AreCounts s.content counts
 are_counts c s numbers counts it lists is = let sized = has_size s c it numbers lists in

@@ -29,10 +29,12 @@ found listed n number digest (r ∷ rs) o is =
 
 -- ---- all receipts
 
+-- there are as many receipts as rows
 pub receipts_size : (ss : List Receipt) (rs : List ReceiptValue)
     → map receipt_row ss ≡ receipts_from 1 rs → length ss ≡ length rs
 receipts_size = from_size numbered_receipt receipts_from (λ _. refl) (λ _ _ _. refl) receipt_row 1
 
+-- one more row of receipts is one more reply
 pub one_reply : (listed : List MRow) (ss : List Receipt) (rs : List ReceiptValue) (i : ℕ) (d : Receipt)
     (replies : List ReplyValue) (reply : ReplyValue) → map receipt_row ss ≡ receipts_from 1 rs
     → i < length ss → replies ≡ replies_from listed 1 (take i rs)
@@ -49,6 +51,7 @@ one_reply listed ss rs i d replies reply e lt so_far is =
 
 -- ---- all steps
 
+-- one more row of steps is one more step
 pub one_step : (listed : List MRow)
     (ss : List ChainStep) (rows : List ℕ) (i : ℕ) (d : ChainStep) (steps : List Step) (step : Step)
     → map step_row ss ≡ steps_from 1 rows → i < length ss → steps ≡ map (step_at listed) (take i rows)

@@ -14,10 +14,12 @@ use Rattle.esc_store.specs.StoreState.{with_registry}
 
 -- ---- one call after another
 
+-- what is so at an error
 pub at_err : {X E : Type 0} (r : Result X E) (P : Type 0) → IsErr r → OnErr r P → P
 at_err (Ok x) P bad h = let no : ⊥ = cc in absurd no
 at_err (Err e) P bad h = h
 
+-- what keeps the commit, call after call
 pub keeps_then : (a b c : State) → KeepsCommit a b → KeepsCommit b c → KeepsCommit a c
 keeps_then a b c p q = record {
   was_open = λ up. p.was_open (q.was_open up);
@@ -34,9 +36,11 @@ module _ {a b c : State} {C : Trees → Type 0} where
 
 -- ---- databases
 
+-- a store's database has its tables
 pub tables_of : {db : Database} {k : StoreState} → IsStoreDatabase db k → HoldsTables db
 tables_of it = record { schema_is = it.schema; store = it.kept.tables }
 
+-- a database with the books and the registry of a state is its store
 pub holds_store : (db : Database) (c : Content) (k : StoreState)
     → HoldsContent db c → IsBooks c k → IsRegistry c k.registry → IsStoreDatabase db k
 holds_store db c k holds books registry =

@@ -98,22 +98,26 @@ free_each s (e ∷ es) (r ∷ rows) are free =
     )
 free_each s [] (r ∷ rows) are free = let no = are.same in absurd cc
 
+-- the rows of objects that can be put are free
 pub free_rows : (targets : Keys) (s : State) (step : ℕ) {es : List Entry} {rows : List ObjectEntry}
     → AreRowsOf es rows → CanBePut targets s step (map with_object es) → AreFree targets s rows
 free_rows Vacant s step {es} {rows} are can is = All-from_recursion (HasNone s) rows (free_each s es rows are can.free)
 free_rows Unknown s step are can is = absurd cc
 
+-- the row of one object that can be put is free
 pub one_free : (targets : Keys) (s : State) (step : ℕ) (e : Entry) (r : ObjectEntry) → entry_row e
     ≡ record_row r → CanBePut targets s step (with_object e ∷ []) → targets ≡ Vacant → HasNone s r
 one_free targets s step e r same can is = All-head (HasNone s) r [] (free_rows targets
     s step {es = e ∷ []} {rows = r ∷ []} (record { same = ap (λ (t : RowOf). t ∷ []) same }) can is)
 
+-- no row has the key of a new object
 pub row_free : (s : State) (rows : List NewObject) (at : ℕ) (r : NewObject) → at < length rows
     → r ≡ get_or rows at r → All (HasNone s) (map new_entry rows) → HasNone s (new_entry r)
 row_free s rows at r lt is all =
     subst (HasNone s) (get_or-map new_entry rows at r (new_entry r) lt ∙ ap new_entry (sym is))
     (All-get_or (HasNone s) (map new_entry rows) at (new_entry r) (omega (arith, lt, length-map rows new_entry)) all)
 
+-- objects that can be put are new
 pub is_new : (targets : Keys) (s : State) (step : ℕ) (es : List Entry)
     → CanBePut targets s step (map with_object es) → AreNew s step (map with_object es)
 is_new Vacant s step es can = can.new

@@ -57,6 +57,7 @@ pub record Moves {S X E : Type 0} (g : Ghosts S)
   pub writes : new.writes ≡ old.writes
   pub pass : Passes (state g old.conn) (state g new.conn) R result
 
+-- a step of the connection is one of the change
 pub stepped : {S X E : Type 0} {g : Ghosts S} {old new : Store S}
     {r : Result X E} {Made : Database → Database → Type 0} {R : Content → Content → Type 0}
     → new.manifest ≡ old.manifest → new.writes ≡ old.writes → IsStep (state g old.conn)
@@ -209,6 +210,7 @@ module _ {S : Type 0} {g : Ghosts S} {X E : Type 0} {old new : Store S}
       let c = content_in (state g old.conn).now.trees in
       (c, was.registry, (IfOk-at_ok _ is (read.look.said clean)).0 c was.tables_are, holds_look is s goes)
 
+-- a change goes on over a read
 pub follows_look : {S : Type 0} {g : Ghosts S}
     {X E : Type 0} {old : ChangeOf S} {new : Store S} {P : Content → X → Type 0} {r : Result X E}
     → IsStoreRead g old.store.now new P r

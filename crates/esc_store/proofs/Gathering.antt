@@ -47,10 +47,12 @@ module _ {R B X Y : Type 0} (test : KeyName → R → Bool) (bytes : R → B) (r
 
 -- ---- objects
 
+-- what is mapped to nothing is nothing
 pub none_there : {X Y : Type 0} (f : X → Y) (o : Option X) → None ≡ option_map f o → IsSome o → ⊥
 none_there f None e some = let never : ⊥ = cc in never
 none_there f (Some x) e some = let never : ⊥ = cc in never
 
+-- records of the same bytes are of the same object
 pub same_records : AreAlone → (a b : Option ObjectValue) → option_map record_of a ≡ option_map
     (λ bytes. Some bytes) (option_and_then record_of b) → IfSome b (λ o. IsSome (record_of o)) → a ≡ b
 same_records alone None None e has = refl
@@ -64,6 +66,7 @@ same_records alone (Some x) (Some y) e has = by_record (record_of y) refl e wher
 
 -- ---- before-images
 
+-- before-images of the same bytes are of the same object
 pub same_images : AreAlone → (a b : Option (Option ObjectValue)) → option_map (option_map record_of) a
     ≡ option_map (option_map (λ bytes. Some bytes)) (option_map (λ o. option_and_then record_of o) b)
     → ((o : ObjectValue) → b ≡ Some (Some o) → IsSome (record_of o)) → a ≡ b

@@ -16,6 +16,7 @@ listed_put n m (x ∷ rs) r is =
     rw (Less-from_lt (pos n) (pos m) (omega (arith, ints, is)))
     (ap (λ l. indexed_row n x ∷ l) (listed_put (suc n) m rs r (omega (arith, is))))
 
+-- one more row in the manifest's table is one more listed row
 pub books_listed : (k : StoreState) (row : ListedRow) (r : MRow)
     → row ≡ indexed_row (length k.listed) r → (c c' : Content) → Becoming (with_listed_row row) c c'
     → IsBooks c k → IsBooks c' (with_listed k (k.listed ++ r ∷ []))

@@ -19,6 +19,7 @@ accepted_is None r m rows good bad is = let e : Ok m ≡ Ok rows = sym is ∙ go
 accepted_is (Some (code, row)) r m rows good bad is =
     let e : Ok m ≡ Err (Refused code row) = sym is ∙ bad code row refl in let no : ⊥ = cc in absurd no
 
+-- the table has as many rows as the manifest
 pub listed_size : (ss : List Listed) (rs : List MRow)
     → map listed_row ss ≡ listed_from 0 rs → length ss ≡ length rs
 listed_size = from_size indexed_row listed_from (λ _. refl) (λ _ _ _. refl) listed_row 0
@@ -27,6 +28,7 @@ listed_size = from_size indexed_row listed_from (λ _. refl) (λ _ _ _. refl) li
 place : (rs : List MRow) (i : ℕ) → i ≤ length rs → length (take i rs) + 0 ≡ i
 place rs i within = let size = length-take-le i rs within in omega arith
 
+-- one more row of the manifest is one more of the table
 pub one_stored : (rs : List MRow) (ss : List Listed) (i : ℕ) (d : MRow) (s : Listed)
     → map listed_row ss ≡ listed_from 0 (take i rs) → i < length rs → listed_row s
     ≡ indexed_row i (get_or rs i d) → map listed_row (ss ++ (s ∷ [])) ≡ listed_from 0 (take (i + 1) rs)
@@ -43,6 +45,7 @@ stored_get ss rs i d e lt =
     from_nth indexed_row listed_from (λ _. refl) (λ _ _ _. refl) listed_row 0 ss rs i d no_row e lt
     ∙ ap (λ n. indexed_row n (get_or rs i no_row)) (place rs i (omega arith))
 
+-- one more row of the table is one more of the manifest
 pub one_row : (ss : List Listed) (rs : List MRow) (i : ℕ) (d : Listed) (rows : List MRow) (row : MRow)
     → map listed_row ss ≡ listed_from 0 rs → i < length ss → rows ≡ take i rs
     → ((n : ℕ) (r : MRow) → listed_row (get_or ss i d) ≡ indexed_row n r → row ≡ r)
@@ -57,6 +60,7 @@ above : (n m : ℕ) (rs : List MRow)
 above n m [] lt = tt
 above n m (r ∷ rs) lt = (omega (arith, ints), above n (suc m) rs (omega arith))
 
+-- the table's rows are numbered in order
 pub listed_rise : (n : ℕ) (rs : List MRow) → IsKeyedBy listed_number (listed_from n rs)
 listed_rise n [] = tt
 listed_rise n (r ∷ rs) = (above n (suc n) rs (omega arith), listed_rise (suc n) rs)

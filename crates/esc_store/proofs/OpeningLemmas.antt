@@ -27,6 +27,7 @@ tables_refused Has content {now = now} found same lacks up stored =
     let yes = (found up (content now.trees)
     (subst (λ (db : Database). Has db.trees (content db.trees)) (sym same) stored)).0 in cc
 
+-- a version that is another one
 pub differ : {n : ℤ} (v : Option ℤ)
     → true ≡ not (option_eq int_eq v (Some n)) → option_map Int v ≡ Some (Int n) → ⊥
 differ None other is = let no : ⊥ = cc in no
@@ -76,6 +77,7 @@ pub sees_rest : (s : State) {k : StoreState}
     → (HasCleanDisk s → IsTrue s.is_open → IsFirstAtRest s k) → SeesFirst s k
 sees_rest s rests clean up = let it = rests clean up in rw it.same it.kept.kept
 
+-- a settled store shows what was committed
 pub sees_committed : (s : State) {k : StoreState} → IsSettled s → IsFirstStore s.committed.trees k → SeesFirst s k
 unfolding IsFirstStore
 sees_committed s settled stored clean up = rw (settled.1 up) stored

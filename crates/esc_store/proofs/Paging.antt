@@ -107,6 +107,7 @@ page_short c kind from rows es lists same =
 
 -- ---- one row more
 
+-- one more row of objects is one more entry of the page
 pub one_entry : {A : Type 0} (f : A → Shown) (stored : List A) (d : A) (at : ℕ)
     (es : List Entry) (e : Entry) → at < length stored → map entry_row es ≡ map f (take at stored)
     → entry_row e ≡ f (get_or stored at d) → map entry_row (es ++ e ∷ []) ≡ map f (take (at + 1) stored)

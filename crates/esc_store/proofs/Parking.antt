@@ -18,16 +18,19 @@ pub record SetsParked (digest : List ℕ) (w : Option (List ℕ)) (c c' : Conten
   pub only : c' ≡ record c { parked = c'.parked }
   pub map_is : (d : List ℕ) → parked_at d c'.parked ≡ (if bytes_eq digest d then w else parked_at d c.parked)
 
+-- putting a parked body turns the content into one that has it
 pub park_turns : (digest body : List ℕ) (old new : Database)
     → PutsParked digest body old new → Turns (SetsParked digest (Some body)) old new
 park_turns digest body old new made = turning (λ tables. let m = made (content_in old.trees) tables in
     (record (content_in old.trees) { parked = m.0 }, m.1, record { only = refl; map_is = m.3 }))
 
+-- removing a parked body turns the content into one without it
 pub unpark_turns : (digest : List ℕ) (old new : Database)
     → RemovesParked digest old new → Turns (SetsParked digest None) old new
 unpark_turns digest old new made = turning (λ tables. let m = made (content_in old.trees) tables in
     (record (content_in old.trees) { parked = m.0 }, m.1, record { only = refl; map_is = m.2 }))
 
+-- the books with or without a parked body
 pub books_parked : (k : StoreState) (digest : List ℕ) (w : Option (List ℕ)) (c c' : Content)
     → SetsParked digest w c c' → IsBooks c k → IsBooks c' (with_parked k digest w)
 books_parked k digest w c c' set books = books_as set.only books.listed books.receipts books.held
@@ -52,6 +55,7 @@ rising_texts : (ds : List (List ℕ)) → IsAscending (λ a b. slice_cmp nat_cmp
 rising_texts [] up = tt
 rising_texts (d ∷ ds) up = (All-from_recursion (λ e. slice_cmp nat_cmp d e ≡ Less) ds up.0, rising_texts ds up.1)
 
+-- the digests that are listed are those of the parked bodies
 pub are_parked : (k : StoreState) (c : Content) (found : List (List ℕ))
     → IsBooks c k → ListsParked c found → AreParked k.parked found
 are_parked k c found books lists = record {
@@ -61,11 +65,13 @@ are_parked k c found books lists = record {
 
 -- ---- the moment
 
+-- the books with a moment, or with none
 pub books_moment : {rows : List MomentRow} {moment : Option ℤ}
     → moment_set rows ≡ moment → (k : StoreState) (c c' : Content)
     → Becoming (λ c. record c { moment = rows }) c c' → IsBooks c k → IsBooks c' (with_moment k moment)
 books_moment is k c c' turn books = books_as turn.is books.listed books.receipts books.held books.parked is books.steps
 
+-- setting a moment turns the content into one that has it
 pub moment_turns : (v : ℤ) (old new : Database)
     → SetsMoment v old new → Turns (Becoming (λ c. record c { moment = moment_row v ∷ [] })) old new
 moment_turns v old new made = become_turns _ old new (λ c holds. (made c holds).0)

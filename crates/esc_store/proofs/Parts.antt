@@ -102,6 +102,7 @@ turning {R} {old} {new} f = record {
 pub record Becoming (change : Content → Content) (c c' : Content) : Type 0 where
   pub is : c' ≡ change c
 
+-- what makes one content of another turns it into that
 pub become_turns : (change : Content → Content) (old new : Database)
     → Becomes change old new → Turns (Becoming change) old new
 become_turns change old new made = turning (λ tables.

@@ -88,6 +88,7 @@ object_read alone db s c id key stored object holds registry found is =
           sym (one_object alone object o.bytes (s.content key) records
           (sym there ∙ (registry.objects (kind_rank key.kind) key.text ∙ record_here s.content key)))
 
+-- the object that is found by a row's number is that of its key
 pub object_found : AreAlone → (db : Database) (s : State) (c : Content) (id : ℤ) (key : KeyName)
     (found : Option StoredObject) (object : ObjectValue) → HoldsContent db c → IsRegistry c s
     → option_map stored_entry found ≡ object_with id c.objects
@@ -126,6 +127,7 @@ key_first Less p h = h
 key_first Equal p h = refl
 key_first Greater p h = refl
 
+-- what is sorted by key, and then otherwise, is sorted by key
 pub sorted_by_key : (next : TableKey → TableKey → Ordering) (keys : List TableKey)
     → IsSorted (λ a b. ordering_then (key_cmp a.key b.key) (next a b)) keys → IsSorted by_name keys
 sorted_by_key next keys up k d low high = key_first _ _ (up k d low high)

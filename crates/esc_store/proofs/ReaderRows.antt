@@ -113,6 +113,7 @@ sorted_keys bodies up k d low within =
       get_or-map digest_in bodies (k + 1) none d inside,
     ) (up k none low inside)
 
+-- the parked bodies that were scanned, in the order of digests
 pub parked_sorted : (db : Database)
     (k : StoreState) (c : Content) (found : List ParkedSize) (bodies : List ParkedBody)
     → HoldsContent db c → IsBooks c k → map parked_size found ≡ map size_of_parked c.parked
@@ -151,6 +152,7 @@ of_kind : (n : ℕ) (os : List ObjectRow) → length (filter (λ k. k == n) (map
 of_kind n [] = refl
 of_kind n (o ∷ os) = grind (arith, of_kind n os)
 
+-- the tallies of the kinds that were scanned are the counts
 pub counts_read : (db : Database) (s : State)
     (c : Content) (numbers : List ℕ) (counts : List (Kind × ℕ)) → HoldsContent db c → IsRegistry c s
     → numbers ≡ map kind_of_object c.objects → counts ≡ tallies numbers → AreCounts s.content counts

@@ -121,6 +121,7 @@ module _ {S : Type 0} {g : Ghosts S} where
   unfolding ReaderRepresents
   told_of old scan clean k stands = said_of scan clean k (stands.rows (was_honest scan clean))
 
+-- a reader's manifest is the one that is listed
 pub listed_is : {S : Type 0} (g : Ghosts S) (reader : StoreReader S) (k : StoreState)
     → ReaderRepresents g reader k → reader.manifest ≡ k.listed
 unfolding ReaderRepresents

@@ -7,6 +7,7 @@ last_is : (n : ℕ) (rs : List ReceiptValue) (r : ReceiptValue)
 last_is n [] r = omega arith
 last_is n (x ∷ rs) r = last_is (suc n) rs x ∙ omega arith
 
+-- the last number of receipts is how many there are
 pub counted : (rs : List ReceiptValue) → last_number (receipts_from 1 rs) ≡ length rs
 counted [] = refl
 counted (r ∷ rs) = last_is 1 rs r ∙ omega arith

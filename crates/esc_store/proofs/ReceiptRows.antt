@@ -37,6 +37,7 @@ rising (x ∷ xs) pairs = (
       xs (λ i j d below within. pairs (suc i) (suc j) d (omega (arith, below)) (omega (arith, within))),
 )
 
+-- sorted numbers without repeats have each once
 pub are_once : (numbers : List ℕ) → IsSorted nat_cmp numbers → AreOnce numbers (dedup eqb numbers)
 are_once numbers up = record {
   rising = rising (dedup eqb numbers)
@@ -94,6 +95,7 @@ is_a1 : (v : Verdict) → verdict_number v ≡ 1 → v ≡ A1
 is_a1 A1 is = refl
 is_a1 _ is = absurd (omega (arith, is))
 
+-- the rows that receipts name, each once
 pub are_held_by : (k : StoreState) (c : Content) (numbers rows : List ℕ)
     → IsBooks c k → ListsRows 1 c numbers → AreOnce numbers rows → AreHeldBy k.receipts rows
 are_held_by k c numbers rows books lists once = record { rising = once.rising; each = each } where

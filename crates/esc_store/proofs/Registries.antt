@@ -25,10 +25,12 @@ use Rattle.esc_store.proofs.Parts.{Turns, turning, books_as}
 
 -- ---- kinds by number
 
+-- a kind is read back from its number
 pub kind_back : (kind : Kind) → kind_numbered (kind_rank kind) ≡ Some kind
 kind_back Registrar = refl
 kind_back _ = refl
 
+-- a number of a kind is its own
 pub number_of_kind : (n : ℕ) (kind : Kind) → kind_numbered n ≡ Some kind → n ≡ kind_rank kind
 number_of_kind n Registrar h = grind (arith, nat_tests)
 number_of_kind n _ h = grind (arith, nat_tests)
@@ -47,12 +49,14 @@ same_key_is : (n : ℕ) (text : List ℕ) (m : ℕ) (other : List ℕ)
     → Decides (is_same_key n text m other) ((n ≡ m) × (text ≡ other))
 same_key_is n text m other = Decides-and _ _ (Decides-eqb n m) (bytes_eq-Decides text other)
 
+-- a number of no kind is in no key
 pub no_kind : (k : KeyName) (n : ℕ) (text : List ℕ)
     → kind_numbered n ≡ None → is_same_key (kind_rank k.kind) k.text n text ≡ false
 no_kind k n text none = false_from_ne_true _ (λ is.
     let some : None ≡ Some k.kind = sym none ∙ (ap kind_numbered
     (sym ((same_key_is (kind_rank k.kind) k.text n text).0 is).0) ∙ kind_back k.kind) in absurd cc)
 
+-- a key is the same as itself
 pub itself : (n : ℕ) (text : List ℕ) → is_same_key n text n text ≡ true
 itself n text = (same_key_is n text n text).1 (refl, refl)
 
@@ -62,6 +66,7 @@ same_names k q h =
     let name : Kind → List ℕ → KeyName = λ kind text. record { kind = kind; text = text } in
     ap₂ name (one_kind k.kind q.kind kinds) texts
 
+-- two keys are equal where their numbers and texts are
 pub same_tests : (k q : KeyName) → key_eq k q ≡ is_same_key (kind_rank k.kind) k.text (kind_rank q.kind) q.text
 same_tests k q = same_from_decides {P = k ≡ q} _ _
     (same_key k q, λ is. subst (λ (x : KeyName). key_eq k x ≡ true) is (key_itself k)) (
@@ -74,10 +79,12 @@ same_tests k q = same_from_decides {P = k ≡ q} _ _
 key_back : {X : Type 0} (f : KeyName → Option X) (q : KeyName) → at_stored_key f (kind_rank q.kind) q.text ≡ f q
 key_back f q = ap (option_and_then (λ kind. f (record { kind = kind; text = q.text }))) (kind_back q.kind)
 
+-- the record at a key is that of its object
 pub record_here : (f : ObjectsByKey) (q : KeyName)
     → record_at_key f (kind_rank q.kind) q.text ≡ option_and_then record_of (f q)
 record_here f q = ap (option_and_then record_of) (key_back f q)
 
+-- the before-image at a key is that of its object
 pub image_here : (f : Befores) (q : KeyName)
     → image_kept f (kind_rank q.kind) q.text ≡ option_map (λ o. option_and_then record_of o) (f q)
 image_here f q = ap (option_map (λ o. option_and_then record_of o)) (key_back f q)
@@ -96,12 +103,14 @@ pub record Replaces (t : StoreTable) (P : List (RowOf t) → List (RowOf t) → 
   pub only : c' ≡ with_rows c t rows
   pub are : P (rows_of c t) rows
 
+-- a write of one table's rows turns the content into one with these
 pub replacing : (t : StoreTable) (P : List (RowOf t) → List (RowOf t) → Type 0) (old new : Database)
     → ((c : Content) → HoldsContent old c → (rows : List (RowOf t))
     × HoldsContent new (with_rows c t rows) × P (rows_of c t) rows) → Turns (Replaces t P) old new
 replacing t P old new made = turning (λ tables. let m = made (content_in old.trees) tables in
     (with_rows (content_in old.trees) t m.0, m.1, record { rows = m.0; only = refl; are = m.2 }))
 
+-- objects and before-images are no part of the books
 pub books_stay : {k : StoreState} {os : List ObjectRow} {us : List UndoRow} {c c' : Content}
     → c' ≡ record c { objects = os; undo = us } → IsBooks c k → IsBooks c' k
 books_stay only books = books_as only books.listed books.receipts books.held books.parked books.moment books.steps
@@ -117,6 +126,7 @@ abbrev pub ReadsNote : Option (Option ObjectValue) → Option (Option (List ℕ)
 ReadsNote x y = (y ≡ option_map (λ o. option_and_then record_of o) x)
     × ((o : ObjectValue) → x ≡ Some (Some o) → IsSome (record_of o))
 
+-- what reads an object reads its note
 pub reads_note : {x : Option ObjectValue} {y : Option (List ℕ)} → Reads x y → ReadsNote (Some x) (Some y)
 reads_note {x} (is, has) = (
   ap Some is,
@@ -124,11 +134,13 @@ reads_note {x} (is, has) = (
       (λ (y : Option ObjectValue). IfSome y (λ v. IsSome (record_of v))) (same_Some x (Some o) same) has,
 )
 
+-- what is so of both branches is so of either
 pub at_branch : {X Y : Type 0} (P : X → Y → Type 0) (b : Bool) {x x' : X} {y y' : Y}
     → P x y → P x' y' → P (cond b x x') (cond b y y')
 at_branch P true p q = p
 at_branch P false p q = q
 
+-- nothing is there in either branch
 pub none_both : {X : Type 0} (b : Bool) {x y : Option X} → x ≡ None → y ≡ None → cond b x y ≡ None
 none_both b = at_branch (λ (_ : Bool) y. y ≡ None) b {x = b} {x' = b}
 
@@ -178,11 +190,13 @@ abbrev pub SetsAt : ℕ → List ℕ → Option (List ℕ) → List ObjectRow �
 SetsAt kind key w before after = (n : ℕ) (text : List ℕ)
     → object_at n text after ≡ (if is_same_key kind key n text then w else object_at n text before)
 
+-- adding an object sets it at its key
 pub adding : (kind : ℕ) (key bytes : List ℕ) (old new : Database) → AddsObject kind key bytes old new
     → Turns (Replaces Objects (SetsAt kind key (Some bytes))) old new
 adding kind key bytes old new made = replacing
     Objects (SetsAt kind key (Some bytes)) old new (λ c holds. let m = made c holds in (m.0, m.1, m.3))
 
+-- the registry with an object set at its key
 pub set_registry : {s : State} (k : KeyName) (o : Option ObjectValue)
     {kind : ℕ} {key : List ℕ} {w : Option (List ℕ)} {c c' : Content} → kind ≡ kind_rank k.kind
     → key ≡ k.text → option_and_then record_of o ≡ w → IfSome o (λ x. IsSome (record_of x))
@@ -192,6 +206,7 @@ set_registry {s} k o kinds keys bytes has set = objects_then (with_key s.content
     (λ q was. rw (set.are (kind_rank q.kind) q.text, kinds, keys, ← same_tests k q)
     (at_branch Reads (key_eq k q) (sym bytes, has) was))
 
+-- an object with these bytes has a record
 pub has_record : (o : ObjectValue) (bytes : List ℕ) → record_of o ≡ Some bytes → IsSome (record_of o)
 has_record o bytes h = rw h refl
 
@@ -202,11 +217,13 @@ abbrev pub NotesAt : ℕ → ℕ → List ℕ → Option (List ℕ) → List Und
 NotesAt step kind key w before after = (p n : ℕ) (text : List ℕ) → image_at p n text after
     ≡ (if is_same_image step kind key p n text then Some w else image_at p n text before)
 
+-- noting a before-image sets it at its key
 pub noting : (step kind : ℕ) (key : List ℕ) (w : Option (List ℕ)) (old new : Database)
     → PutsImage step kind key w old new → Turns (Replaces Undo (NotesAt step kind key w)) old new
 noting step kind key w old new made = replacing
     Undo (NotesAt step kind key w) old new (λ c holds. let m = made c holds in (m.0, m.1, m.3))
 
+-- the registry with one more before-image
 pub note_registry : {s : State} (step : ℕ) (k : KeyName) (o : Option ObjectValue)
     {kind : ℕ} {key : List ℕ} {w : Option (List ℕ)} {c c' : Content} → kind ≡ kind_rank k.kind
     → key ≡ k.text → option_and_then record_of o ≡ w → IfSome o (λ x. IsSome (record_of x))
@@ -232,6 +249,7 @@ abbrev pub DropsAt : ℕ → List UndoRow → List UndoRow → Type 0
 DropsAt step before after = (p n : ℕ) (text : List ℕ)
     → image_at p n text after ≡ (if step == p then None else image_at p n text before)
 
+-- the registry without the before-images of a step
 pub drop_registry : (s : State) (step : ℕ) (c c' : Content)
     → Replaces Undo (DropsAt step) c c' → IsRegistry c s → IsRegistry c' (taken s step)
 drop_registry s step c c' set = images_then (taken s step).undo set.only
@@ -241,15 +259,18 @@ drop_registry s step c c' set = images_then (taken s step).undo set.only
 
 -- ---- nothing at any key
 
+-- what gives nothing of anything gives nothing
 pub never : {X Y : Type 0} (f : X → Option Y) (o : Option X)
     → ((x : X) → f x ≡ None) → option_and_then f o ≡ None
 never f None nowhere = refl
 never f (Some x) nowhere = nowhere x
 
+-- no before-image is kept where there are none
 pub nothing_kept : (n : ℕ) (text : List ℕ) → image_kept nothing n text ≡ None
 nothing_kept n text = ap (option_map (λ w. option_and_then record_of w)) (never
     (λ (kind : Kind). nothing (record { kind = kind; text = text })) (kind_numbered n) (λ _. refl))
 
+-- no record is there where there is no object
 pub nothing_there : (n : ℕ) (text : List ℕ) → record_at_key (λ q. None) n text ≡ None
 nothing_there n text = ap (option_and_then record_of)
     (never {Y = ObjectValue} (λ (kind : Kind). None) (kind_numbered n) (λ _. refl))

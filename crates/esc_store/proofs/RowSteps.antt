@@ -73,6 +73,7 @@ step_next old mid new r last v row y z on look is row_is step =
         row_is ∙ ap (λ n. numbered_receipt (n + 1) v) (s.0 c h) in
         (rw next at (added c there)) (below_next c.receipts (next_number c) (h.store.ordered Receipts) refl)
 
+-- the books with one more receipt
 pub books_receipt : (k : StoreState) (r : ReceiptValue) (c c' : Content)
     → Becoming (with_next_receipt r) c c' → IsBooks c k → IsBooks c' (with_receipt k r)
 books_receipt k r c c' turn books = books_as turn.is books.listed
@@ -103,9 +104,11 @@ get_put {X} key (x ∷ xs) new id = go (int_cmp (key x) (key new))
       go Equal false false e p q more = rw (p, q)
       go Greater b c e p q more = refl
 
+-- a content with one more held body
 abbrev pub with_held_row : HeldRow → Content → Content
 with_held_row h c = record c { held = insert_by held_number c.held h }
 
+-- holding a body turns the content into one that has it
 pub held_turns : (h : HeldRow) (old new : Database)
     → HoldsBody h old new → Turns (Becoming (with_held_row h)) old new
 held_turns h old new made = turning (λ tables. (
@@ -114,6 +117,7 @@ held_turns h old new made = turning (λ tables. (
   record { is = refl },
 ))
 
+-- the books with one more held body
 pub books_held : (k : StoreState) (h : HeldRow) (c c' : Content)
     → Becoming (with_held_row h) c c' → IsBooks c k → IsBooks c' (with_body k h.row h.body)
 books_held k h c c' turn books =
@@ -125,6 +129,7 @@ books_held k h c c' turn books =
           ∙ rw test (at_branch (λ (o : Option HeldRow) (b : Option (List ℕ)). option_map
           (λ (x : HeldRow). x.body) o ≡ b) (n == h.row) refl (books.held n))
 
+-- nothing comes of nothing
 pub none_in : {X Y : Type 0} (f : X → Y) (o : Option X) → is_some o ≡ false → option_map f o ≡ None
 none_in f None none = refl
 none_in f (Some x) none = absurd cc
@@ -167,6 +172,7 @@ all_below at m (s ∷ ss) rows h = elim (cases_Bool (ltb s.pos at)) [
   | inr past ↦ rw past (all_below at m ss rows h)
 ]
 
+-- the books with other steps from a place on
 pub books_steps : (k : StoreState) (front at : ℕ) (rows : List ℕ) → at ≡ front + 1
     → front ≤ length k.steps → (c c' : Content) → Becoming (with_steps_from at rows) c c'
     → IsBooks c k → IsBooks c' (with_steps k (take front k.steps ++ rows))
@@ -195,6 +201,7 @@ steps_cut {Y} {E} {old} {new} at step = record {
   failed = step.failed;
 }
 
+-- one more step after those that were written
 pub steps_more : {Y E : Type 0} {old mid new : State} (at : ℕ) (rows : List ℕ) (row : ℕ)
     (s : StepRow) {y : Y} {done : Result Y E} → s ≡ record { pos = length rows + at; row = row }
     → IsStep {X = Y} {E = E} old mid (ContinuesSteps at rows) (Ok y) → IsStep mid new (AddsStep s) done
@@ -216,15 +223,18 @@ steps_more {old = old} {mid} {new} at rows row s s_is before step = step_then
 
 -- ---- the steps one by one
 
+-- the step at a place
 pub step_nth : (n : ℕ) (ss : List ChainStep) (rows : List ℕ) (i : ℕ) (d : ChainStep)
     → map step_row ss ≡ steps_from n rows → i < length ss
     → step_row (get_or ss i d) ≡ record { pos = length (take i rows) + n; row = get_or rows i 0 }
 step_nth n ss rows i d = from_nth step_of steps_from (λ _. refl) (λ _ _ _. refl) step_row n ss rows i d 0
 
+-- there are as many steps as rows
 pub same_length : (n : ℕ) (ss : List ChainStep) (rows : List ℕ)
     → map step_row ss ≡ steps_from n rows → length ss ≡ length rows
 same_length = from_size step_of steps_from (λ _. refl) (λ _ _ _. refl) step_row
 
+-- the first steps of a chain, and one more
 pub steps_stored : (first : ℕ) (ss : List StepRow) (steps : List Step) (i n row : ℕ) (d : Step)
     → ss ≡ steps_from first (take i (map (λ (s : Step). s.row) steps))
     → i < length steps → n ≡ i + first → row ≡ (get_or steps i d).row

@@ -29,6 +29,7 @@ pub read_here : {S X D E : Type 0} {g : Ghosts S} {old new : Store S}
 read_here manifest writes same settled read =
     record { manifest = manifest; writes = writes; remembered = same; look = look_is settled read }
 
+-- a read of a settled connection is one of its store
 pub read_settled : {S X D : Type 0} {g : Ghosts S} {old new : Store S}
     {conn : Held S} {outcome : Result X D} {result : Result X StoreFault} {P : Content → X → Type 0}
     → Settled g (record old { conn = conn }) new outcome result
@@ -81,6 +82,7 @@ remembering it same so = record {
 abbrev items_of : {X : Type 0} → Option (Vec X) → Option (List X)
 items_of {X} o = option_map (λ (v : Vec X). v.items) o
 
+-- what is so of a list is so of its copy
 pub of_copy : {X : Type 0} (P : List X → Type 0) (kept copy : Option (Vec X)) (x : Vec X)
     → option_map (λ (v : Vec X). v.items) copy ≡ option_map (λ (v : Vec X). v.items) kept
     → copy ≡ Some x → IfSome kept (λ (v : Vec X). P v.items) → P x.items

@@ -1,6 +1,7 @@
 //! Parked bodies, which no row lists: what a store returns of them, and parts of a change.
 
-ghost use Rattle.std.specs.Prelude.{◌≡◌, Some, None, IsSome, map, option_map, IfOk, IfErr, OnOk};
+ghost use Rattle.std.specs.Prelude.{◌≡◌, Some, None, IsSome, length, map, option_map, IfOk, IfErr};
+ghost use Rattle.std.specs.Prelude.{OnOk};
 ghost use Rattle.esc_apply.specs.Registry.{State};
 ghost use Rattle.esc_sql.specs.Content.{parked_at};
 ghost use Rattle.esc_sql.specs.Parked.{ListsParked};
@@ -15,7 +16,7 @@ use crate::change::Change;
 use crate::codec::manifest::digest_of;
 use crate::fault::StoreFault;
 use crate::store::Store;
-use esc_sql::parked::{delete_parked, find_parked, insert_parked, parked_digests};
+use esc_sql::parked::{delete_parked, find_parked, insert_parked, parked_digests, parked_length};
 use sqlite::Alter;
 use std::alloc::Global;
 
@@ -43,6 +44,17 @@ impl<S: Alter> Store<S> {
         self.settle(found)
     }
 
+    // The length of the body that is parked under a digest, if one is.
+    #[tactic(auto, using(crate::proofs::Sure::read_here))]
+    fn length_here(&mut self, digest: &[u8]) -> Result<Option<u64>, StoreFault>
+        ensures read { IsStoreRead S.Store self.old self.new
+            (λ c found. found ≡ option_map length (parked_at digest.now c.parked)) result }
+        ensures cause { IfErr result IsFailure }
+    {
+        let found = parked_length(&mut self.conn, digest);
+        self.settle(found)
+    }
+
     // The digests of the parked bodies.
     #[tactic(auto, using(crate::proofs::Sure::read_here))]
     fn digests_here(&mut self, alloc: Global) -> Result<Vec<Vec<u8>>, StoreFault>
@@ -63,6 +75,18 @@ impl<S: Alter> Store<S> {
         ensures cause { IfErr result IsFailure }
     {
         self.parked_here(digest)
+    }
+
+    /// How many bytes the body has that is parked under a SHA-256, if one is. The body is read, and
+    /// isn't returned. `S1`, `S2`.
+    #[tactic(auto, using(crate::proofs::Sure::as_before))]
+    pub fn parked_length(&mut self, digest: &[u8; 32]) -> Result<Option<u64>, StoreFault>
+        ensures same { IsAsBefore S.Store self.old self.new }
+        ensures found { IsHonest S.Store self.new → (k : StoreState) → Represents S.Store self.old k
+            → IfOk result (λ found. found ≡ option_map length (k.parked digest.now)) }
+        ensures cause { IfErr result IsFailure }
+    {
+        self.length_here(digest)
     }
 
     /// The SHA-256 of each parked body, in byte order. No body is read. `S1`, `S2`.
