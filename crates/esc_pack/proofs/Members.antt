@@ -24,6 +24,7 @@ one_by_one true true true true false p = refl
 one_by_one true true true true true false = refl
 one_by_one true true true true true true = refl
 
+-- a deposit differs in no member where it is as listed
 pub as_its_row : (row d : HeaderValue) → list_all (λ m. not (differs row d m)) members ≡ as_listed row d
 unfolding members
 as_its_row row d =

@@ -17,6 +17,7 @@ count_seen : (test : List ℕ → Bool) (names : List (String Global))
     → count_by (λ name. test (string_bytes name)) names ≡ count_by test (map string_bytes names)
 count_seen test names = sym (fold-map (λ (n : ℕ) (name : List ℕ). n + cond (test name) 1 0) string_bytes 0 names)
 
+-- the test of fields says what the contract says
 pub fields_seen : (k : KnownTable) (names : List (String Global))
     → (nat_le (length names) 64
     && (list_all (λ name. is_id (string_bytes name)) names
@@ -39,6 +40,7 @@ pairs_seen f g test [] ys = refl
 pairs_seen f g test (x ∷ xs) [] = refl
 pairs_seen f g test (x ∷ xs) (y ∷ ys) = ap (λ (b : Bool). test (f x, g y) && b) (pairs_seen f g test xs ys)
 
+-- the comparison of names says what the contract says
 pub same_seen : (names others : List (String Global))
     → ((length names == length others)
     && list_all (λ p. bytes_eq (string_bytes p.0) (string_bytes p.1)) (zip names others))
@@ -47,5 +49,6 @@ same_seen names others =
     λ j. (sym (length-map names string_bytes) j == sym (length-map others string_bytes) j)
     && pairs_seen string_bytes string_bytes (λ p. bytes_eq p.0 p.1) names others j
 
+-- equal numbers are told to be equal
 pub equal_numbers : (a b : ℕ) → a ≡ b → (a == b) ≡ true
 equal_numbers a b same = grind (arith, nat_tests)

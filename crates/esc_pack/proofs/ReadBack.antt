@@ -95,6 +95,7 @@ each_row : (m : List MRow) → IsAccepted m → All IsLegible m → All (λ r. r
 each_row m a l k d lt =
     subst (λ (r : MRow). row_of (manifest_line r) ≡ Some r) (get_or_default m k no_row d lt) (reads m a l k lt).row
 
+-- a manifest that was written is read as its rows
 pub manifest_read : AreReadBack → (m : List MRow) → IsAccepted m → All IsLegible m → rows_fault m ≡ None
     → length (manifest_text m) ≤ most_bytes → manifest_of (manifest_text m) ≡ Ok m
 unfolding manifest_of text_fault

@@ -63,6 +63,7 @@ pub record Reads (r : MRow) : Type 0 where
   pub digest : lacks_digest (manifest_line r) ≡ false
   pub row : row_of (manifest_line r) ≡ Some r
 
+-- a row that was written is read as it
 pub row_reads : (r : MRow)
     → IsTrue (is_id r.header.id) → HasIdOrNone r.header.prev → r.header.resend ≤ 999999 → IsLegible r
     → Reads r

@@ -126,6 +126,7 @@ more_rows {given} {i} {heading} {text} file =
     ∙ ap (λ (last : List Line). rows_before given i ++ last) (append-nil (rows text))
     ∙ ap (λ (h : Bool). rows_before given i ++ file_rows h text) (sym file.same_heading)
 
+-- the rows of one file more
 pub one_file : (old : List ℕ) {lines new : List ℕ} {given : GivenTable} {i : ℕ} {heading : Bool} {text : List ℕ}
     → IsFile given i heading text → lines ≡ old ++ text_of (rows_before given i)
     → new ≡ lines ++ text_of (file_rows heading text) → new ≡ old ++ text_of (rows_before given (i + 1))
@@ -137,6 +138,7 @@ one_file old {lines} {new} {given} {i} {heading} {text} file before wrote =
     wrote ∙ ap (λ (l : List ℕ). l ++ text_of last) before ∙ append_assoc old (text_of done) (text_of last)
     ∙ ap (λ (l : List ℕ). old ++ l) (sym all)
 
+-- the rows of a file pass the test
 pub one_file_whole : (test : Line → Bool) {given : GivenTable} {i : ℕ} {heading : Bool} {text : List ℕ}
     → IsFile given i heading text → list_all test (rows_before given i) ≡ true
     → list_all test (file_rows heading text) ≡ true → list_all test (rows_before given (i + 1)) ≡ true

@@ -6,6 +6,8 @@ pub mod GivenRows
 pub mod KnownFields
 pub mod KnownTables
 pub mod Listing
+pub mod NamedTlds
 pub mod Release
+pub mod RowTests
 pub mod TableFiles
 pub mod Written

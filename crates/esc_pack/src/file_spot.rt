@@ -1,5 +1,14 @@
 //! Where the files of a bundle are no rows of its tables.
 
+ghost use Rattle.std.specs.Prelude.{◌≡◌, IfOk, not, is_some, position, count_by};
+ghost use Rattle.std.specs.List.{list_any};
+ghost use Rattle.std.specs.Str.{bytes_eq};
+ghost use Rattle.esc_bundle.specs.Bundle.{view, views};
+ghost use Rattle.esc_csv.specs.Records.{records_of};
+ghost use Rattle.esc_tables.specs.TableRow.{is_there, is_declared, in_table, is_whole, has_key};
+ghost use Rattle.esc_tables.specs.Reading.{tables_of};
+ghost use Rattle.esc_pack.specs.RowTests.{passes_test, IsSearched};
+
 use crate::spot::no_spot;
 use esc_bundle::{NoMemory, Section};
 use esc_csv::{Record, Records};
@@ -64,22 +73,54 @@ fn undeclared_spot(
     shared_file(alloc, files, envelope)
 }
 
+fn is_among(files: &[Section<'_>], name: &str) -> bool
+    ensures { result ≡ list_any (λ s. bytes_eq s.name.now name.now) files.now }
+{
+    files.iter().any(|file| file.name == name)
+}
+
+fn is_there(files: &[Section<'_>], table: &Table) -> bool
+    ensures { result ≡ is_there (views files.now) table.now }
+{
+    is_among(files, table.file.as_str())
+}
+
+// The index of the first of these tables that is without its file.
+fn first_missing(files: &[Section<'_>], tables: &[Table]) -> Option<usize>
+    ensures { result ≡ position (λ t. not (is_there (views files.now) t)) tables.now }
+{
+    tables.iter().position(|table| !is_there(files, table))
+}
+
 fn missing_file(
     alloc: Global,
     files: &[Section<'_>],
     tables: &[Table],
     list: &str,
 ) -> Result<Option<String>, NoMemory> {
-    for (at, table) in tables.iter().enumerate() {
-        let name = table.file.as_str();
-        if !files.iter().any(|file| file.name == name) {
-            let number = at.saturating_add(1);
-            return Ok(Some(format!(in alloc;
-                "section 1 envelope.json, {list} table {number}, file: no section {name:?}"
-            )?));
-        }
-    }
-    Ok(None)
+    let Some(at) = first_missing(files, tables) else {
+        return Ok(None);
+    };
+    let name = tables.get(at).map_or("", |table| table.file.as_str());
+    let number = at.saturating_add(1);
+    Ok(Some(format!(in alloc;
+        "section 1 envelope.json, {list} table {number}, file: no section {name:?}"
+    )?))
+}
+
+// Whether a section is the file of exactly one table.
+fn is_declared(envelope: &Envelope, file: &Section<'_>) -> bool
+    ensures { result ≡ is_declared (tables_of envelope.now) (view file.now) }
+{
+    tables_of(envelope, file.name) == 1
+}
+
+// The index of the first section that isn't.
+fn first_shared(files: &[Section<'_>], envelope: &Envelope) -> Option<usize>
+    ensures { result ≡ position (λ s. not (is_declared (tables_of envelope.now) (view s)))
+        files.now }
+{
+    files.iter().position(|file| !is_declared(envelope, file))
 }
 
 fn shared_file(
@@ -87,19 +128,19 @@ fn shared_file(
     files: &[Section<'_>],
     envelope: &Envelope,
 ) -> Result<Option<String>, NoMemory> {
-    for (at, file) in files.iter().enumerate() {
-        let (number, name) = (section_number(at), file.name);
-        match tables_of(envelope, name) {
-            0 => return Ok(Some(format!(in alloc;
-                "section {number} {name}: the file of no table"
-            )?)),
-            1 => {}
-            _ => return Ok(Some(format!(in alloc;
-                "section {number} {name}: the file of two tables"
-            )?)),
-        }
-    }
-    Ok(None)
+    let Some(at) = first_shared(files, envelope) else {
+        return Ok(None);
+    };
+    let (number, name) = (
+        section_number(at),
+        files.get(at).map_or("", |file| file.name),
+    );
+    let tables = if tables_of(envelope, name) == 0 {
+        "no table"
+    } else {
+        "two tables"
+    };
+    Ok(Some(format!(in alloc; "section {number} {name}: the file of {tables}")?))
 }
 
 // The number of the section of a file: the envelope is the first.
@@ -108,7 +149,9 @@ fn section_number(at: usize) -> usize {
 }
 
 // How many tables have this file.
-fn tables_of(envelope: &Envelope, name: &str) -> usize {
+fn tables_of(envelope: &Envelope, name: &str) -> usize
+    ensures { result ≡ count_by (λ t. bytes_eq t.file name.now) (tables_of envelope.now) }
+{
     let tables = envelope.contents.iter().chain(&envelope.deletes);
     tables.filter(|table| table.file.as_str() == name).count()
 }
@@ -142,37 +185,47 @@ fn rows_spot(
 }
 
 // The first row of a file that fails a test, with so many rows before the file; else how many there
-// are with those of the file.
+// are with those of the file. There are fewer than can be counted, of which the contract of `Records`
+// says nothing.
 fn row_spot(
     alloc: Global,
     file: &Section<'_>,
     table: &Table,
     test: RowTest,
     before: usize,
-) -> Result<Search, NoMemory> {
+) -> Result<Search, NoMemory>
+    ensures { IfOk result (IsSearched test table.now before (records_of file.now.bytes.now)) }
+{
     let mut rows = Records::of(alloc, file.bytes);
     let mut record = Record::new(alloc);
-    let mut row: usize = 0;
+    let mut number = before;
     while rows.next(&mut record)? {
-        row = row.saturating_add(1);
-        if let Some(what) = row_flaw(alloc, table, &record, test, before.saturating_add(row))? {
+        let Some(next) = number.checked_add(1) else {
+            return Err(NoMemory);
+        };
+        number = next;
+        if let Some(what) = row_flaw(alloc, table, &record, test, number)? {
+            let row = number - before;
             return Ok(Search::Found(format!(in alloc; "row {row}{what}")?));
         }
     }
-    Ok(Search::Rows(before.saturating_add(row)))
+    Ok(Search::Rows(number))
 }
 
 // What is wrong with a row, the one with this number among all.
 fn row_flaw(
     alloc: Global,
     table: &Table,
-    record: &Record,
+    line: &Record,
     test: RowTest,
     number: usize,
-) -> Result<Option<String>, NoMemory> {
+) -> Result<Option<String>, NoMemory>
+    ensures { IfOk result (λ flaw. is_some flaw
+        ≡ not (passes_test test (in_table table.now line.now) number)) }
+{
     match test {
-        RowTest::Whole => width_flaw(alloc, table, record),
-        RowTest::Key => key_flaw(alloc, table, record),
+        RowTest::Whole => width_flaw(alloc, table, line),
+        RowTest::Key => key_flaw(alloc, table, line),
         RowTest::Count if number > MOST_ROWS as usize => {
             Ok(Some(String::from_str(alloc, ": more than 100,000 rows")?))
         }
@@ -180,23 +233,35 @@ fn row_flaw(
     }
 }
 
-fn width_flaw(alloc: Global, table: &Table, record: &Record) -> Result<Option<String>, NoMemory> {
-    let (fields, declared) = (record.len(), table.fields.len());
+fn width_flaw(alloc: Global, table: &Table, line: &Record) -> Result<Option<String>, NoMemory>
+    ensures { IfOk result (λ flaw. is_some flaw ≡ not (is_whole (in_table table.now line.now))) }
+{
+    let (fields, declared) = (line.len(), table.fields.len());
     if fields != declared {
         return Ok(Some(format!(in alloc;
             ": the number of fields is {fields}, declared {declared}"
         )?));
     }
-    for place in 0..fields {
-        if str::from_utf8(record.field(place)).is_err() {
-            return Ok(Some(field_flaw(alloc, table, place, "no UTF-8")?));
-        }
+    if line.is_text() {
+        return Ok(None);
     }
-    Ok(None)
+    Ok(Some(field_flaw(alloc, table, first_broken(line), "no UTF-8")?))
 }
 
-fn key_flaw(alloc: Global, table: &Table, record: &Record) -> Result<Option<String>, NoMemory> {
-    let key = record.field(table.key);
+// The index of the first field that is no UTF-8, if there is one.
+fn first_broken(line: &Record) -> usize {
+    for place in 0..line.len() {
+        if str::from_utf8(line.field(place)).is_err() {
+            return place;
+        }
+    }
+    0
+}
+
+fn key_flaw(alloc: Global, table: &Table, line: &Record) -> Result<Option<String>, NoMemory>
+    ensures { IfOk result (λ flaw. is_some flaw ≡ not (has_key (in_table table.now line.now))) }
+{
+    let key = line.field(table.key);
     if key.is_empty() {
         return Ok(Some(field_flaw(alloc, table, table.key, "an empty key")?));
     }

@@ -69,6 +69,9 @@
 //! }
 //! ```
 //!
+//! `tld_of_body` says which TLD the envelope of a bundle names (`tld`), and `first_against` which
+//! earlier bundle names another than the next one: deposits of two registries in one release.
+//!
 //! # What the contracts mean
 //!
 //! `specs/GivenRows.antt` says which rows files have, and `specs/Bundling.antt` what their bundle
@@ -92,10 +95,14 @@
 //! that have just these, in their order. The unknown files are exactly the others, each with its
 //! reason.
 //!
+//! `specs/NamedTlds.antt` says which TLD a body names (`body_tld`), and when two are other ones
+//! (`are_other`): the case of ASCII letters doesn't count.
+//!
 //! `specs/Forecasts.antt` says what is found of a body (`forecast`), by the definitions of the
 //! desk's own verdict: `reading` of `esc_tables`, `row_with_digest` and `as_listed` of
-//! `esc_manifest`. No clause says that what `fault_spot` tells is right; it is tested against a
-//! plain model.
+//! `esc_manifest`. Of the places that `fault_spot` tells clauses say at which table without a file
+//! and at which section it stops, and of a row whether it passes a test (`specs/RowTests.antt`). All
+//! else of it is tested against a plain model.
 #![tactic(auto)]
 
 mod bundle;
@@ -118,6 +125,7 @@ mod sources;
 mod spot;
 mod table_text;
 mod text;
+mod tld;
 mod written;
 
 pub use bundle::bundle_of_files;
@@ -133,3 +141,4 @@ pub use proposal::{FolderFile, Proposal, Unknown, Why};
 pub use release::Release;
 pub use sources::{Source, Sources, read_sources};
 pub use spot::fault_spot;
+pub use tld::{NamedTld, first_against, tld_of_body};

@@ -151,7 +151,8 @@ fn sources_in(alloc: Global, json: &Value) -> Result<Option<Sources>, NoMemory>
     Ok(Some(Sources { contents, deletes }))
 }
 
-fn parsed(alloc: Global, json: &[u8]) -> Result<Option<Value>, NoMemory>
+/// The value of a JSON text, if it is one.
+pub(crate) fn parsed(alloc: Global, json: &[u8]) -> Result<Option<Value>, NoMemory>
     ensures { IfOk result (λ o. option_map view o ≡ json_of json.now) }
 {
     match Value::from_slice(alloc, json) {

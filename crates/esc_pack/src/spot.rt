@@ -9,8 +9,8 @@ use std::alloc::Global;
 
 /// Where a body that is no deposit is wrong, and why, in words on one line: the section, the row and
 /// the field of its refusal, the least of U1 to U11 that applies. Sections count from 1, the
-/// envelope; rows from 1, as a section has no heading; tables from 1. No contract says that the
-/// place is right: it is tested.
+/// envelope; rows from 1, as a section has no heading; tables from 1. That the place is right is proved
+/// of parts (`specs/RowTests.antt`), and tested.
 pub fn fault_spot(alloc: Global, body: &[u8]) -> Result<String, NoMemory> {
     match sections(alloc, body) {
         Ok(sections) => sections_spot(alloc, sections.as_slice()),

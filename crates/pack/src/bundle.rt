@@ -123,14 +123,7 @@ fn given_tables<'a>(
 // A fault, with the path that has it: a file's, the description's, or the bundle's.
 fn stop_of(rt: &HostRuntime, words: Bundling<'_>, sources: &[Source], fault: &BundleFault) -> Stop {
     let (refusal, table, file) = match *fault {
-        BundleFault::Refused(refusal) => {
-            let path = if is_of_envelope(refusal) {
-                words.envelope
-            } else {
-                words.target
-            };
-            return Stop::at(rt, Refusal::Unread(refusal), path);
-        }
+        BundleFault::Refused(refusal) => return refused(rt, words, refusal),
         BundleFault::Unmatched => {
             return Stop::at(rt, Refusal::Unread(BodyRefusal::WrongTable), words.envelope);
         }
@@ -145,12 +138,17 @@ fn stop_of(rt: &HostRuntime, words: Bundling<'_>, sources: &[Source], fault: &Bu
     }
 }
 
-// Whether a refusal is one of a description: U5 to U7.
-fn is_of_envelope(refusal: BodyRefusal) -> bool {
-    matches!(
-        refusal,
-        BodyRefusal::NotJson | BodyRefusal::WrongMember | BodyRefusal::WrongTable
-    )
+// A refusal with the path that has it: U5 to U7 are of the description, all others of the bundle.
+fn refused(rt: &HostRuntime, words: Bundling<'_>, refusal: BodyRefusal) -> Stop {
+    match refusal {
+        BodyRefusal::NotJson | BodyRefusal::WrongMember | BodyRefusal::WrongTable => {
+            Stop::at(rt, Refusal::Unread(refusal), words.envelope)
+        }
+        BodyRefusal::OverLimit | BodyRefusal::TooManyRows => {
+            Stop::at(rt, Refusal::BundleTooLarge(refusal), words.target)
+        }
+        _ => Stop::at(rt, Refusal::Unread(refusal), words.target),
+    }
 }
 
 // The name of a file of a table.

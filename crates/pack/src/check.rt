@@ -3,6 +3,7 @@
 use crate::files::{read_body, read_manifest_at};
 use crate::forecast_lines::{file_line, missing_line};
 use crate::stop::{Stop, TOO_LARGE, or_stop, print};
+use crate::tlds::Tlds;
 use esc_cli::{Asked, OneLine, Why, path_in, plain_files, print_refusal};
 use esc_envelope::is_id;
 use esc_manifest::Manifest;
@@ -26,12 +27,14 @@ struct Check<'a, O, E> {
     manifest: &'a Manifest,
     asked: Asked<'a>,
     forecasts: Vec<Forecast>,
+    tlds: Tlds,
     out: &'a mut O,
     err: &'a mut E,
 }
 
 /// Prints a line for each plain file of the folder, in byte order of names, and then one for each
-/// deposit that the manifest lists and none of them has. Says whether each file would be `A1`.
+/// deposit that the manifest lists and none of them has. A bundle of another TLD than the first one's
+/// is told on standard error. Says whether each file would be `A1`.
 pub fn check_files<O: Write, E: Write>(
     rt: &HostRuntime,
     words: Checking<'_>,
@@ -57,6 +60,7 @@ fn check_by_rows<'a, O: Write, E: Write>(
         manifest,
         asked,
         forecasts: Vec::new(rt.alloc()),
+        tlds: Tlds::new(rt),
         out,
         err,
     };
@@ -111,6 +115,7 @@ impl<O: Write, E: Write> Check<'_, O, E> {
             body,
         )?;
         print(self.rt, self.out, line.as_bytes())?;
+        self.tlds.add(self.rt, name, body, self.err)?;
         let is_held = forecast.held_row().is_some();
         self.forecasts.push(forecast)?;
         Ok(is_held)

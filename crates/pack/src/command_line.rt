@@ -57,6 +57,7 @@ bundle PATH contradicts that of OTHER, where it is about two; rows count from 1,
 places), M1 row 0 (they are too many), H1 PATH (another heading than the declared fields), H2 PATH
 (rows that begin with a byte order mark), H3 PATH (no description of the folder), S2 (no memory).
 With -v a second line says why it is E, N1 or S2: why: manifest deposits/n1: permission denied.
+manifest and check tell a bundle of another tld: other tld PATH: net, that of OTHER is com.
 Status: 0 done; 1 refused by E2, N1, U, M or H, or check found a file that is not A1; 2 invalid usage;
 3 stopped by E1 or S2.
 ";
@@ -75,6 +76,12 @@ In a heading a field that the desk looks for may have RFC 9022's name: fClID for
 fIdnTableId, fCrDate, fExDate and fStatus likewise, in domainContacts fId for contactId, and in
 domainNs fHostName for hostName. A field of another name that is like one of these is told on
 standard error: the desk doesn't look at it.
+
+A bundle has at most 16,777,216 bytes and 100,000 rows. Of more (E2 of a file, U4 or U11 of OUT) unpack_rde
+makes a series: put FILE into DIR as envelope.json.
+
+    unpack_rde --described DIR F1
+    pack series F1 bundles/F1
 ";
 
 const PARTS: &str = "\
@@ -95,8 +102,9 @@ domainContacts, domainNameServers, domainNameServersAddresses, domainStatuses, d
 dnssec, host, hostAddresses, hostStatuses, contact, contactPostal, contactStatuses, contactTransfer,
 contactDisclose, registrar, idnLanguage, NNDN; and of objects that are no longer there
 domain-delete, host-delete, contact-delete, registrar-delete, idnLanguage-delete, NNDN-delete. Its
-first row has to be the names of the fields, with the key among them. Files of one table with one
-heading are joined. Fields that the desk looks for get its names (pack bundle --help).
+first row has to be the names of the fields, with the key among them, and end in the file's first
+65,536 bytes; no more is read, so a file may have any length. Files of one table with one heading are
+joined. Fields that the desk looks for get its names (pack bundle --help).
 
 What can't be told is said on standard error, a line each that begins with unknown: always the id,
 the type and the watermark, for which the description has ID, FULL and 1970-01-01T00:00:00Z, and
@@ -120,8 +128,13 @@ Of a file that is no deposit it tells where, as in section 2 c.csv, row 3, colum
 Sections count from 1, the envelope; rows from 1, since a section has no heading. A file is not listed
 if no row of the manifest has its SHA-256: take would park it, and it stays in the store until a later
 manifest lists it. On standard error are, as of restore take, N1 NAME (a name that is not 1 to 64 of
-A-Z a-z 0-9 . _ -) and E2 NAME (over 16,777,216 bytes). M10 row 2 is a FILE that is no manifest. The
-status is 0 if each file is A1, even if there is no file for a row.
+A-Z a-z 0-9 . _ -) and E2 NAME (over 16,777,216 bytes); and besides each bundle whose envelope names
+another tld, whatever its case, than the first bundle that names one (take doesn't look at that):
+
+    other tld n5: net, that of n1 is com
+
+M10 row 2 is a FILE that is no manifest. The status is 0 if each file is A1, even if there is no file
+for a row, or another tld.
 ";
 
 /// The folder of four of the commands.
@@ -267,7 +280,7 @@ fn run<O: Write, E: Write>(
     err: &mut E,
 ) -> u8 {
     let done = match task {
-        Task::Manifest { paths } => print_manifest(rt, paths, out),
+        Task::Manifest { paths } => print_manifest(rt, paths, out, err),
         Task::Bundle(words) => make_bundle(rt, words, err),
         Task::Series(words) => make_series(rt, words, err),
         Task::Describe { folder } => print_description(rt, folder, out, err),
@@ -321,8 +334,13 @@ fn print_check<O: Write, E: Write>(
 }
 
 // `manifest BUNDLE..`: the release manifest is printed.
-fn print_manifest<O: Write>(rt: &HostRuntime, paths: &[&str], out: &mut O) -> Result<u8, Stop> {
-    let text = manifest_at(rt, paths)?;
+fn print_manifest<O: Write, E: Write>(
+    rt: &HostRuntime,
+    paths: &[&str],
+    out: &mut O,
+    err: &mut E,
+) -> Result<u8, Stop> {
+    let text = manifest_at(rt, paths, err)?;
     print(rt, out, &text)?;
     Ok(DONE)
 }

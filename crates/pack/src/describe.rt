@@ -1,7 +1,7 @@
 //! `describe DIR`: a description of a folder's files.
 
 use crate::fields::unseen_fields;
-use crate::files::read_named;
+use crate::files::read_first_lines;
 use crate::stop::{Refusal, Stop, or_stop};
 use esc_cli::plain_files;
 use esc_pack::{BundleFault, FolderFile, Proposal, Unknown, describe_files, table_named};
@@ -39,13 +39,13 @@ fn proposal_of(rt: &HostRuntime, folder: &str, names: &[String]) -> Result<Propo
     }
 }
 
-// The bytes of the files by whose names a table is known, and none of each other one: whatever else
-// is in the folder needn't be readable, and may have any length.
+// The first lines of the files by whose names a table is known, and none of each other one: whatever
+// else is in the folder needn't be readable.
 fn read_known(rt: &HostRuntime, folder: &str, names: &[String]) -> Result<Vec<Vec<u8>>, Stop> {
     let mut bodies = Vec::new(rt.alloc());
     for name in names {
         let bytes = if table_named(name.as_str()).is_some() {
-            read_named(rt, folder, name.as_str())?
+            read_first_lines(rt, folder, name.as_str())?
         } else {
             Vec::new(rt.alloc())
         };

@@ -7,6 +7,10 @@ use esc_manifest::{MOST_MANIFEST_BYTES, Manifest, ManifestFault, read_manifest};
 use std::fs::{self, File};
 use std::io::{Error, ErrorKind, Write};
 
+/// The most bytes of a file in which its heading is looked for: one of 64 names of 64 characters in
+/// quotes has 4,288.
+const MOST_HEADING_BYTES: usize = 65_536;
+
 /// The bytes of the files with these names in a folder, in their order.
 pub fn read_files(rt: &HostRuntime, folder: &str, names: &[String]) -> Result<Vec<Vec<u8>>, Stop> {
     let mut files = Vec::new(rt.alloc());
@@ -16,10 +20,35 @@ pub fn read_files(rt: &HostRuntime, folder: &str, names: &[String]) -> Result<Ve
     Ok(files)
 }
 
-/// The bytes of the file with this name in a folder.
-pub fn read_named(rt: &HostRuntime, folder: &str, name: &str) -> Result<Vec<u8>, Stop> {
+// The bytes of the file with this name in a folder, which is to go into a bundle.
+fn read_named(rt: &HostRuntime, folder: &str, name: &str) -> Result<Vec<u8>, Stop> {
     let path = path_in(rt.alloc(), folder, name)?;
-    read_file(rt, path.as_str())
+    read_within(rt, path.as_str(), Refusal::FileTooLarge)
+}
+
+/// The front of the file with this name in a folder, of any length: the whole file, or the lines
+/// that end in its first 65,536 bytes.
+pub fn read_first_lines(rt: &HostRuntime, folder: &str, name: &str) -> Result<Vec<u8>, Stop> {
+    let path = path_in(rt.alloc(), folder, name)?;
+    let front = read_front(
+        rt,
+        path.as_str(),
+        Links::Followed,
+        MOST_HEADING_BYTES as u64,
+    );
+    let mut bytes = or_stop(rt, path.as_str(), front)?;
+    if bytes.len() > MOST_HEADING_BYTES {
+        bytes.truncate(MOST_HEADING_BYTES);
+        let end = end_of_lines(&bytes);
+        bytes.truncate(end);
+    }
+    Ok(bytes)
+}
+
+// Where the last line of a text ends that does.
+fn end_of_lines(text: &[u8]) -> usize {
+    let last = text.iter().rposition(|byte| matches!(*byte, b'\n' | b'\r'));
+    last.map_or(0, |at| at.saturating_add(1))
 }
 
 /// The bytes of files, borrowed.
@@ -33,10 +62,15 @@ pub fn slices_of<'a>(rt: &HostRuntime, files: &'a [Vec<u8>]) -> Result<Vec<&'a [
 
 /// The bytes of a plain file of at most 16,777,216 bytes.
 pub fn read_file(rt: &HostRuntime, path: &str) -> Result<Vec<u8>, Stop> {
+    read_within(rt, path, Refusal::TooLarge)
+}
+
+// The same, or this refusal of a longer one.
+fn read_within(rt: &HostRuntime, path: &str, refusal: Refusal) -> Result<Vec<u8>, Stop> {
     let bytes = read_whole(rt, path, Links::Followed, MOST_BYTES as u64);
     match or_stop(rt, path, bytes)? {
         Some(bytes) => Ok(bytes),
-        None => Err(Stop::at(rt, Refusal::TooLarge, path)),
+        None => Err(Stop::at(rt, refusal, path)),
     }
 }
 

@@ -20,9 +20,11 @@
 //! file whose name `restore take` refuses, `H1 PATH` for a file that doesn't begin with its
 //! heading, `H2 PATH` for rows that begin with a byte order mark, `H3 DIR` for a folder whose
 //! description doesn't read back, `S2` when out of memory. A control character in a path is
-//! escaped. With `--verbose` a second line says why it is E1, E2, N1 or S2. The status is 0 where
-//! all went well; 1 for E2, N1, U, M and H, and where `check` found a file that is not `A1`; 2 for
-//! invalid usage; 3 for E1 and S2.
+//! escaped. With `--verbose` a second line says why it is E1, E2, N1 or S2. Where files are too large
+//! for one bundle, a further line says what makes a series of them. `manifest` and `check` tell a
+//! bundle whose envelope names another TLD than the first one's: `other tld PATH: net, that of OTHER
+//! is com`. The status is 0 where all went well; 1 for E2, N1, U, M and H, and where `check` found a
+//! file that is not `A1`; 2 for invalid usage; 3 for E1 and S2.
 //!
 //! | Module | Does |
 //! |---|---|
@@ -33,7 +35,8 @@
 //! | `check` | `check`: what would be found of a folder's files |
 //! | `forecast_lines` | the lines of `check` |
 //! | `fields` | the fields that the desk won't look at, by names that look as if it did |
-//! | `files` | reads bundles and files, and writes a bundle in one step |
+//! | `files` | reads bundles, files and their first lines, and writes a bundle in one step |
+//! | `tlds` | the TLDs of bundles; one that is another than the others' |
 //! | `stop` | what the program stops for, its text and its status |
 //!
 //! What `restore` does alike is in [`esc_cli`]: the commands as `clap` is told of them, the
@@ -52,6 +55,7 @@ mod forecast_lines;
 mod manifest;
 mod series;
 mod stop;
+mod tlds;
 
 use command_line::run_words;
 use esc_cli::{Asked, given_words, print_invalid_utf8};

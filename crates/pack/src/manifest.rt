@@ -2,10 +2,12 @@
 
 use crate::files::read_file;
 use crate::stop::{Refusal, RowPaths, Stop};
+use crate::tlds::Tlds;
 use esc_bundle::Fault;
 use esc_envelope::Header;
 use esc_manifest::{MRow, ManifestRefusal};
 use esc_pack::{Release, ReleaseFault};
+use std::io::Write;
 
 /// A bundle: its path, and what its deposit says of itself.
 #[derive(Drop)]
@@ -14,9 +16,14 @@ struct Bundle<'a> {
     header: &'a Header,
 }
 
-/// The release manifest of the bundles at these paths. Holds one of them at a time.
-pub fn manifest_at(rt: &HostRuntime, paths: &[&str]) -> Result<Vec<u8>, Stop> {
-    let release = read_release(rt, paths)?;
+/// The release manifest of the bundles at these paths. Holds one of them at a time. A bundle of
+/// another TLD than the first one's is told on standard error.
+pub fn manifest_at<E: Write>(
+    rt: &HostRuntime,
+    paths: &[&str],
+    err: &mut E,
+) -> Result<Vec<u8>, Stop> {
+    let release = read_release(rt, paths, err)?;
     match release.manifest(rt.alloc()) {
         Ok(text) => Ok(text),
         Err(ReleaseFault::Unlisted { refusal, row }) => Err(Stop::Unlisted {
@@ -28,12 +35,13 @@ pub fn manifest_at(rt: &HostRuntime, paths: &[&str]) -> Result<Vec<u8>, Stop> {
     }
 }
 
-fn read_release(rt: &HostRuntime, paths: &[&str]) -> Result<Release, Stop> {
+fn read_release<E: Write>(rt: &HostRuntime, paths: &[&str], err: &mut E) -> Result<Release, Stop> {
     let mut release = Release::new(rt.alloc());
+    let mut tlds = Tlds::new(rt);
     for path in paths {
         let body = read_file(rt, path)?;
         match release.read(rt.alloc(), body.as_slice()) {
-            Ok(()) => {}
+            Ok(()) => tlds.add(rt, path, body.as_slice(), err)?,
             Err(Fault::Refused(refusal)) => {
                 return Err(Stop::at(rt, Refusal::Unread(refusal), path));
             }

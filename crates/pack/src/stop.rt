@@ -16,6 +16,10 @@ const STOPPED: u8 = 3;
 /// Why a file is refused by `E2`.
 pub const TOO_LARGE: &str = "it has over 16,777,216 bytes";
 
+/// What makes bundles of files that are too large for one.
+const SERIES_WAY: &[u8] =
+    b"larger than one bundle: unpack_rde --described makes a series of such files\n";
+
 /// What is wrong with a file or a folder.
 #[derive(Clone, Copy)]
 pub enum Refusal {
@@ -25,6 +29,10 @@ pub enum Refusal {
     Unparted,
     /// It has over 16,777,216 bytes.
     TooLarge,
+    /// The same of a file that is to go into a bundle.
+    FileTooLarge,
+    /// No bundle takes its sections, which have too many bytes or rows: this refusal.
+    BundleTooLarge(BodyRefusal),
     /// It is no deposit, by this refusal.
     Unread(BodyRefusal),
     /// It begins with a row that does not name the declared fields.
@@ -94,12 +102,26 @@ impl Stop {
         }
     }
 
+    // What to do instead, if there is something: a line.
+    fn way(&self) -> Option<&'static [u8]> {
+        match self {
+            Stop::At {
+                refusal: Refusal::FileTooLarge | Refusal::BundleTooLarge(_),
+                ..
+            } => Some(SERIES_WAY),
+            _ => None,
+        }
+    }
+
     // Whether there is more to say of it than its line has.
     fn has_cause(&self) -> bool {
         match self {
             Stop::At { refusal, .. } => matches!(
                 refusal,
-                Refusal::Unreadable(_) | Refusal::Unparted | Refusal::TooLarge
+                Refusal::Unreadable(_)
+                    | Refusal::Unparted
+                    | Refusal::TooLarge
+                    | Refusal::FileTooLarge
             ),
             Stop::Unlisted { .. } => false,
             Stop::NoMemory => true,
@@ -146,10 +168,12 @@ fn fmt_at<W: fmt::Write>(
     path: OneLine<'_>,
 ) -> fmt::Result {
     let name = match refusal {
-        Refusal::Unread(refusal) => return write!(f, "{refusal} {path}"),
+        Refusal::Unread(refusal) | Refusal::BundleTooLarge(refusal) => {
+            return write!(f, "{refusal} {path}");
+        }
         Refusal::Row(row) => return write!(f, "U9 {path} row {row}"),
         Refusal::Unreadable(_) | Refusal::Unparted => "E1",
-        Refusal::TooLarge => "E2",
+        Refusal::TooLarge | Refusal::FileTooLarge => "E2",
         Refusal::Heading => "H1",
         Refusal::Marked => "H2",
         Refusal::Undescribed => "H3",
@@ -190,7 +214,7 @@ impl fmt::Display for RefusalCause {
         match self.0 {
             Refusal::Unreadable(error) => write!(f, "{}", SystemCause(error)),
             Refusal::Unparted => f.write_str("it has no folders part-001, part-002 and so on"),
-            Refusal::TooLarge => f.write_str(TOO_LARGE),
+            Refusal::TooLarge | Refusal::FileTooLarge => f.write_str(TOO_LARGE),
             _ => Ok(()),
         }
     }
@@ -227,8 +251,8 @@ pub fn print<O: Write>(rt: &HostRuntime, out: &mut O, text: &[u8]) -> Result<(),
     or_stop(rt, "-", out.write_all(text))
 }
 
-/// Prints what the program stops for, and why if that is asked for. Returns the status. If there is
-/// no memory for the line, it prints `S2` instead, which doesn't allocate, and returns the status of
+/// Prints what the program stops for, why if that is asked for, and what to do instead if there is
+/// something. Returns the status. If there is no memory for the line, it prints `S2` instead, which doesn't allocate, and returns the status of
 /// that.
 pub fn tell_stop<E: Write>(rt: &HostRuntime, err: &mut E, asked: Asked<'_>, stop: &Stop) -> u8 {
     let Ok(line) = format!(in rt.alloc(); "{stop}\n") else {
@@ -242,5 +266,8 @@ pub fn tell_stop<E: Write>(rt: &HostRuntime, err: &mut E, asked: Asked<'_>, stop
     };
     // A failure of standard error is ignored: there is nowhere to report it.
     let _ = print_refusal(rt.alloc(), err, line.as_str(), is_told, &cause);
+    if let Some(way) = stop.way() {
+        let _ = err.write_all(way);
+    }
     stop.status()
 }
