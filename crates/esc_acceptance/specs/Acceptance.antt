@@ -12,29 +12,35 @@ use Rattle.esc_envelope.specs.Place.{rank}
 use Rattle.esc_chain.specs.declared.gap.GapLine.{GapLine}
 use Rattle.esc_chain.specs.declared.gap.State.{State}
 use Rattle.esc_chain.specs.declared.gap.State.TheVariants as state
+use Rattle.esc_conformity.specs.declared.rule.Rule.{Rule}
+use Rattle.esc_conformity.specs.declared.rule.Rule.TheVariants.{Registrars, Nndns, Roids}
+use Rattle.esc_conformity.specs.declared.rule.Rule.TheVariants.{Required, Outside, Digests}
+use Rattle.esc_conformity.specs.declared.found.Flaws.{Flaws}
+use Rattle.esc_conformity.specs.Flaws.{rule_name}
+use Rattle.esc_conformity.specs.Found.{keys_by}
 use Rattle.esc_acceptance.specs.declared.test.Test.{Test}
 use Rattle.esc_acceptance.specs.declared.test.Test.TheVariants as test
 use Rattle.esc_apply.specs.ObjectStreams.{Entry}
 use Rattle.esc_acceptance.specs.Guides.{guides, is_wanted, is_declared_for_all, is_disguise}
 
--- what was seen of a store: how many TLDs the held deposits name; the moment that is set, the
--- chain's end, whether the chain is the latest one, the line of each listed place; how many bodies
--- are parked, how many arrivals are early ones without a body, how many findings there are, how many
--- objects name no registrar and how many NNDNs have a domain's name; the objects and the declared
--- numbers by kind, the tables that the chain's deposits declare, what they
--- make, how many orphans they have, how many held bodies aren't what their rows list, whether those
--- of the chain are deposits, and whether the tables are what they make; and the notes in them
+-- what was seen of a store: how many TLDs the held deposits name; the moment that is set, what time
+-- it is, the chain's end, whether the chain is the latest one, the line of each listed place; how
+-- many bodies are parked, how many arrivals are early ones without a body, how many findings there
+-- are, and which objects break each rule; the objects and the declared numbers by kind, the tables
+-- that the chain's deposits declare, what they make, how many orphans they have, how many held
+-- bodies aren't what their rows list, whether those of the chain are deposits, and whether the
+-- tables are what they make; and the notes in them
 pub record SeenValue : Type 0 where
   pub tlds : ℕ
   pub moment : Option ℤ
+  pub clock : Option ℤ
   pub end : Option Place
   pub is_latest : Bool
   pub gaps : List GapLine
   pub parked : ℕ
   pub early : ℕ
   pub findings : ℕ
-  pub registrars : ℕ
-  pub nndns : ℕ
+  pub flaws : Flaws
   pub objects : List (Kind × ℕ)
   pub counts : List (Kind × ℕ)
   pub tables : List TableValue
@@ -54,6 +60,11 @@ is_after p q = int_lt q.watermark p.watermark
 abbrev pub is_by : Option ℤ → ℤ → Bool
 is_by None w = true
 is_by (Some t) w = not (int_lt t w)
+
+-- whether the chain's end is not later than now, if both are known
+abbrev pub is_past : Option ℤ → Option Place → Bool
+is_past now None = true
+is_past now (Some p) = is_by now p.watermark
 
 -- whether a listed place counts, and is after this one
 abbrev pub is_later : Option ℤ → Place → GapLine → Bool
@@ -94,6 +105,7 @@ is_counted counts k = list_any (λ c. is_kind c.0 k) counts
 abbrev pub passes : Test → SeenValue → Bool
 passes test.Tld s = nat_lt s.tlds 2
 passes test.End s = is_end s.moment s.gaps s.end
+passes test.Future s = is_past s.clock s.end
 passes test.Chain s = s.is_latest
 passes test.Resends s = list_all (λ g. not (is_outdated g)) s.gaps
 passes test.Gaps s = list_all (λ g. not (is_passed s.end g)) s.gaps
@@ -101,8 +113,7 @@ passes test.Moment s = not (is_some s.moment)
 passes test.Parked s = s.parked == 0
 passes test.Early s = s.early == 0
 passes test.Findings s = s.findings == 0
-passes test.Registrars s = s.registrars == 0
-passes test.Nndns s = s.nndns == 0
+passes (test.Conforms rule) s = length (keys_by s.flaws rule) == 0
 passes test.Orphans s = s.orphans == 0
 passes test.Counts s = list_all (is_counted s.counts) kinds
 passes test.Fields s =
@@ -115,14 +126,26 @@ passes test.Notes s = length s.notes == 0
 -- all tests, in the order in which they are told
 unfoldable pub tests : List Test
 tests =
-    test.Tld ∷ test.End ∷ test.Chain ∷ test.Resends ∷ test.Gaps ∷ test.Moment ∷ test.Parked ∷
-    test.Early ∷ test.Findings ∷ test.Registrars ∷ test.Nndns ∷ test.Orphans ∷ test.Counts ∷
-    test.Fields ∷ test.Names ∷ test.Bodies ∷ test.Tables ∷ test.Notes ∷ []
+    test.Tld ∷ test.End ∷ test.Future ∷ test.Chain ∷ test.Resends ∷ test.Gaps ∷ test.Moment ∷
+    test.Parked ∷ test.Early ∷ test.Findings ∷ test.Conforms Registrars ∷ test.Conforms Nndns ∷
+    test.Conforms Roids ∷ test.Conforms Required ∷ test.Conforms Outside ∷ test.Conforms Digests ∷
+    test.Orphans ∷ test.Counts ∷ test.Fields ∷ test.Names ∷ test.Bodies ∷ test.Tables ∷
+    test.Notes ∷ []
+
+-- whether a registry may be taken over where objects break a rule
+abbrev pub is_rule_told : Rule → Bool
+is_rule_told Registrars = false
+is_rule_told Nndns = false
+is_rule_told Roids = true
+is_rule_told Required = true
+is_rule_told Outside = true
+is_rule_told Digests = true
 
 -- whether a registry may be taken over where a test fails: then it is only told
 abbrev pub is_told_alone : Test → Bool
 is_told_alone test.Tld = false
 is_told_alone test.End = false
+is_told_alone test.Future = false
 is_told_alone test.Chain = false
 is_told_alone test.Resends = false
 is_told_alone test.Gaps = true
@@ -130,8 +153,7 @@ is_told_alone test.Moment = true
 is_told_alone test.Parked = false
 is_told_alone test.Early = true
 is_told_alone test.Findings = false
-is_told_alone test.Registrars = false
-is_told_alone test.Nndns = false
+is_told_alone (test.Conforms rule) = is_rule_told rule
 is_told_alone test.Orphans = false
 is_told_alone test.Counts = false
 is_told_alone test.Fields = false
@@ -154,6 +176,7 @@ status_of false s = if is_accepted s then 0 else 1
 abbrev pub test_name : Test → List ℕ
 test_name test.Tld = codes "tld"
 test_name test.End = codes "end"
+test_name test.Future = codes "future"
 test_name test.Chain = codes "chain"
 test_name test.Resends = codes "resends"
 test_name test.Gaps = codes "gaps"
@@ -161,8 +184,7 @@ test_name test.Moment = codes "moment"
 test_name test.Parked = codes "parked"
 test_name test.Early = codes "early"
 test_name test.Findings = codes "findings"
-test_name test.Registrars = codes "registrars"
-test_name test.Nndns = codes "nndns"
+test_name (test.Conforms rule) = rule_name rule
 test_name test.Orphans = codes "orphans"
 test_name test.Counts = codes "counts"
 test_name test.Fields = codes "fields"

@@ -17,3 +17,9 @@ tld_in envelope = option_and_then if_text (text_at (codes "tld") envelope)
 -- the TLD that a JSON text names, if it is one and does
 abbrev pub tld_of : List ℕ → Option (List ℕ)
 tld_of json = option_and_then tld_in (json_of json)
+
+-- the name among these, where there is one alone
+abbrev pub only_name : List (List ℕ) → Option (List ℕ)
+only_name [] = None
+only_name (n ∷ []) = Some n
+only_name (n ∷ m ∷ rest) = None

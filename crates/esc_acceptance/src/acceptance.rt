@@ -4,7 +4,8 @@ ghost use Rattle.std.specs.Prelude.{◌≡◌, ◌||◌, ◌&&◌, not};
 ghost use Rattle.std.specs.List.{list_all, list_any};
 ghost use Rattle.esc_envelope.specs.Kinds.{kinds};
 ghost use Rattle.esc_envelope.specs.Place.{rank};
-ghost use Rattle.esc_acceptance.specs.Acceptance.{is_after, is_by, is_later, is_end, is_in_chain};
+ghost use Rattle.esc_acceptance.specs.Acceptance.{is_after, is_by, is_past, is_later};
+ghost use Rattle.esc_acceptance.specs.Acceptance.{is_end, is_in_chain};
 ghost use Rattle.esc_acceptance.specs.Acceptance.{is_outdated, is_open, is_passed, is_counted};
 ghost use Rattle.esc_acceptance.specs.Acceptance.{passes, tests, is_accepted, status_of};
 ghost use Rattle.esc_acceptance.specs.Guides.{is_disguise, is_wanted, is_declared_for_all, guides};
@@ -41,6 +42,16 @@ pub(crate) fn is_by(moment: Option<i64>, watermark: i64) -> bool
 {
     match moment {
         Some(moment) => !(moment < watermark),
+        None => true,
+    }
+}
+
+/// Whether the chain's end is not later than now, if both are known.
+pub(crate) fn is_past(now: Option<i64>, end: Option<Place>) -> bool
+    ensures { result ≡ is_past now end }
+{
+    match end {
+        Some(end) => is_by(now, end.watermark),
         None => true,
     }
 }
@@ -160,6 +171,7 @@ pub fn passes(test: Test, seen: &Seen<'_>) -> bool
     match test {
         Test::Tld => seen.tlds.len() < 2,
         Test::End => is_end_of(seen.moment, seen.gaps, seen.end),
+        Test::Future => is_past(seen.clock, seen.end),
         Test::Chain => seen.is_latest,
         Test::Resends => has_resends(seen.gaps),
         Test::Gaps => has_no_gaps(seen.end, seen.gaps),
@@ -167,8 +179,7 @@ pub fn passes(test: Test, seen: &Seen<'_>) -> bool
         Test::Parked => seen.parked == 0,
         Test::Early => seen.early == 0,
         Test::Findings => seen.findings.len() == 0,
-        Test::Registrars => seen.registrars.len() == 0,
-        Test::Nndns => seen.nndns.len() == 0,
+        Test::Conforms(rule) => seen.flaws.of(rule).len() == 0,
         Test::Orphans => seen.orphans == 0,
         Test::Counts => are_counted(seen.counts),
         Test::Fields => are_fields_there(seen.objects, seen.tables, seen.made),
@@ -180,7 +191,7 @@ pub fn passes(test: Test, seen: &Seen<'_>) -> bool
 }
 
 #[tactic(auto, unfolding(crate::specs::Acceptance::tests))]
-pub(crate) fn all_tests() -> [Test; 18]
+pub(crate) fn all_tests() -> [Test; 23]
     ensures { result ≡ tests }
 {
     Test::ALL

@@ -1,6 +1,6 @@
 //! What a test found, in words, and what to do. No clause says how it is told.
 
-use crate::acceptance::{has_disguise, is_by, is_counted, is_outdated, is_passed};
+use crate::acceptance::{has_disguise, is_by, is_counted, is_outdated, is_passed, is_past};
 use crate::guide::Guide;
 use crate::guides::{is_there, is_wanted};
 use crate::seen::Seen;
@@ -8,6 +8,7 @@ use crate::test::Test;
 use crate::words::{moment_words, one_line, place_words};
 use esc_bundle::NoMemory;
 use esc_chain::GapLine;
+use esc_conformity::Rule;
 use esc_envelope::{Kind, Place};
 use esc_tables::Key;
 use std::alloc::Global;
@@ -18,6 +19,7 @@ pub(crate) fn detail_of(alloc: Global, test: Test, seen: &Seen<'_>) -> Result<St
     match test {
         Test::Tld => tld_detail(alloc, seen.tlds),
         Test::End => end_detail(alloc, seen),
+        Test::Future => future_detail(alloc, seen.clock, seen.end),
         Test::Chain => chain_detail(alloc, seen.is_latest),
         Test::Resends => resends_detail(alloc, seen.gaps),
         Test::Gaps => gaps_detail(alloc, seen.end, seen.gaps),
@@ -25,8 +27,7 @@ pub(crate) fn detail_of(alloc: Global, test: Test, seen: &Seen<'_>) -> Result<St
         Test::Parked => parked_detail(alloc, seen.parked),
         Test::Early => early_detail(alloc, seen.early),
         Test::Findings => findings_detail(alloc, seen),
-        Test::Registrars => registrars_detail(alloc, seen.registrars),
-        Test::Nndns => nndns_detail(alloc, seen.nndns),
+        Test::Conforms(rule) => rule_detail(alloc, rule, seen.flaws.of(rule)),
         Test::Orphans => orphans_detail(alloc, seen.orphans),
         Test::Counts => counts_detail(alloc, seen.counts),
         Test::Fields => fields_detail(alloc, seen),
@@ -50,6 +51,18 @@ fn tld_detail(alloc: Global, tlds: &[String]) -> Result<String, NoMemory> {
         text.push_str(" are named by the held deposits; make a store for each")?;
     }
     Ok(text)
+}
+
+fn future_detail(alloc: Global, now: Option<i64>, end: Option<Place>) -> Result<String, NoMemory> {
+    match end {
+        Some(end) if !is_past(now, Some(end)) => {
+            let end = place_words(alloc, end)?;
+            Ok(format!(in alloc;
+                "{end} is later than now; set this machine's clock, or ask the agent which watermark it has"
+            )?)
+        }
+        _ => Ok(String::new(alloc)),
+    }
 }
 
 fn chain_detail(alloc: Global, is_latest: bool) -> Result<String, NoMemory> {
@@ -178,26 +191,31 @@ fn push_object(text: &mut String, kind: &str, name: &str) -> Result<(), NoMemory
     Ok(write!(text, " {name}")?)
 }
 
-fn registrars_detail(alloc: Global, keys: &[Key]) -> Result<String, NoMemory> {
-    let count = keys.len();
-    let mut text = String::new(alloc);
-    push_objects(alloc, &mut text, keys)?;
-    if count == 0 {
-        return Ok(text);
+// What is said of the objects that break a rule, and what to do.
+fn said_of(rule: Rule) -> &'static str {
+    match rule {
+        Rule::Registrars => {
+            "name a registrar that isn't there, by crRr, upRr, reRr or acRr; ask the agent for it"
+        }
+        Rule::Nndns => "have a domain's name; ask the agent which the name is",
+        Rule::Roids => "have a ROID that another of their kind has; ask the agent which has it",
+        Rule::Required => {
+            "lack what RFC 9022 requires of them; `pack_rde` says what, ask the agent for it"
+        }
+        Rule::Outside => "are not below the TLD; ask the agent why they are there",
+        Rule::Digests => "have a DS that is none, which a zone leaves out; ask the agent for it",
     }
-    Ok(format!(in alloc;
-        "{count} name a registrar that isn't there, by crRr, upRr, reRr or acRr; ask the agent for it: {text}"
-    )?)
 }
 
-fn nndns_detail(alloc: Global, keys: &[Key]) -> Result<String, NoMemory> {
+fn rule_detail(alloc: Global, rule: Rule, keys: &[Key]) -> Result<String, NoMemory> {
     let count = keys.len();
     let mut text = String::new(alloc);
     push_objects(alloc, &mut text, keys)?;
     if count == 0 {
         return Ok(text);
     }
-    Ok(format!(in alloc; "{count} have a domain's name; ask the agent which the name is: {text}")?)
+    let said = said_of(rule);
+    Ok(format!(in alloc; "{count} {said}: {text}")?)
 }
 
 fn orphans_detail(alloc: Global, orphans: u64) -> Result<String, NoMemory> {

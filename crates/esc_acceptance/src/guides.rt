@@ -12,7 +12,6 @@ ghost use Rattle.esc_acceptance.specs.Guides.{is_disguised_table, has_disguised_
 ghost use Rattle.esc_acceptance.specs.Guides.{stands_for_its_table, is_disguise};
 
 use crate::guide::Guide;
-use esc_conformity::text_in;
 use esc_envelope::{Kind, Table};
 use esc_tables::{Key, Object, Row};
 use std::collections::BTreeMap;
@@ -66,7 +65,7 @@ fn is_declared(tables: &[Table], guide: Guide) -> bool
 fn has_cell(row: &Row, field: &str) -> bool
     ensures { result ≡ has_cell field.now row.now }
 {
-    text_in(row, field).is_some()
+    row.text(field).is_some()
 }
 
 fn have_cells(rows: &[Row], table: &str, field: &str) -> bool

@@ -70,7 +70,7 @@ pub use guide::Guide;
 pub use line::{Line, lines_of};
 pub use rebuild::{apply_deposit, are_listed};
 pub use report::{Report, report_of};
-pub use same::{are_same_counts, are_same_tables};
+pub use same::{are_same_counts, are_same_tables, is_same_entry};
 pub use seen::Seen;
 pub use test::Test;
 pub use tlds::Tlds;

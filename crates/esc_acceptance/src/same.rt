@@ -67,7 +67,7 @@ fn is_same_key(key: &Key, other: &Key) -> bool
 }
 
 /// Whether two keys are the same, and have the same object.
-pub(crate) fn is_same_entry(key: &Key, object: &Object, other_key: &Key, other: &Object) -> bool
+pub fn is_same_entry(key: &Key, object: &Object, other_key: &Key, other: &Object) -> bool
     ensures key { result ≡ true → key.now ≡ other_key.now }
     ensures object { result ≡ true → object.now ≡ other.now }
 {

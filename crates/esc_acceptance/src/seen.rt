@@ -2,6 +2,7 @@
 
 use esc_chain::GapLine;
 use esc_check::Finding;
+use esc_conformity::Flaws;
 use esc_envelope::{Kind, Place, Table};
 use esc_tables::{Key, Object};
 use std::collections::BTreeMap;
@@ -14,6 +15,8 @@ pub struct Seen<'a> {
     pub tlds: &'a [String],
     /// The moment that is set, if one is, in nanoseconds since 1970-01-01T00:00:00Z.
     pub moment: Option<i64>,
+    /// What time it is, if that is known, in nanoseconds since 1970-01-01T00:00:00Z.
+    pub clock: Option<i64>,
     /// The place of the chain's last deposit, if there is a chain.
     pub end: Option<Place>,
     /// Whether the chain is the latest one of the held rows, up to the moment.
@@ -26,10 +29,8 @@ pub struct Seen<'a> {
     pub early: u64,
     /// The findings V1 to V7 in the tables.
     pub findings: &'a [Finding],
-    /// The keys of what names a registrar that isn't there ([`esc_conformity::Rule::Registrars`]).
-    pub registrars: &'a [Key],
-    /// The keys of NNDNs that have a domain's name ([`esc_conformity::Rule::Nndns`]).
-    pub nndns: &'a [Key],
+    /// The objects that break the rules of RFC 9022, section 8.
+    pub flaws: &'a Flaws,
     /// How many objects of each kind there are.
     pub objects: &'a [(Kind, u64)],
     /// How many objects of a kind the chain's last deposit declares, for the kinds that it does.
@@ -59,14 +60,14 @@ impl<'a> Model for Seen<'a> {
     ghost view = { λ s. record {
       tlds = length s.tlds.now;
       moment = s.moment;
+      clock = s.clock;
       end = s.end;
       is_latest = s.is_latest;
       gaps = s.gaps.now;
       parked = s.parked;
       early = s.early;
       findings = length s.findings.now;
-      registrars = length s.registrars.now;
-      nndns = length s.nndns.now;
+      flaws = s.flaws.now;
       objects = s.objects.now;
       counts = s.counts.now;
       tables = s.tables.now;

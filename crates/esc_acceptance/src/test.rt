@@ -1,7 +1,9 @@
 //! The tests of the acceptance.
 
 ghost use Rattle.std.specs.Prelude.{◌≡◌};
-ghost use Rattle.esc_acceptance.specs.Acceptance.{is_told_alone, test_name};
+ghost use Rattle.esc_acceptance.specs.Acceptance.{is_rule_told, is_told_alone, test_name};
+
+use esc_conformity::Rule;
 
 /// A test of the acceptance of a rebuilt registry (this project's profile).
 #[derive(Clone, Copy, Debug, PartialEq, Eq)]
@@ -10,6 +12,8 @@ pub enum Test {
     Tld,
     /// No place up to the moment is listed after the chain's end, and there is a chain.
     End,
+    /// The chain's end is not later than now, if both are known.
+    Future,
     /// The chain is the latest one of the held rows.
     Chain,
     /// No place of the chain awaits a resend.
@@ -24,10 +28,8 @@ pub enum Test {
     Early,
     /// There is no finding V1 to V7.
     Findings,
-    /// No object names a registrar that isn't there by whom it was created, updated or transferred.
-    Registrars,
-    /// No name is both a domain's and an NNDN's.
-    Nndns,
+    /// No object breaks this rule. Some rules are only told.
+    Conforms(Rule),
     /// No deposit of the chain has an orphan.
     Orphans,
     /// The chain's last deposit declares how many objects of each kind there are.
@@ -44,11 +46,23 @@ pub enum Test {
     Notes,
 }
 
+// Whether a registry may be taken over where objects break a rule: as these are, they don't stop the
+// DNS.
+fn is_rule_told(rule: Rule) -> bool
+    ensures { result ≡ is_rule_told rule }
+{
+    match rule {
+        Rule::Roids | Rule::Required | Rule::Outside | Rule::Digests => true,
+        Rule::Registrars | Rule::Nndns => false,
+    }
+}
+
 impl Test {
     /// All tests, in the order in which they are told.
-    pub const ALL: [Test; 18] = [
+    pub const ALL: [Test; 23] = [
         Test::Tld,
         Test::End,
+        Test::Future,
         Test::Chain,
         Test::Resends,
         Test::Gaps,
@@ -56,8 +70,12 @@ impl Test {
         Test::Parked,
         Test::Early,
         Test::Findings,
-        Test::Registrars,
-        Test::Nndns,
+        Test::Conforms(Rule::Registrars),
+        Test::Conforms(Rule::Nndns),
+        Test::Conforms(Rule::Roids),
+        Test::Conforms(Rule::Required),
+        Test::Conforms(Rule::Outside),
+        Test::Conforms(Rule::Digests),
         Test::Orphans,
         Test::Counts,
         Test::Fields,
@@ -74,6 +92,7 @@ impl Test {
         match self {
             Test::Tld => "tld",
             Test::End => "end",
+            Test::Future => "future",
             Test::Chain => "chain",
             Test::Resends => "resends",
             Test::Gaps => "gaps",
@@ -81,8 +100,7 @@ impl Test {
             Test::Parked => "parked",
             Test::Early => "early",
             Test::Findings => "findings",
-            Test::Registrars => "registrars",
-            Test::Nndns => "nndns",
+            Test::Conforms(rule) => rule.name(),
             Test::Orphans => "orphans",
             Test::Counts => "counts",
             Test::Fields => "fields",
@@ -99,14 +117,14 @@ impl Test {
     {
         match self {
             Test::Gaps | Test::Moment | Test::Early | Test::Notes => true,
+            Test::Conforms(rule) => is_rule_told(rule),
             Test::Tld
             | Test::End
+            | Test::Future
             | Test::Chain
             | Test::Resends
             | Test::Parked
             | Test::Findings
-            | Test::Registrars
-            | Test::Nndns
             | Test::Orphans
             | Test::Counts
             | Test::Fields

@@ -1,5 +1,8 @@
 //! The TLDs that deposits name.
 
+ghost use Rattle.std.specs.Prelude.{◌≡◌, map, option_map, string_bytes};
+ghost use Rattle.esc_acceptance.specs.Remarks.{only_name};
+
 use crate::remarks::{Remarks, read_remarks};
 use esc_bundle::NoMemory;
 use std::alloc::Global;
@@ -25,6 +28,17 @@ impl Tlds {
         match tld {
             Some(tld) => self.add_name(tld),
             None => Ok(()),
+        }
+    }
+
+    /// The TLD, where there is one name alone.
+    pub fn only(&self) -> Option<&str>
+        ensures { option_map (λ t. t.now) result
+            ≡ only_name (map string_bytes self.now.names.items) }
+    {
+        match self.names.as_slice() {
+            [name] => Some(name.as_str()),
+            _ => None,
         }
     }
 

@@ -1,1 +1,3 @@
-pub mod Cells
+pub mod Counted
+pub mod Numbers
+pub mod Tests

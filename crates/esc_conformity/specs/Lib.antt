@@ -1,1 +1,5 @@
+pub mod Digests
 pub mod Flaws
+pub mod Found
+pub mod Required
+pub mod Roids

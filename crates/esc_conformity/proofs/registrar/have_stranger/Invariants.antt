@@ -2,7 +2,7 @@ use Rattle.std.proofs.Common.{◌≡◌, drop}
 use Rattle.std.specs.List.{list_any}
 use Rattle.esc_check.specs.Gathered.{is_present}
 use Rattle.esc_conformity.specs.Flaws.{names_stranger}
-use Rattle.esc_conformity.proofs.flaw.have_stranger.Given as goal
+use Rattle.esc_conformity.proofs.registrar.have_stranger.Given as goal
 
 -- the rows that are left decide
 abbrev pub invariant-loop-row : goal.invariant-loop-row
