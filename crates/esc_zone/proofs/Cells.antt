@@ -22,10 +22,12 @@ cells_from cells i x is =
 abbrev pub cell_among : List ℕ → List Cell → List ℕ
 cell_among field cells = unwrap_or (lookup (bytes_eq field) cells) []
 
+-- the field is that of the cell at this place
 pub cell_there : (field : List ℕ) (cells : List Cell) (i : ℕ) (x : Cell)
     → Some x ≡ slice_get cells i → bytes_eq field x.0 ≡ true → cell_among field (drop i cells) ≡ x.1
 cell_there field cells i x is same = ap (cell_among field) (cells_from cells i x is) ∙ rw same refl
 
+-- the field is not that of the cell at this place
 pub cell_further : (field : List ℕ) (cells : List Cell) (i : ℕ) (x : Cell)
     → Some x ≡ slice_get cells i → bytes_eq field x.0 ≡ false
     → cell_among field (drop i cells) ≡ cell_among field (drop (i + 1) cells)

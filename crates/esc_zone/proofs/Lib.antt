@@ -1,2 +1,10 @@
+mod Above
+mod Added
 mod Cells
+mod Delegated
+mod InOrder
 mod Lines
+mod Listed
+mod NotedSame
+mod Said
+mod Texts

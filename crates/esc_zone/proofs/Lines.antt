@@ -1,12 +1,13 @@
 -- Lines of records, and more of them, are lines of records.
 use Rattle.std.proofs.Common.{◌≡◌, true, ℕ, List, [], ◌∷◌, ◌++◌, Option, None, Some, ◌∙◌, ap}
-use Rattle.std.proofs.Common.{ap₂, sym, subst, append-nil, append_assoc, refl}
+use Rattle.std.proofs.Common.{ap₂, sym, append-nil, append_assoc, refl}
 use Rattle.std.specs.Io.KnownBytes.{Appends}
 use Rattle.std.proofs.lemmas.Grind.{flat_map-append}
 use Rattle.std.proofs.lemmas.List.Elements.{All-append, All-push, All-nil}
 use Rattle.esc_zone.specs.Names.{is_zone_name}
 use Rattle.esc_zone.specs.Records.{RecordValue, record_line, record_text, IsRecord, AreLines, AppendsLines, IsSaid}
 
+-- one record more
 pub more_lines : (ttl : ℕ) (text owner said : List ℕ)
     → AreLines text → is_zone_name owner ≡ true → IsSaid said → AreLines (text ++ record_line ttl owner said)
 more_lines ttl text owner said held named is =

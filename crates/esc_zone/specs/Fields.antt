@@ -1,11 +1,12 @@
 -- Fields of rows, by the names that the tables of RFC 9022's objects have here.
-use Rattle.std.specs.Prelude.{ℕ, Bool, ◌&&◌, List, [], map, codes}
+use Rattle.std.specs.Prelude.{ℕ, ◌-◌, Bool, ◌==◌, ◌&&◌, if◌then◌else◌, List, [], map}
+use Rattle.std.specs.Prelude.{length, take, slice_index}
 use Rattle.std.specs.List.{list_any}
 use Rattle.std.specs.Option.{unwrap_or}
 use Rattle.std.specs.Map.{lookup}
 use Rattle.std.specs.Str.{bytes_eq}
 use Rattle.std.specs.Char.{to_ascii_lowercase}
-use Rattle.esc_tables.specs.ObjectValue.{RowValue, ObjectValue}
+use Rattle.esc_tables.specs.ObjectValue.{RowValue}
 
 -- the text of a field in a row: that of its first cell, and empty where there is none
 abbrev pub first_text : List ℕ → RowValue → List ℕ
@@ -14,6 +15,15 @@ first_text field r = unwrap_or (lookup (bytes_eq field) r.cells) []
 -- a text with ASCII letters in lower case
 abbrev pub lowered : List ℕ → List ℕ
 lowered text = map to_ascii_lowercase text
+
+-- a text without one dot at its end
+abbrev pub without_dot : List ℕ → List ℕ
+without_dot text = if slice_index text (length text - 1) == 46 then take (length text - 1) text
+    else text
+
+-- a text as names are compared (RFC 4343): in lower case, without one dot at its end
+abbrev pub normal : List ℕ → List ℕ
+normal text = lowered (without_dot text)
 
 -- whether a row of this table has this word in this field, letters of either case
 abbrev pub has_word : List ℕ → List ℕ → List ℕ → RowValue → Bool

@@ -1,7 +1,9 @@
+pub mod Addresses
 pub mod Delegations
+pub mod Drafts
 pub mod Fields
+pub mod Lists
 pub mod Names
 pub mod Records
 pub mod Signers
 pub mod Statuses
-pub mod Usages

@@ -1,8 +1,8 @@
 -- DS records: those that a row has, and those that are made of keys (RFC 4034, sections 5.1 and
 -- appendix B; RFC 5910, section 4).
 use Rattle.std.specs.Prelude.{◌≡◌, ◌≢◌, true, ℕ, ◌+◌, ◌*◌, ◌/◌, ◌%◌, List, []}
-use Rattle.std.specs.Prelude.{◌∷◌, ◌++◌, length, Bool, ◌==◌, ◌&&◌}
-use Rattle.std.specs.Prelude.{not, nat_le, if◌then◌else◌, Option, Some, None, Result, Ok}
+use Rattle.std.specs.Prelude.{◌∷◌, ◌++◌, length, ◌==◌}
+use Rattle.std.specs.Prelude.{nat_le, if◌then◌else◌, Option, Some, None, Ok}
 use Rattle.std.specs.List.{list_all}
 use Rattle.std.specs.Char.{is_ascii_digit}
 use Rattle.std.specs.Str.Parse.{digits_value}

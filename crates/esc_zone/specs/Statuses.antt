@@ -1,6 +1,6 @@
 -- Which statuses keep a domain out of the zone (RFC 5731, section 2.3; RFC 3915, section 3.1).
 use Rattle.std.specs.Prelude.{Bool, ◌||◌, if◌then◌else◌, List, ℕ, Option, Some, None, codes}
-use Rattle.esc_tables.specs.ObjectValue.{RowValue, ObjectValue}
+use Rattle.esc_tables.specs.ObjectValue.{RowValue}
 use Rattle.esc_zone.specs.declared.status.Hold.{Hold}
 use Rattle.esc_zone.specs.declared.status.Hold.TheVariants.{Held, PendingCreate, Redemption}
 use Rattle.esc_zone.specs.declared.status.Hold.TheVariants.{PendingRestore, PendingDelete, Inactive}

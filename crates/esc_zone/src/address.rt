@@ -1,5 +1,10 @@
 //! Addresses of servers.
 
+ghost use Rattle.std.specs.Prelude.{◌≡◌, ◌↔◌, IsTrue, IfOk, string_bytes};
+ghost use Rattle.std.specs.Net.Grammar.{Parses};
+ghost use Rattle.esc_zone.specs.Addresses.{IsServersV4, IsServersV6, IsServers, IsServersText};
+ghost use Rattle.esc_zone.specs.Addresses.{HasAddress, said_texts};
+
 use esc_bundle::NoMemory;
 use std::alloc::Global;
 use std::net::{IpAddr, Ipv4Addr, Ipv6Addr};
@@ -20,7 +25,9 @@ impl Said {
     }
 
     /// The address of a server that the text is, or why it is none.
-    pub(crate) fn address(&self) -> Result<IpAddr, &'static str> {
+    pub(crate) fn address(&self) -> Result<IpAddr, &'static str>
+        ensures { Parses IsServersText (string_bytes self.now.text) result }
+    {
         match IpAddr::parse_ascii(self.text.as_bytes()) {
             Ok(address) if is_servers(&address) => Ok(address),
             Ok(_) => Err("an address of no server"),
@@ -29,14 +36,18 @@ impl Said {
     }
 }
 
-fn is_servers_v4(address: &Ipv4Addr) -> bool {
+fn is_servers_v4(address: &Ipv4Addr) -> bool
+    ensures { IsTrue result ↔ IsServersV4 address.now }
+{
     !(address.is_loopback()
         || address.is_unspecified()
         || address.is_multicast()
         || address.is_link_local())
 }
 
-fn is_servers_v6(address: &Ipv6Addr) -> bool {
+fn is_servers_v6(address: &Ipv6Addr) -> bool
+    ensures { IsTrue result ↔ IsServersV6 address.now }
+{
     !(address.is_loopback()
         || address.is_unspecified()
         || address.is_multicast()
@@ -46,7 +57,9 @@ fn is_servers_v6(address: &Ipv6Addr) -> bool {
 
 /// Whether an address may be one of a server: it is no loopback, unspecified, multicast, link-local
 /// or mapped address (RFC 6890).
-pub(crate) fn is_servers(address: &IpAddr) -> bool {
+pub(crate) fn is_servers(address: &IpAddr) -> bool
+    ensures { IsTrue result ↔ IsServers address.now }
+{
     match address {
         IpAddr::V4(v4) => is_servers_v4(v4),
         IpAddr::V6(v6) => is_servers_v6(v6),
@@ -54,8 +67,15 @@ pub(crate) fn is_servers(address: &IpAddr) -> bool {
 }
 
 /// Whether one of these rows has an address of a server.
-pub(crate) fn has_address(rows: &[Said]) -> bool {
-    rows.iter().any(|row| row.address().is_ok())
+pub(crate) fn has_address(rows: &[Said]) -> bool
+    ensures { IsTrue result ↔ HasAddress (said_texts rows.now) }
+{
+    for row in rows {
+        if row.address().is_ok() {
+            return true;
+        }
+    }
+    false
 }
 
 /// The addresses of these rows: IPv4 first, by number, each once.

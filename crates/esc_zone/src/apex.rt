@@ -1,5 +1,9 @@
 //! The operator's own records: the SOA and the name servers of the zone, and what else it has.
 
+ghost use Rattle.std.specs.Prelude.{◌≡◌, is_some};
+ghost use Rattle.std.specs.BTreeMap.{get};
+ghost use Rattle.esc_zone.specs.Names.{name_cmp};
+
 use crate::fault::{Halt, Rule, refused};
 use crate::name::Name;
 use crate::reading::{fault_of, name_in, normal};
@@ -282,7 +286,9 @@ impl Apex {
     }
 
     /// The addresses that it has of a name, if it has any.
-    pub(crate) fn addresses(&self, name: &Name) -> Option<&Vec<IpAddr>> {
+    pub(crate) fn addresses(&self, name: &Name) -> Option<&Vec<IpAddr>>
+        ensures { is_some result ≡ is_some (get name_cmp self.now.addresses name.now) }
+    {
         self.addresses.get(name)
     }
 

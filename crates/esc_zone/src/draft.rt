@@ -1,10 +1,20 @@
 //! What is kept of a registry while its zone is made.
 
+ghost use Rattle.std.specs.Prelude.{◌≡◌, ◌↔◌, IfOk, IsTrue, Some, None, if◌then◌else◌};
+ghost use Rattle.std.specs.Prelude.{string_bytes};
+ghost use Rattle.std.specs.Option.{option_map};
+ghost use Rattle.esc_zone.specs.Names.{is_server_name, name_cmp};
+ghost use Rattle.esc_zone.specs.Lists.{IsOrderedOnce};
+ghost use Rattle.esc_zone.specs.Delegations.{server_text, server_texts, texts_of};
+ghost use Rattle.esc_zone.specs.Addresses.{HasAddress};
+ghost use Rattle.esc_zone.specs.Drafts.{zone_notes, is_inside, cut_of, HasGlue};
+
 use crate::address::{Said, has_address};
 use crate::apex::Apex;
 use crate::counts::Counts;
 use crate::fault::{Halt, Rule, refused};
 use crate::field::cell;
+use crate::lists::push_some;
 use crate::name::Name;
 use crate::reading::{normal, server_in};
 use esc_bundle::NoMemory;
@@ -140,7 +150,9 @@ impl Draft {
     }
 
     /// Whether a name is below the zone's.
-    pub(crate) fn is_inside(&self, name: &Name) -> bool {
+    pub(crate) fn is_inside(&self, name: &Name) -> bool
+        ensures { result ≡ is_inside (zone_notes self.now) name.now }
+    {
         name.is_below(&self.settings.origin) && *name != self.settings.origin
     }
 
@@ -182,7 +194,9 @@ impl Draft {
     }
 
     /// The uppermost name at or above this one that is delegated, if there is one.
-    pub(crate) fn cut_of(&self, name: &Name) -> Result<Option<Name>, NoMemory> {
+    pub(crate) fn cut_of(&self, name: &Name) -> Result<Option<Name>, NoMemory>
+        ensures { IfOk result (λ cut. cut ≡ cut_of (zone_notes self.now) name.now) }
+    {
         let mut found = None;
         let mut next = Some(name.copy(self.alloc)?);
         while let Some(above) = next {
@@ -197,12 +211,16 @@ impl Draft {
         Ok(found)
     }
 
-    fn is_cut(&self, name: &Name) -> bool {
+    fn is_cut(&self, name: &Name) -> bool
+        ensures { result ≡ (zone_notes self.now).is_delegated name.now }
+    {
         self.places.get(name).is_some_and(|place| place.is_cut)
     }
 
     /// Whether the zone has an address of a server in it.
-    pub(crate) fn has_address(&self, host: &Name) -> Result<bool, NoMemory> {
+    pub(crate) fn has_address(&self, host: &Name) -> Result<bool, NoMemory>
+        ensures { IfOk result (λ has. IsTrue has ↔ HasGlue (zone_notes self.now) host.now) }
+    {
         if self.apex.addresses(host).is_some() {
             return Ok(true);
         }
@@ -213,10 +231,13 @@ impl Draft {
     }
 
     // Whether a server in the zone has an address in the tables.
-    fn has_own_address(&self, host: &Name) -> bool {
-        self.servers
-            .get(host)
-            .is_some_and(|server| has_address(&server.rows))
+    fn has_own_address(&self, host: &Name) -> bool
+        ensures { IsTrue result ↔ HasAddress ((zone_notes self.now).said host.now) }
+    {
+        match self.servers.get(host) {
+            Some(server) => has_address(&server.rows),
+            None => false,
+        }
     }
 
     /// Whether a server is outside of the zone, or has an address: so its domain is delegated.
@@ -254,7 +275,11 @@ impl Draft {
     }
 
     /// The name of a server with this normal text, if it is one.
-    pub(crate) fn server_named(&self, text: &str) -> Result<Option<Name>, NoMemory> {
+    pub(crate) fn server_named(&self, text: &str) -> Result<Option<Name>, NoMemory>
+        ensures { IfOk result (λ n. n
+            ≡ (if is_server_name (zone_notes self.now).has_underscores text.now
+            then Some text.now else None)) }
+    {
         server_in(self.alloc, text, self.settings.has_underscores)
     }
 }
@@ -268,19 +293,35 @@ pub(crate) fn twice(alloc: Global, kind: Kind, name: &Name) -> Halt {
     )
 }
 
+// The text of the server that a row of a domain says, if it says one.
+fn server_text(alloc: Global, row: &Row) -> Result<Option<String>, NoMemory>
+    ensures { IfOk result (λ text. option_map string_bytes text ≡ server_text row.now) }
+{
+    let is_servers = row.table() == "domainNs" || row.table() == "domainHostAttr";
+    let text = cell(row, "hostName");
+    if is_servers && !text.is_empty() {
+        return Ok(Some(normal(alloc, text)?));
+    }
+    Ok(None)
+}
+
+// These texts in order, each once.
+fn in_order(mut texts: Vec<String>) -> Vec<String>
+    ensures { IsOrderedOnce name_cmp (texts_of texts.items) (texts_of result.items) }
+{
+    texts.sort_unstable();
+    texts.dedup();
+    texts
+}
+
 /// The servers that these child rows of a domain have: normal texts, in order, each once.
-pub(crate) fn servers_of(alloc: Global, rows: &[Row]) -> Result<Vec<String>, NoMemory> {
+pub(crate) fn servers_of(alloc: Global, rows: &[Row]) -> Result<Vec<String>, NoMemory>
+    ensures { IfOk result (λ texts.
+        IsOrderedOnce name_cmp (server_texts rows.now) (texts_of texts.items)) }
+{
     let mut servers = Vec::new(alloc);
     for row in rows {
-        if row.table() != "domainNs" && row.table() != "domainHostAttr" {
-            continue;
-        }
-        let text = cell(row, "hostName");
-        if !text.is_empty() {
-            servers.push(normal(alloc, text)?)?;
-        }
+        push_some(&mut servers, server_text(alloc, row)?)?;
     }
-    servers.sort_unstable();
-    servers.dedup();
-    Ok(servers)
+    Ok(in_order(servers))
 }

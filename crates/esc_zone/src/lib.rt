@@ -143,30 +143,39 @@
 //!   `write_mirrors`, `write_glue`).
 //! - A [`Ds`] is that of its row's texts, with the bytes that its type has; or that of its row's
 //!   key: tag, and SHA-256 of the name on the wire with the key's data (RFC 4034, section 5.1.4).
-//! - [`usage_of`] says which servers are written: those outside of the zone, those with an address,
-//!   and those that another delegation has.
+//! - `Draft::write_domain` says which records a domain adds (`AddsDomain`), by what the draft has
+//!   noted: an NS for each of its servers that is written, by the bytes of its name, each once; and
+//!   DS of its own name alone, and only where there is an NS. It adds none where its statuses keep
+//!   it out, where its name has no place in the zone, or where no server is left.
+//! - A server is written (`IsUsable`) if its text is a name, and it is outside of the zone, or the
+//!   zone has an address of it, or another delegation has it.
 //!
-//! Tested alone: which servers and addresses a name has, what is told, and the operator's file.
-//! `specs/` has the definitions, by name: `Names`, `Statuses`, `Records`, `Signers`, `Usages`.
+//! Tested alone: what the draft notes before, which rows give a DS, the servers of mirrored names,
+//! which addresses are written, what is told, and the operator's file. `specs/` has the
+//! definitions, by name: `Names`, `Addresses`, `Fields`, `Statuses`, `Records`, `Signers`,
+//! `Drafts`, `Delegations`, `Lists`.
 #![tactic(auto)]
 
 mod address;
 mod apex;
 mod counts;
+mod domains;
 mod draft;
 mod fault;
 mod field;
+mod glue;
+mod lists;
+mod mirrors;
 mod name;
 mod notes;
 mod passes;
-mod publishing;
 mod reading;
 mod records;
 mod shapes;
 mod sheet;
 mod signer;
+mod signers;
 mod status;
-mod usage;
 mod words;
 
 pub use apex::{Apex, read_apex};
@@ -179,4 +188,3 @@ pub use records::Records;
 pub use shapes::{Shape, check_shapes};
 pub use signer::{Ds, DsFault};
 pub use status::{Hold, hold_of};
-pub use usage::{Usage, usage_of};

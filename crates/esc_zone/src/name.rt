@@ -7,8 +7,9 @@ ghost use Rattle.std.proofs.Common.{rules};
 ghost use Rattle.std.specs.Cmp.{partial_order_from_own_ties};
 ghost use Rattle.std.specs.Cmp.Rules.{comparing};
 ghost use Rattle.std.specs.Ordering.{as_partial_cmp};
+ghost use Rattle.std.specs.Option.{option_map};
 ghost use Rattle.esc_zone.specs.Names.{is_dot, is_label_byte, is_label, are_labels, is_zone_name};
-ghost use Rattle.esc_zone.specs.Names.{is_below, name_cmp, name_eq};
+ghost use Rattle.esc_zone.specs.Names.{is_below, name_cmp, name_eq, name_above};
 
 use esc_bundle::NoMemory;
 use std::alloc::Global;
@@ -122,10 +123,11 @@ impl Name {
 
     /// The name above it: without its first label, if it has two.
     pub fn above(&self, alloc: Global) -> Result<Option<Name>, NoMemory>
-        ensures { IfOk result (λ n. IfSome n (λ it. length it < length self.now)) }
+        ensures name { IfOk result (λ n. n ≡ name_above self.now) }
+        ensures shorter { IfOk result (λ n. IfSome n (λ it. length it < length self.now)) }
     {
-        match self.bytes.iter().position(|byte| *byte == b'.') {
-            Some(at) => Name::from_bytes(alloc, &self.bytes[at + 1..]),
+        match after_dot(&self.bytes) {
+            Some(rest) => Name::from_bytes(alloc, rest),
             None => Ok(None),
         }
     }
@@ -136,6 +138,25 @@ impl Name {
     {
         self.bytes.iter().any(|byte| *byte == b'_')
     }
+}
+
+/// What follows the first dot of a text.
+pub(crate) fn after_dot(text: &[u8]) -> Option<&[u8]>
+    ensures rest { option_map (λ rest. rest.now) result ≡ name_above text.now }
+    ensures shorter { IfSome result (λ rest. length rest.now < length text.now) }
+{
+    match first_dot(text) {
+        Some(at) => Some(&text[at + 1..]),
+        None => None,
+    }
+}
+
+// The place of the first dot.
+fn first_dot(text: &[u8]) -> Option<usize>
+    ensures place { result ≡ position is_dot text.now }
+    ensures within { IfSome result (λ at. at < length text.now) }
+{
+    text.iter().position(|byte| *byte == b'.')
 }
 
 fn is_at_or_below(name: &[u8], above: &[u8]) -> bool

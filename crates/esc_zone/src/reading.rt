@@ -1,9 +1,12 @@
 //! Names as the tables have them.
 
-ghost use Rattle.std.specs.Prelude.{◌≡◌, IfOk, IfSome};
+ghost use Rattle.std.specs.Prelude.{◌≡◌, IfOk, Some, None, if◌then◌else◌, false, string_bytes};
+ghost use Rattle.esc_zone.specs.Names.{is_name_with, is_server_name, last_label, ends_in_number};
+ghost use Rattle.esc_zone.specs.Fields.{normal, without_dot};
 
 use crate::fault::{Halt, Rule, refused};
-use crate::name::{LONGEST_LABEL, LONGEST_NAME, Name, is_label};
+use crate::name::{LONGEST_LABEL, LONGEST_NAME, Name, after_dot, is_label};
+use crate::signer::are_digits;
 use esc_bundle::NoMemory;
 use esc_cli::OneLine;
 use std::alloc::Global;
@@ -44,11 +47,22 @@ impl fmt::Display for NameFault<'_> {
 
 /// A text as names are compared: with ASCII letters in lower case, without one dot at its end (RFC
 /// 4343).
-pub(crate) fn normal(alloc: Global, text: &str) -> Result<String, NoMemory> {
-    let text = text.strip_suffix('.').unwrap_or(text);
-    let mut text = String::from_str(alloc, text)?;
+pub(crate) fn normal(alloc: Global, text: &str) -> Result<String, NoMemory>
+    ensures { IfOk result (λ it. string_bytes it ≡ normal text.now) }
+{
+    let mut text = String::from_str(alloc, without_dot(text))?;
     text.make_ascii_lowercase();
     Ok(text)
+}
+
+// A text without one dot at its end.
+fn without_dot(text: &str) -> &str
+    ensures { result.now ≡ without_dot text.now }
+{
+    match text.strip_suffix('.') {
+        Some(front) => front,
+        None => text,
+    }
 }
 
 /// The name of a text that is normal, if it is one; with underscores only where these are allowed.
@@ -57,7 +71,8 @@ pub(crate) fn name_in(
     text: &str,
     has_underscores: bool,
 ) -> Result<Option<Name>, NoMemory>
-    ensures { IfOk result (λ n. IfSome n (λ it. it ≡ text.now)) }
+    ensures { IfOk result (λ n. n
+        ≡ (if is_name_with has_underscores text.now then Some text.now else None)) }
 {
     match Name::from_bytes(alloc, text.as_bytes())? {
         Some(name) if has_underscores || !name.has_underscore() => Ok(Some(name)),
@@ -66,7 +81,10 @@ pub(crate) fn name_in(
 }
 
 /// The name of a text, if it is one; without underscores.
-pub(crate) fn read_name(alloc: Global, text: &str) -> Result<Option<Name>, NoMemory> {
+pub(crate) fn read_name(alloc: Global, text: &str) -> Result<Option<Name>, NoMemory>
+    ensures { IfOk result (λ n. n
+        ≡ (if is_name_with false (normal text.now) then Some (normal text.now) else None)) }
+{
     let text = normal(alloc, text)?;
     name_in(alloc, text.as_str(), false)
 }
@@ -76,17 +94,33 @@ pub(crate) fn server_in(
     alloc: Global,
     text: &str,
     has_underscores: bool,
-) -> Result<Option<Name>, NoMemory> {
+) -> Result<Option<Name>, NoMemory>
+    ensures { IfOk result (λ n. n
+        ≡ (if is_server_name has_underscores text.now then Some text.now else None)) }
+{
     if is_address(text) {
         return Ok(None);
     }
     name_in(alloc, text, has_underscores)
 }
 
-/// Whether the last label is a number, as that of an address.
-fn is_address(text: &str) -> bool {
-    let last = text.rsplit('.').next().unwrap_or("");
-    !last.is_empty() && last.bytes().all(|byte| byte.is_ascii_digit())
+// The last label of a text: what follows its last dot.
+fn last_label(text: &[u8]) -> &[u8]
+    ensures { result.now ≡ last_label text.now }
+{
+    let mut rest = text;
+    while let Some(after) = after_dot(rest) {
+        rest = after;
+    }
+    rest
+}
+
+// Whether the last label is a number, as that of an address.
+fn is_address(text: &str) -> bool
+    ensures { result ≡ ends_in_number text.now }
+{
+    let last = last_label(text.as_bytes());
+    !last.is_empty() && are_digits(last)
 }
 
 /// Why a normal text is no name of a domain.

@@ -128,7 +128,11 @@ impl Records {
     pub fn add_server(&mut self, owner: &Name, name: &Name) -> Result<(), NoMemory>
         ensures { OnOk result (self.new ≡ record self.old {
           text = self.old.text
-              ++ record_text (record { owner = owner.now; ttl = self.old.ttl; said = server name.now });
+              ++ record_text (record {
+                owner = owner.now;
+                ttl = self.old.ttl;
+                said = server name.now;
+              });
         }) }
     {
         let said = server_text(self.alloc, name.as_bytes())?;
@@ -139,7 +143,11 @@ impl Records {
     pub fn add_ds(&mut self, owner: &Name, ds: &Ds) -> Result<(), NoMemory>
         ensures { OnOk result (self.new ≡ record self.old {
           text = self.old.text
-              ++ record_text (record { owner = owner.now; ttl = self.old.ttl; said = signer ds.now });
+              ++ record_text (record {
+                owner = owner.now;
+                ttl = self.old.ttl;
+                said = signer ds.now;
+              });
         }) }
     {
         let said = ds_text(self.alloc, ds)?;
@@ -150,7 +158,11 @@ impl Records {
     pub fn add_address(&mut self, host: &Name, at: &IpAddr) -> Result<(), NoMemory>
         ensures { OnOk result (self.new ≡ record self.old {
           text = self.old.text
-              ++ record_text (record { owner = host.now; ttl = self.old.ttl; said = address at.now });
+              ++ record_text (record {
+                owner = host.now;
+                ttl = self.old.ttl;
+                said = address at.now;
+              });
         }) }
     {
         let said = address_text(self.alloc, at)?;

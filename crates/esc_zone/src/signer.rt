@@ -94,7 +94,8 @@ impl<T: Drop> From<AllocFailed<T>> for DsFault<'_> {
     }
 }
 
-fn are_digits(text: &[u8]) -> bool
+/// Whether each byte is a decimal digit.
+pub(crate) fn are_digits(text: &[u8]) -> bool
     ensures { result ≡ list_all is_ascii_digit text.now }
 {
     text.iter().all(|byte| byte.is_ascii_digit())

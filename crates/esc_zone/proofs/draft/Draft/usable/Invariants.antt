@@ -1,5 +1,12 @@
-use Rattle.std.proofs.Common.{◌≡◌}
+use Rattle.std.proofs.Common.{◌≡◌, take}
+use Rattle.esc_zone.specs.Lists.{GivesEach, Itself}
+use Rattle.esc_zone.specs.Drafts.{zone_notes}
+use Rattle.esc_zone.specs.Delegations.{IsUsable, texts_of}
 use Rattle.esc_zone.proofs.draft.Draft.usable.Given as goal
 
 abbrev pub invariant-loop-text : goal.invariant-loop-text
-invariant-loop-text l = l.sheet.records ≡ l.fn.sheet.records
+invariant-loop-text l = record {
+  same : l.sheet.records ≡ l.fn.sheet.records;
+  kept : GivesEach (Itself (IsUsable (zone_notes l.self) l.name)) (texts_of (take l.text-index l.servers))
+      l.written.items;
+}

@@ -1,5 +1,5 @@
 use Rattle.std.proofs.Common.{◌≡◌}
-use Rattle.esc_zone.proofs.publishing.tell_faults.Given as goal
+use Rattle.esc_zone.proofs.glue.tell_faults.Given as goal
 
 abbrev pub invariant-loop-row : goal.invariant-loop-row
 invariant-loop-row l = l.sheet.records ≡ l.fn.sheet.records
