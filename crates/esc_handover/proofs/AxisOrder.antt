@@ -37,6 +37,7 @@ share_grows part more whole le =
 since_grows : (first m n : ℤ) → m ≤ℤ n → since first m ≤ since first n
 since_grows first m n le = grind (arith, ints)
 
+-- an axis from one moment to another keeps their order
 pub in_order : (first last : ℤ) → IsAxis first last
 in_order first last = record {
   inside = λ m. share_inside (since first m) (since first last);

@@ -16,5 +16,6 @@ of_page CreatedBefore = refl
 of_page ExpiresAfter = refl
 of_page DateForm = refl
 
+-- the rules of the page have each rule at its place
 pub each_rule : (rules : List Rule) → rules ≡ page_rules → HasEachRule rules
 each_rule rules is = subst HasEachRule (sym is) of_page

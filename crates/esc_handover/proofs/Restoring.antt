@@ -32,7 +32,7 @@ use Rattle.esc_events.specs.Assessment.{assessment, held_row}
 use Rattle.esc_events.specs.Receipts.{holds_row}
 use Rattle.esc_events.specs.StateAfter.{with_some, arrived_body, or_no_deposit, deposit_of, held_rows, held_body}
 use Rattle.esc_events.specs.HeldLaws.{exact}
-use Rattle.esc_handover.specs.FullBundle.{first_full_header, full_of}
+use Rattle.esc_deposit.specs.FullBundle.{first_full_header, full_of}
 use Rattle.esc_handover.specs.Restored.{FullHasItsObjects, FullIsRestored}
 
 -- ---- the tables of a Full
@@ -47,6 +47,7 @@ of_one : (b : Bool) (d : DepositValue) (q : KeyName)
 of_one true d q is = rw is refl
 of_one false d q is = rw is refl
 
+-- a Full of the tables has their objects
 pub full_objects : FullHasItsObjects
 full_objects id w es q = by_mention (list_any (key_eq q) (keys_of es)) refl
   where
@@ -115,6 +116,7 @@ module _ (digest : List ℕ → List ℕ) (reads : List ℕ → Result DepositVa
 
 -- ---- the tables of the store
 
+-- a store that holds it alone has the same tables
 pub full_restored : FullIsRestored
 full_restored id w es body number order full =
     let held = rows_held sha256 reading id w es body number full in

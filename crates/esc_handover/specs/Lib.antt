@@ -1,4 +1,3 @@
-pub mod FullBundle
 pub mod PageRules
 pub mod Picture
 pub mod Restored

@@ -10,7 +10,7 @@ use Rattle.esc_events.specs.ArrivalValue.{an_arrival}
 use Rattle.esc_events.specs.Events.{EventValue}
 use Rattle.esc_events.specs.Events.EventValue.{listed, arrived}
 use Rattle.esc_events.specs.LatestTables.{AreEntries}
-use Rattle.esc_handover.specs.FullBundle.{first_full_header, full_of, IsFullOf}
+use Rattle.esc_deposit.specs.FullBundle.{first_full_header, full_of, IsFullOf}
 
 -- the row that lists a body as the Full of a moment
 abbrev pub full_row : List ℕ → ℤ → List ℕ → MRow

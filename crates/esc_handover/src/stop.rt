@@ -1,9 +1,9 @@
 //! What the program stops for, and its statuses.
 
-use crate::refusal::BundleRefusal;
 use esc_bundle::NoMemory;
 use esc_check::StreamFault;
 use esc_cli::{Asked, OneLine, SystemCause, Why, print_refusal};
+use esc_deposit::BundleRefusal;
 use esc_store::{Obstacle, Reason, StoreFault};
 use esc_table_files::LayoutFault;
 use std::alloc::{AllocError, AllocFailed, Global};
@@ -114,6 +114,11 @@ fn fmt_unbundled<W: fmt::Write>(
         BundleRefusal::Unkeyed(table) => write!(f, "H5 {}", OneLine(table.as_str())),
         BundleRefusal::Marked(table) => write!(f, "H6 {}", OneLine(table.as_str())),
         BundleRefusal::Unlike => write!(f, "H8 {path}"),
+        BundleRefusal::Oversized { refusal, kind, key } => {
+            let (kind, key) = (kind.name(), OneLine(key.as_str()));
+            write!(f, "{refusal} {path} {kind} {key}")
+        }
+        BundleRefusal::TooManyParts => write!(f, "M1 {path}"),
         BundleRefusal::NoMemory => f.write_str("S2"),
     }
 }

@@ -11,10 +11,10 @@ use esc_bundle::NoMemory;
 use esc_chain::GapLine;
 use esc_check::Finding;
 use esc_cli::DONE;
+use esc_conformity::Flaws;
 use esc_envelope::{Kind, Place};
 use esc_events::ParkedBody;
 use esc_store::{Reply, Verdict};
-use esc_tables::Key;
 use std::alloc::Global;
 use std::collections::BTreeMap;
 
@@ -39,6 +39,8 @@ pub struct Answer {
 pub struct StoreFacts {
     /// The moment that is set, if one is.
     pub moment: Option<i64>,
+    /// What time it is, if that is known.
+    pub clock: Option<i64>,
     /// The place of the chain's last deposit, if there is a chain.
     pub end: Option<Place>,
     /// Whether the chain is the latest one of the held rows.
@@ -49,10 +51,8 @@ pub struct StoreFacts {
     pub counts: Vec<(Kind, u64)>,
     /// The findings in the tables.
     pub findings: Vec<Finding>,
-    /// The objects that name a registrar which isn't there.
-    pub registrars: Vec<Key>,
-    /// The NNDNs that have a domain's name.
-    pub nndns: Vec<Key>,
+    /// The objects that break the rules of RFC 9022, section 8.
+    pub flaws: Flaws,
     /// The held rows.
     pub held: Vec<usize>,
     /// The line of each listed place.
@@ -73,13 +73,13 @@ impl StoreFacts {
     pub fn new(alloc: Global) -> StoreFacts {
         StoreFacts {
             moment: None,
+            clock: None,
             end: None,
             is_latest: false,
             objects: Vec::new(alloc),
             counts: Vec::new(alloc),
             findings: Vec::new(alloc),
-            registrars: Vec::new(alloc),
-            nndns: Vec::new(alloc),
+            flaws: Flaws::new(alloc),
             held: Vec::new(alloc),
             gaps: Vec::new(alloc),
             parked: Vec::new(alloc),
@@ -97,14 +97,14 @@ impl StoreFacts {
         Seen {
             tlds: &self.tlds.names,
             moment: self.moment,
+            clock: self.clock,
             end: self.end,
             is_latest: self.is_latest,
             gaps: &self.gaps,
             parked: self.parked.len(),
             early: early_in(&self.receipts),
             findings: &self.findings,
-            registrars: &self.registrars,
-            nndns: &self.nndns,
+            flaws: &self.flaws,
             objects: &self.objects,
             counts: &self.counts,
             tables: &declared.tables,

@@ -26,17 +26,25 @@ pub fn check_folder(rt: &HostRuntime, place: &str) -> Result<(), Stop> {
     or_stop(rt, place, check_place(rt, place))
 }
 
+/// Makes a folder beside its place; `E1` of the name that it has there where something has it.
+pub(crate) fn create_folder<'a>(
+    rt: &'a HostRuntime,
+    place: &'a str,
+) -> Result<NewFolder<'a>, Stop> {
+    match NewFolder::create(rt, place) {
+        Err(error) if error.kind() == ErrorKind::AlreadyExists => {
+            or_stop(rt, path_beside(rt.alloc(), place)?.as_str(), Err(error))
+        }
+        made => or_stop(rt, place, made),
+    }
+}
+
 impl<'a> TableFolder<'a> {
     /// Makes a folder beside its place; `E1` of the name that it has there where something has it,
     /// as what a run that was stopped left.
     pub fn create(rt: &'a HostRuntime, place: &'a str) -> Result<TableFolder<'a>, Stop> {
-        match NewFolder::create(rt, place) {
-            Ok(folder) => Ok(TableFolder { rt, place, folder }),
-            Err(error) if error.kind() == ErrorKind::AlreadyExists => {
-                or_stop(rt, path_beside(rt.alloc(), place)?.as_str(), Err(error))
-            }
-            Err(error) => or_stop(rt, place, Err(error)),
-        }
+        let folder = create_folder(rt, place)?;
+        Ok(TableFolder { rt, place, folder })
     }
 
     /// Writes the files of a kind's tables, with the rows of these objects.

@@ -1,13 +1,24 @@
-//! `bundle --store FILE --id ID OUT`: the tables of a store as one deposit.
+//! `bundle --store FILE --id ID OUT`: the tables of a store as one deposit, in one bundle or, with
+//! `--series`, in as many as it needs.
 
 use crate::walking::walk;
 use esc_apply::Objects;
 use esc_cli::DONE;
 use esc_desk::{Reads, StoreFault};
-use esc_handover::{Answer, Stop, bundle_or_stop, check_object_count};
+use esc_handover::{
+    Answer, Progress, SeriesFolder, Stop, bundle_or_stop, check_object_count, read_lengths,
+    series_of,
+};
 use esc_tables::{Key, Object};
 use std::alloc::Global;
-use std::collections::BTreeMap;
+
+/// The words of a series: the id of the deposit, and the folder of its bundles.
+#[derive(Clone, Copy)]
+pub struct Splitting<'a> {
+    pub rt: &'a HostRuntime,
+    pub id: &'a str,
+    pub folder: &'a str,
+}
 
 /// The bundle of a store's tables under this id, at the watermark of the chain's end. A path is that
 /// of the bundle. More objects than a bundle has rows aren't read.
@@ -20,9 +31,42 @@ pub fn tables_bundle<R: Reads>(
     let watermark = end_watermark(alloc, reader)?;
     check_count(alloc, reader, path)?;
     let mut walk = walk(alloc, reader, None)?;
-    let tables = tables_from(alloc, &mut walk)?;
-    let text = bundle_or_stop(alloc, id, watermark, &tables, path)?;
+    let objects = objects_from(alloc, &mut walk)?;
+    let text = bundle_or_stop(alloc, id, watermark, &objects, path)?;
     Ok(Answer { text, status: DONE })
+}
+
+/// Writes a store's tables as the bundles of a series, with their manifest, or nothing. The objects
+/// are read twice: to be counted, since each id has the number of bundles, and to be written. Those
+/// of one bundle are in memory at a time.
+pub fn write_bundles<R: Reads>(
+    reader: &mut R,
+    words: Splitting<'_>,
+    mut progress: Progress<'_>,
+) -> Result<Answer, Stop> {
+    let alloc = words.rt.alloc();
+    let watermark = end_watermark(alloc, reader)?;
+    let lengths = read_lengths(alloc, walk(alloc, reader, None)?, &mut progress)?;
+    let series = series_of(alloc, words.id, watermark, &lengths, words.folder)?;
+    let mut folder = SeriesFolder::create(words.rt, words.folder, series)?;
+    let written = fill(alloc, reader, &lengths, &mut folder, &mut progress);
+    folder.finish(written)?;
+    Ok(Answer {
+        text: Vec::new(alloc),
+        status: DONE,
+    })
+}
+
+// Writes all files of the folder.
+fn fill<R: Reads>(
+    alloc: Global,
+    reader: &mut R,
+    lengths: &[usize],
+    folder: &mut SeriesFolder<'_>,
+    progress: &mut Progress<'_>,
+) -> Result<(), Stop> {
+    let walk = walk(alloc, reader, None)?;
+    folder.write(lengths, walk, progress)
 }
 
 // The watermark of the chain's end.
@@ -39,13 +83,13 @@ fn check_count<R: Reads>(alloc: Global, reader: &mut R, path: &str) -> Result<()
 }
 
 // The objects by key, all in memory.
-fn tables_from<O: Objects<Error = StoreFault>>(
+fn objects_from<O: Objects<Error = StoreFault>>(
     alloc: Global,
     objects: &mut O,
-) -> Result<BTreeMap<Key, Object>, StoreFault> {
-    let mut tables = BTreeMap::new(alloc);
-    while let Some((key, object)) = objects.next()? {
-        tables.insert(key, object)?;
+) -> Result<Vec<(Key, Object)>, Stop> {
+    let mut all = Vec::new(alloc);
+    while let Some(entry) = objects.next()? {
+        all.push(entry)?;
     }
-    Ok(tables)
+    Ok(all)
 }

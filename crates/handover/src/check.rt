@@ -3,21 +3,31 @@
 use crate::bodies::read_bodies;
 use crate::walking::walk;
 use esc_acceptance::{gaps_of, is_latest};
-use esc_conformity::{Rule, flaws};
+use esc_conformity::Flaws;
 use esc_desk::{Cause, Reads, StoreFault};
 use esc_handover::{
     Answer, Form, Progress, Stop, StoreFacts, answer_of, are_made_by, entries_of, read_findings,
 };
 use std::alloc::Global;
+use std::time::{SystemTime, UNIX_EPOCH};
 
-/// The acceptance of a store, in this form.
+/// What time it is, in nanoseconds since 1970-01-01T00:00:00Z, if the clock says.
+pub fn time_now(rt: &HostRuntime) -> Option<i64> {
+    let now = SystemTime::now(rt).ok()?;
+    let since = now.duration_since(UNIX_EPOCH).ok()?;
+    i64::try_from(since.as_nanos()).ok()
+}
+
+/// The acceptance of a store at this time, if that is known, in this form.
 pub fn acceptance<R: Reads>(
     alloc: Global,
     reader: &mut R,
     form: Form,
+    now: Option<i64>,
     mut progress: Progress<'_>,
 ) -> Result<Answer, Stop> {
     let mut facts = StoreFacts::new(alloc);
+    facts.clock = now;
     see(alloc, reader, &mut facts, &mut progress)?;
     Ok(answer_of(alloc, &facts, form)?)
 }
@@ -31,9 +41,7 @@ fn see<R: Reads>(
 ) -> Result<(), Stop> {
     ask(alloc, reader, facts, progress)?;
     read_bodies(alloc, reader, facts, progress)?;
-    let made = &facts.chain.objects;
-    facts.registrars = flaws(alloc, Rule::Registrars, made)?;
-    facts.nndns = flaws(alloc, Rule::Nndns, made)?;
+    facts.flaws = Flaws::find(alloc, &facts.chain.objects, facts.tlds.only())?;
     compare(alloc, reader, facts, progress)
 }
 

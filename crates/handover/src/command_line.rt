@@ -1,5 +1,6 @@
 //! The words of the program, and what it does for them.
 
+use crate::bundle::Splitting;
 use crate::store_file::{Task, use_store};
 use crate::tables::Tabling;
 use crate::zone::Zoning;
@@ -21,7 +22,8 @@ read.
 
 Refusals go to standard error: E1 PATH (can't be read or written), S1 (the store failed), S2 (no
 memory), S3 (no store, one of another version, or another database); U4 OUT (over 16,777,216 bytes,
-or over 63 tables), U6 OUT (the id isn't 1 to 64 of A-Z a-z 0-9 . _ -), U11 OUT (over 100,000 rows);
+or over 63 tables), U6 OUT (the id isn't 1 to 64 of A-Z a-z 0-9 . _ -), U11 OUT (over 100,000 rows),
+each with a kind and a key where one object alone is it; M1 OUT (over 4,096 bundles);
 H4 TABLE (rows of this table have different fields), H5 TABLE (no field has the key in each row of
 this table), H6 TABLE (its rows begin with a byte order mark), H7 (there is no chain yet), H8 OUT
 (the bundle reads as other objects), H9 TABLE (another table has the same name but for case), H10
@@ -43,6 +45,21 @@ in different ways, and one of them has to be generated again. Nothing is printed
 
     handover bundle --store desk.db --id F20 next/n1
     pack manifest next/n1 > next.csv
+
+With --series a registry of any size is written: OUT is made, or is an empty folder. In it are then
+
+deposits/ID-001 ..  the bundles of the deposit: the first is a Full, each other one a Differential on
+                    the one before; each object is whole in one of them
+manifest.csv        the manifest that lists them
+
+The last bundle has the id and the watermark of the deposit, those before it have ID.1of12 and so on,
+a nanosecond apart. It alone has counts. The memory of one bundle is needed. The files are made in
+OUT.part, which becomes OUT when they are whole. Refused: U4 or U11 with the kind and the key of an
+object that no bundle takes alone; M1 OUT (over 4,096 bundles). Example:
+
+    handover bundle --store desk.db --id F20 --series next
+    restore init --store new.db --manifest next/manifest.csv
+    restore take --store new.db next/deposits
 ";
 
 const CHECK: &str = "\
@@ -51,6 +68,7 @@ is wrong and what to do. The status is 1 if one is wrong, with --strict also if 
 
 tld         the bundles that are held name one TLD at most
 end         no place is listed after the chain's end, up to the moment that is set
+future      the chain's end is not later than now, by this machine's clock
 chain       the chain is the latest one of the bundles that are held
 resends     no place of the chain awaits a later resend
 gaps        no place before the end is missing or blocked (told)
@@ -60,6 +78,10 @@ early       version 1 has let go of no bundle, by verdict A2 (told)
 findings    links, counts, statuses and dates break no rule (V1 to V7)
 registrars  who created, updated or transfers an object is a registrar (crRr, upRr, reRr, acRr)
 nndns       no name is both a domain's and an NNDN's
+roids       no two objects of a kind have one ROID (told)
+required    each object has what RFC 9022 requires of its kind (told)
+outside     each domain and NNDN is below the TLD, where the bundles name one (told)
+digests     each DS has its numbers, and a digest as long as its type asks for (told)
 orphans     each child row in the chain's deposits has its parent row
 counts      the chain's last deposit declares how many objects of each kind there are
 fields      each field that has links, statuses or dates is in each object of its kind
@@ -185,7 +207,7 @@ static PROGRAM: Program = Program {
         },
         Subcommand {
             name: "bundle",
-            about: "Writes the tables as one deposit, a Full",
+            about: "Writes the tables as one deposit, a Full, in one bundle or in several",
             details: Some(BUNDLE),
             arguments: &[
                 Argument {
@@ -196,11 +218,18 @@ static PROGRAM: Program = Program {
                     help: "The id of the deposit",
                 },
                 Argument {
+                    id: "series",
+                    form: ArgumentForm::Flag,
+                    value_name: "",
+                    values: ValueParser::Bool,
+                    help: "OUT is a folder, of as many bundles as are needed, with a manifest",
+                },
+                Argument {
                     id: "target",
                     form: ArgumentForm::Word,
                     value_name: "OUT",
                     values: ValueParser::String,
-                    help: "Where the bundle is written; nothing may be there",
+                    help: "Where the bundle is written, and nothing may be; or the folder",
                 },
             ],
         },
@@ -323,14 +352,16 @@ fn perform<O: Write>(rt: &HostRuntime, command: Command<'_>, out: &mut O) -> Res
         is_watched,
         task,
     } = command;
-    if let Task::Tables(words) = task {
-        check_folder(rt, words.folder)?;
+    match task {
+        Task::Tables(words) => check_folder(rt, words.folder)?,
+        Task::Series(words) => check_folder(rt, words.folder)?,
+        _ => {}
     }
     let made = use_store(rt, store, is_watched, task)?;
     match task {
         Task::Check { .. } | Task::Zone(_) => or_stop(rt, "-", out.write_all(&made.text))?,
         Task::Page { path } | Task::Bundle { path, .. } => place_file(rt, path, &made.text)?,
-        Task::Tables(_) => {}
+        Task::Tables(_) | Task::Series(_) => {}
     }
     Ok(made.status)
 }
@@ -361,6 +392,11 @@ fn task_of<'a>(rt: &'a HostRuntime, name: &str, given: &ArgMatches<'a>) -> Optio
         "page" => Some(Task::Page {
             path: given.get_str("target")?,
         }),
+        "bundle" if given.get_flag("series") => Some(Task::Series(Splitting {
+            rt,
+            id: given.get_str("id")?,
+            folder: given.get_str("target")?,
+        })),
         "bundle" => Some(Task::Bundle {
             id: given.get_str("id")?,
             path: given.get_str("target")?,

@@ -1,8 +1,9 @@
 //! `handover`: what a rebuilt registry is handed over as.
 //!
 //! - `handover bundle --store FILE --id ID OUT` writes the tables of a store as one deposit, a Full
-//!   at the watermark of the chain's end ([`esc_handover::bundle_of`], whose contract says what is
-//!   read of it).
+//!   at the watermark of the chain's end ([`esc_deposit::bundle_of`], whose contract says what is
+//!   read of it), with `--series` in as many bundles as it needs ([`esc_deposit::write_series`],
+//!   whose contract says the same of all of them).
 //! - `handover check --store FILE` prints whether the registry may be taken over as it is: one line
 //!   for each test of [`esc_handover::Test`] ([`esc_handover::lines_of`], whose contract says which
 //!   of them pass).
@@ -20,7 +21,8 @@
 //! error, one a line, with the letters and numbers of `restore`: `E1 PATH` for a file that can't be
 //! read or written, `S1` to `S3` of the store. `U4 OUT`, `U6 OUT` and `U11 OUT` say that no deposit
 //! has these tables: they are too long or too many, the id has another form, or there are too many
-//! rows. Its own refusals are `H4 TABLE` for a table whose rows have different fields, `H5 TABLE`
+//! rows; of a series with the kind and key of an object that no bundle takes, or `M1 OUT` for over
+//! 4,096 bundles. Its own refusals are `H4 TABLE` for a table whose rows have different fields, `H5 TABLE`
 //! for one whose key is in no field, `H6 TABLE` for one whose rows begin with a byte order mark,
 //! `H7` for a store without a chain, `H8 OUT` where the bundle that was made reads as other
 //! objects, `H9 TABLE` for two tables with the same name but for case, `H10 TABLE` for a table that
@@ -33,7 +35,7 @@
 //! |---|---|
 //! | `command_line` | the table of the commands and its texts; from the words to the status |
 //! | `store_file` | opens the store in a file, and closes it |
-//! | `bundle` | `bundle`: the tables as one deposit |
+//! | `bundle` | `bundle`: the tables as one deposit, in one bundle or in several |
 //! | `check` | `check` and `page`: what is seen of a store |
 //! | `tables` | `tables`: the tables as files |
 //! | `zone` | `zone`: the zone as a file |

@@ -1,7 +1,7 @@
 //! The store in a file: how it is opened and left, and what is made of it in between.
 
-use crate::bundle::tables_bundle;
-use crate::check::acceptance;
+use crate::bundle::{Splitting, tables_bundle, write_bundles};
+use crate::check::{acceptance, time_now};
 use crate::tables::{Tabling, write_tables};
 use crate::zone::{Zoning, write_zone};
 use esc_desk::Reads;
@@ -15,6 +15,8 @@ use std::alloc::Global;
 pub enum Task<'a> {
     /// The bundle of its tables under this id, which is to be at this path.
     Bundle { id: &'a str, path: &'a str },
+    /// Nothing: its tables are written as the bundles of a series.
+    Series(Splitting<'a>),
     /// The lines of its acceptance; strict ones let nothing be told.
     Check { is_strict: bool },
     /// Nothing: its tables are written as files.
@@ -36,7 +38,7 @@ pub fn use_store(
     let mut progress = Progress::new(rt, is_watched);
     progress.tell_opening(path);
     match reader_at(rt, path, Unknown) {
-        Ok(mut reader) => perform(rt.alloc(), &mut reader, task, progress),
+        Ok(mut reader) => perform(rt.alloc(), &mut reader, task, time_now(rt), progress),
         Err(fault) => Err(stop_of(rt, path, fault)),
     }
 }
@@ -47,14 +49,16 @@ fn perform<R: Reads>(
     alloc: Global,
     reader: &mut R,
     task: Task<'_>,
+    now: Option<i64>,
     progress: Progress<'_>,
 ) -> Result<Answer, Stop> {
     match task {
         Task::Bundle { id, path } => tables_bundle(alloc, reader, id, path),
+        Task::Series(words) => write_bundles(reader, words, progress),
         Task::Check { is_strict } => {
-            acceptance(alloc, reader, Form::Lines { is_strict }, progress)
+            acceptance(alloc, reader, Form::Lines { is_strict }, now, progress)
         },
-        Task::Page { .. } => acceptance(alloc, reader, Form::Page, progress),
+        Task::Page { .. } => acceptance(alloc, reader, Form::Page, now, progress),
         Task::Tables(words) => write_tables(reader, words, progress),
         Task::Zone(words) => write_zone(reader, words, progress),
     }

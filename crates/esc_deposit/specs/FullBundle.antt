@@ -1,6 +1,5 @@
 -- The tables of a registry as one deposit (RFC 8909, section 2, and this project's profile).
 use Rattle.std.specs.Prelude.{◌≡◌, ℕ, ℤ, List, [], ◌∷◌, count_by, None, Ok}
-use Rattle.std.specs.Map.{keys_of}
 use Rattle.esc_envelope.specs.declared.kind.Kind.{Kind}
 use Rattle.esc_envelope.specs.declared.kind.Kind.TheVariants.{Registrar, Contact, Host, Domain, Idn}
 use Rattle.esc_envelope.specs.declared.kind.Kind.TheVariants.{Nndn}
@@ -9,12 +8,11 @@ use Rattle.esc_envelope.specs.HeaderValue.{HeaderValue}
 use Rattle.esc_envelope.specs.Kinds.{is_kind}
 use Rattle.esc_tables.specs.DepositValue.{DepositValue}
 use Rattle.esc_tables.specs.Reading.{reading}
-use Rattle.esc_tables.specs.KeyName.{KeyName}
 use Rattle.esc_apply.specs.ObjectStreams.{Entry}
 
 -- how many objects are of a kind
 abbrev pub entry_count : List Entry → Kind → ℕ
-entry_count es kind = count_by (λ (k : KeyName). is_kind k.kind kind) (keys_of es)
+entry_count es kind = count_by (λ (e : Entry). is_kind e.0.kind kind) es
 
 -- a kind with the number of its objects
 abbrev pub counted_kind : List Entry → Kind → Kind × ℕ

@@ -1,13 +1,13 @@
 //! A bundle is made as a text here, without a contract: what it says is tested when it is read
-//! again (`bundle_of`).
+//! again (`part_bundle`).
 
+use crate::part::Part;
 use crate::refusal::BundleRefusal;
 use esc_bundle::{NoMemory, Refusal, write_bundle};
 use esc_csv::Lines;
-use esc_envelope::{Kind, is_id, watermark_text};
+use esc_envelope::{Header, Kind, is_id, watermark_text};
 use esc_tables::{Key, MOST_ROWS, Object, Row};
 use std::alloc::Global;
-use std::collections::BTreeMap;
 
 /// The most tables of a bundle: each is a section after the envelope.
 const MOST_TABLES: usize = 63;
@@ -133,14 +133,14 @@ impl<'a> Draft<'a> {
 
 fn sheets_of<'a>(
     alloc: Global,
-    tables: &'a BTreeMap<Key, Object>,
+    objects: &'a [(Key, Object)],
 ) -> Result<Vec<Sheet<'a>>, BundleRefusal> {
     let mut draft = Draft {
         alloc,
         sheets: Vec::new(alloc),
         rows: 0,
     };
-    for (key, object) in tables.iter() {
+    for (key, object) in objects {
         draft.add_object(key, object)?;
     }
     Ok(draft.sheets)
@@ -156,31 +156,47 @@ fn comma(number: usize) -> &'static str {
     if number > 0 { "," } else { "" }
 }
 
-fn push_header(
-    alloc: Global,
-    text: &mut String,
-    id: &str,
-    watermark: i64,
-) -> Result<(), BundleRefusal> {
+// What the deposit says of itself, up to its counts. Ids have no signs that JSON escapes.
+fn push_header(alloc: Global, text: &mut String, header: &Header) -> Result<(), BundleRefusal> {
+    let id = header.id.as_str();
     if !is_id(id) {
         return Err(BundleRefusal::Refused(Refusal::WrongMember));
     }
-    let Some(moment) = watermark_text(alloc, watermark)? else {
+    let Some(moment) = watermark_text(alloc, header.place.watermark)? else {
         return Err(BundleRefusal::Refused(Refusal::WrongMember));
     };
+    let kind = header.place.kind.name();
     write!(
         text,
-        "{{\"id\":\"{id}\",\"type\":\"FULL\",\"watermark\":\"{moment}\",\"counts\":{{"
+        "{{\"id\":\"{id}\",\"type\":\"{kind}\",\"watermark\":\"{moment}\""
     )?;
+    if let Some(prev) = header.prev.as_deref() {
+        write!(text, ",\"prevId\":\"{prev}\"")?;
+    }
+    Ok(())
+}
+
+// Which part of which deposit this is, where there are several: for people, since the desk ignores
+// this member.
+fn push_part(text: &mut String, part: Part<'_>) -> Result<(), NoMemory> {
+    if part.series.length > 1 {
+        let (id, number, length) = (part.series.id, part.number, part.series.length);
+        let number = number.saturating_add(1);
+        write!(
+            text,
+            ",\"series\":{{\"deposit\":\"{id}\",\"part\":{number},\"of\":{length}}}"
+        )?;
+    }
     Ok(())
 }
 
 fn push_counts(text: &mut String, counts: &[(Kind, u64)]) -> Result<(), NoMemory> {
+    text.push_str(",\"counts\":{")?;
     for (at, (kind, count)) in counts.iter().enumerate() {
         let (comma, name) = (comma(at), kind.name());
         write!(text, "{comma}\"{name}\":{count}")?;
     }
-    text.push_str("},\"contents\":[")?;
+    text.push('}')?;
     Ok(())
 }
 
@@ -219,14 +235,18 @@ fn push_fields(text: &mut String, row: &Row) -> Result<(), NoMemory> {
 
 fn envelope_of(
     alloc: Global,
-    id: &str,
-    watermark: i64,
+    part: Part<'_>,
+    header: &Header,
     counts: &[(Kind, u64)],
     sheets: &[Sheet<'_>],
 ) -> Result<Vec<u8>, BundleRefusal> {
     let mut text = String::new(alloc);
-    push_header(alloc, &mut text, id, watermark)?;
-    push_counts(&mut text, counts)?;
+    push_header(alloc, &mut text, header)?;
+    push_part(&mut text, part)?;
+    if !counts.is_empty() {
+        push_counts(&mut text, counts)?;
+    }
+    text.push_str(",\"contents\":[")?;
     for (number, sheet) in sheets.iter().enumerate() {
         push_sheet(alloc, &mut text, number, sheet)?;
     }
@@ -234,16 +254,16 @@ fn envelope_of(
     Ok(text.into_bytes())
 }
 
-/// A bundle of these tables under this id and watermark, with these counts.
+/// A bundle of these objects with this header, as this part, with these counts if there are any.
 pub(crate) fn draft_bundle(
     alloc: Global,
-    id: &str,
-    watermark: i64,
+    part: Part<'_>,
+    header: &Header,
     counts: &[(Kind, u64)],
-    tables: &BTreeMap<Key, Object>,
+    objects: &[(Key, Object)],
 ) -> Result<Vec<u8>, BundleRefusal> {
-    let sheets = sheets_of(alloc, tables)?;
-    let envelope = envelope_of(alloc, id, watermark, counts, &sheets)?;
+    let sheets = sheets_of(alloc, objects)?;
+    let envelope = envelope_of(alloc, part, header, counts, &sheets)?;
     let mut sections = Vec::new(alloc);
     sections.push((String::from_str(alloc, "envelope.json")?, envelope))?;
     for (number, sheet) in sheets.into_iter().enumerate() {

@@ -1,9 +1,10 @@
 //! Why the tables of a registry are no bundle.
 
 ghost use Rattle.std.specs.Prelude.{◌≡◌};
-ghost use Rattle.esc_handover.specs.declared.refusal.BundleRefusal.TheVariants.{NoMemory as no_memory};
+ghost use Rattle.esc_deposit.specs.declared.refusal.BundleRefusal.TheVariants.{NoMemory as no_memory};
 
 use esc_bundle::{Fault, NoMemory, Refusal};
+use esc_envelope::Kind;
 use std::alloc::{AllocError, AllocFailed};
 use std::error::Error;
 use std::fmt;
@@ -24,6 +25,14 @@ pub enum BundleRefusal {
     Marked(String),
     /// What was made is a deposit of other objects.
     Unlike,
+    /// No bundle takes this object, even alone: by `OverLimit` or `TooManyRows`.
+    Oversized {
+        refusal: Refusal,
+        kind: Kind,
+        key: String,
+    },
+    /// No store lists the bundles, of which there are over 4,096.
+    TooManyParts,
     /// Memory was refused.
     NoMemory,
 }
@@ -36,6 +45,11 @@ impl fmt::Display for BundleRefusal {
             BundleRefusal::Unkeyed(table) => write!(f, "no key field in {table}"),
             BundleRefusal::Marked(table) => write!(f, "byte order mark in {table}"),
             BundleRefusal::Unlike => f.write_str("other objects"),
+            BundleRefusal::Oversized { refusal, kind, key } => {
+                let kind = kind.name();
+                write!(f, "{refusal} of {kind} {key} alone")
+            }
+            BundleRefusal::TooManyParts => f.write_str("over 4,096 bundles"),
             BundleRefusal::NoMemory => f.write_str("out of memory"),
         }
     }

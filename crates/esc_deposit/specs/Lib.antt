@@ -1,0 +1,2 @@
+pub mod FullBundle
+pub mod RegistrySeries

@@ -1,4 +1,0 @@
-use Rattle.handover.proofs.bundle.tables_from.Given as goal
-
-abbrev pub decreases-loop-tables : goal.decreases-loop-tables
-decreases-loop-tables g l = g.O.Objects.bound l.objects
