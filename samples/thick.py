@@ -41,8 +41,8 @@ SHAPES = {
         ('nndn', 'nndn', 'parent', 'aName idnTableId nameState crDate'),
     )
 }
-# What one bundle takes, with room for its envelope.
-MOST_ROWS, MOST_BYTES = 100_000, 16_700_000
+# What one bundle takes, and what is left of it to its envelope.
+MOST_ROWS, MOST_BYTES, OF_ENVELOPE = 100_000, 16_777_216, 77_216
 STATUSES = ('ok', 'clientTransferProhibited', 'clientHold', 'serverTransferProhibited',
             'clientDeleteProhibited')
 
@@ -86,10 +86,11 @@ def address(number: int) -> Cells:
 
 
 class Thick:
-    """The objects of a registry of so many domains."""
+    """The objects of a registry of so many domains, whose hosts are in another zone, or else each
+    below a domain of its own (`has_glue`)."""
 
-    def __init__(self, domains: int) -> None:
-        self.numbers = numbers_of(domains)
+    def __init__(self, domains: int, has_glue: bool = False) -> None:
+        self.numbers, self.has_glue = numbers_of(domains), has_glue
 
     def objects(self) -> Iterator[Rows]:
         """Each object, the parent row first; what others refer to comes before them."""
@@ -105,8 +106,12 @@ class Thick:
     def contact_id(self, number: int, salt: str) -> str:
         return f'C{some(number, salt, self.numbers.contact)}-EX'
 
+    def domain_name(self, number: int) -> str:
+        return f'{word(number)}-{word(number // 61)}-{number}.example'
+
     def host_name(self, number: int) -> str:
-        return f'ns{number}.{word(number)}-{word(number // 7)}.test'
+        outside = f'{word(number)}-{word(number // 7)}.test'
+        return f'ns{number}.{self.domain_name(number) if self.has_glue else outside}'
 
     def registrar(self, number: int) -> Rows:
         return [('registrar', {
@@ -147,9 +152,9 @@ class Thick:
 
     def domain(self, number: int) -> Rows:
         cells = {
-            'name': f'{word(number)}-{word(number // 61)}-{number}.example',
-            'roid': f'D{number}-EXRY', 'registrant': self.contact_id(number, 'o'),
-            **self.history(number), 'exDate': day(number, 25)
+            'name': self.domain_name(number), 'roid': f'D{number}-EXRY',
+            'registrant': self.contact_id(number, 'o'), **self.history(number),
+            'exDate': day(number, 25)
         }
         statuses = [('domainStatuses', {'status': STATUSES[number % len(STATUSES)]})]
         if number % 5:
@@ -196,7 +201,7 @@ def portions(objects: Iterable[Rows]) -> Iterator[dict[str, list[list[str]]]]:
     for rows in objects:
         found = list(fields_of(rows))
         more = size_of(found)
-        if count + len(found) > MOST_ROWS or size + more > MOST_BYTES:
+        if count + len(found) > MOST_ROWS or size + more > MOST_BYTES - OF_ENVELOPE:
             yield portion
             portion, count, size = {}, 0, 0
         for table, fields in found:

@@ -7,7 +7,7 @@ import pathlib
 import sys
 
 # What it has of unpack_rde: each module after those that it needs.
-SHARED = ('faults', 'keys', 'names', 'writing')
+SHARED = ('faults', 'keys', 'limits', 'names', 'writing')
 FOLDER = pathlib.Path(__file__).resolve().parent.parent / 'unpack_rde'
 
 

@@ -18,8 +18,8 @@ from faults import Notes
 from faults import Refusal
 from faults import printable
 from folder import LIMITS
-from folder import MOST_ROWS
 from folder import Part
+from limits import MOST_ROWS
 from progress import Progress
 from unpacking import Asked
 from unpacking import Unpacking

@@ -13,20 +13,19 @@ from contextlib import contextmanager
 from typing import BinaryIO
 
 from faults import Refusal
+from limits import MOST_BYTES
 from progress import Progress
 from progress import opened_plain
 from reading import Definition
 
 PIECE = 1 << 16
-# How many characters a row has at most: a bundle takes no longer one.
-MOST_ROW = 1 << 24
 ENDINGS = ('.csv', '.csv.gz')
 Words = dict[str, str]
-csv.field_size_limit(MOST_ROW)
+csv.field_size_limit(MOST_BYTES)
 
 
 class Lines:
-    """The lines of a text, of which a row has no more characters than one may have."""
+    """The lines of a text, of which a row has no more characters than a bundle may have bytes."""
 
     def __init__(self, text: io.TextIOWrapper) -> None:
         self.text, self.size = text, 0
@@ -35,12 +34,12 @@ class Lines:
         return self
 
     def __next__(self) -> str:
-        line = self.text.readline(MOST_ROW)
+        line = self.text.readline(MOST_BYTES)
         if not line:
             raise StopIteration
         self.size += len(line)
-        if self.size >= MOST_ROW:
-            raise csv.Error(f'longer than {MOST_ROW} characters')
+        if self.size >= MOST_BYTES:
+            raise csv.Error(f'longer than {MOST_BYTES} characters')
         return line
 
 

@@ -93,8 +93,8 @@ class Cutting:
         for file in self.files(table):
             for its, data in self.rows(file):
                 if its != key:
-                    (number, ) = self.store.execute('SELECT number FROM size WHERE key = ?',
-                                                    (its, )).fetchone()
+                    (number,) = self.store.execute('SELECT number FROM size WHERE key = ?',
+                                                    (its,)).fetchone()
                     key = its
                 at = bisect_right(self.firsts, number)
                 self.file_in(at, table, file.fields).write(data)

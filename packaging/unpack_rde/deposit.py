@@ -4,12 +4,18 @@ import functools
 import os
 import re
 from collections.abc import Iterator
+from enum import Enum
 
 from cutting import too_large
+from faults import Note
 from faults import Notes
 from faults import Refusal
 from faults import printable
 from folder import SECONDS
+from limits import ID
+from limits import MOST_FIELDS
+from limits import MOST_ID
+from limits import MOST_RESEND
 from names import Field
 from names import Names
 from names import Table
@@ -17,22 +23,27 @@ from progress import Progress
 from reading import Definition
 from reading import DepositReader
 from reading import Row
+from series import TYPES
+from series import DepositType
 from unpacking import Asked
 from unpacking import Unpacking
 from writing import Portions
 from writing import row_text
 
-ID = re.compile(r'[A-Za-z0-9._-]{1,64}', re.ASCII)
 NUMBER = re.compile(r'\d{1,6}', re.ASCII)
-TYPES = ('FULL', 'INCR', 'DIFF')
-MOST_FIELDS = 64
 TRUE, FALSE = ('true', '1'), ('false', '0')
 CUSTOM = 'rdeCsv:fCustom'
 # What a field's name cannot have.
 NO_NAME = re.compile(r'[^A-Za-z0-9._-]')
 # Kinds of which a deposit may have several objects of one key, which differ in the other field by
 # which they are named.
-WITH_SECOND = ('host', )
+WITH_SECOND = ('host',)
+
+
+class Model(Enum):
+    """The form in which a table of a deposit comes (RFC 9022)."""
+    XML = 'XML'
+    CSV = 'CSV'
 
 
 class Deposit(Unpacking):
@@ -44,7 +55,7 @@ class Deposit(Unpacking):
         super().__init__(asked, notes, progress, self.tables)
         self.counts_of_names: list[tuple[str, int, str, str]] = []
         self.definitions: list[Definition] = []
-        self.models: dict[tuple[str, bool], str] = {}
+        self.models: dict[tuple[str, bool], Model] = {}
         self.columns = functools.cache(self.names.columns)
         self.columns_in_xml = functools.cache(self.xml_columns)
         self.fields_of = functools.cache(self.named_fields)
@@ -101,18 +112,19 @@ class Deposit(Unpacking):
         for name in ('id', 'prevId'):
             if name in said and not ID.fullmatch(said[name]):
                 raise self.refused(
-                    f'{name} is not 1 to 64 letters, digits, dots, dashes and underscores of '
-                    f'ASCII: {said[name]!r}'
+                    f'{name} is not 1 to {MOST_ID} letters, digits, dots, dashes and underscores '
+                    f'of ASCII: {said[name]!r}'
                 )
         if said['type'] not in TYPES:
             raise self.refused(f'type is not FULL, INCR or DIFF: {said["type"]!r}')
-        if not NUMBER.fullmatch(said.get('resend', '0')):
-            raise self.refused(f'resend is no number from 0 to 999999: {said["resend"]!r}')
+        resend = said.get('resend', '0')
+        if not NUMBER.fullmatch(resend) or int(resend) > MOST_RESEND:
+            raise self.refused(f'resend is no number from 0 to {MOST_RESEND}: {resend!r}')
         self.envelope = {'id': said['id'], 'type': said['type'], 'watermark': None}
         if 'prevId' in said:
             self.envelope['prevId'] = said['prevId']
-        if int(said.get('resend', '0')):
-            self.envelope['resend'] = int(said['resend'])
+        if int(resend):
+            self.envelope['resend'] = int(resend)
 
     def watermark(self, text: str) -> None:
         self.envelope['watermark'] = text
@@ -135,21 +147,21 @@ class Deposit(Unpacking):
         plain, tld = set(self.counts), str(self.envelope.get('tld', '')).lower()
         for kind, number, name, told in self.counts_of_names:
             if kind in plain or not tld or name.lower() != tld:
-                self.notes.add('left out', told)
+                self.notes.add(Note.LEFT_OUT, told)
             elif self.counts.setdefault(kind, number) != number:
                 raise self.reader.refused(
                     f'objects of kind {kind} are counted twice: {self.counts[kind]} and {number}')
 
     # ---- objects
 
-    def only_in(self, model: str, table: str, is_of_deletes: bool) -> None:
+    def only_in(self, model: Model, table: str, is_of_deletes: bool) -> None:
         """A table comes in one model."""
         if self.models.setdefault((table, is_of_deletes), model) != model:
             raise self.refused(f'{table} comes both in the XML and in the CSV model')
 
     def xml_columns(self, table: str) -> list[str]:
         """The columns of a table that comes in the XML model."""
-        self.only_in('XML', table, False)
+        self.only_in(Model.XML, table, False)
         return self.columns(table)
 
     def object(self, row: Row) -> None:
@@ -177,7 +189,7 @@ class Deposit(Unpacking):
             if table.kind not in WITH_SECOND or not value or self.keys.owned(field,
                                                                              value) is not None:
                 raise self.refused(f'the {table.kind} {key} is there twice')
-            self.notes.add('left out', f'{table.kind} of a name that another one has')
+            self.notes.add(Note.LEFT_OUT, f'{table.kind} of a name that another one has')
             self.keys.name(field, value, key)
             self.keys.add_second(field, value)
             return False
@@ -185,7 +197,7 @@ class Deposit(Unpacking):
             before = self.keys.known(field, value)
             if before is not None and before != key:
                 self.notes.add(
-                    'renamed',
+                    Note.RENAMED,
                     f'{table.kind} that had another {table.key} under its {table.alias} in an '
                     'earlier deposit'
                 )
@@ -194,19 +206,19 @@ class Deposit(Unpacking):
 
     def deleted(self, table: str, field: str, value: str) -> None:
         """A deleted object of the XML model."""
-        self.only_in('XML', table, True)
+        self.only_in(Model.XML, table, True)
         self.delete(self.tables[table], None if field == self.tables[table].key else field, value)
 
     def delete(self, table: Table, field: str | None, value: str) -> None:
         """A deleted object, by its key or by the value of another field. Of a Full, whose deletes
         count for nothing, an unknown one is left out."""
         if field is not None and self.keys.is_second(f'{table.name}.{field}', value):
-            self.notes.add('left out', f'delete of a {table.kind} that is left out')
+            self.notes.add(Note.LEFT_OUT, f'delete of a {table.kind} that is left out')
             return
         key = value if field is None else self.keys.named(f'{table.name}.{field}', value,
                                                           is_own_first=False)
-        if key is None and self.envelope['type'] == 'FULL':
-            self.notes.add('left out',
+        if key is None and self.envelope['type'] == DepositType.FULL:
+            self.notes.add(Note.LEFT_OUT,
                            f'delete in a Full of a {table.kind} whose {field} is not known')
             return
         key = self.key_of(table.name, field, value) if key is None else key
@@ -252,7 +264,7 @@ class Deposit(Unpacking):
     def take_files(self, definition: Definition) -> None:
         """The rows of the files of a definition."""
         table = self.tables[definition.table]
-        self.only_in('CSV', table.name, definition.is_of_deletes)
+        self.only_in(Model.CSV, table.name, definition.is_of_deletes)
         if len(definition.separator) != 1 or definition.separator in '"\r\n':
             raise self.refused(f'the separator is not one character: {definition.separator!r}')
         fields = self.fields_of(table, definition)
@@ -298,12 +310,13 @@ class Deposit(Unpacking):
         cells = {}
         for field, value in zip(fields, row):
             if field.is_required and not value:
-                self.notes.add('empty', f'{table.name}.{field.name}, which the document requires')
+                self.notes.add(Note.EMPTY,
+                               f'{table.name}.{field.name}, which the document requires')
             self.tell_control(table, field.name, value)
             cells[field.name] = self.key_of(*field.alias, value) if field.alias and value else value
             if field.alias and field.name == table.key and self.keys.is_second(
                     '.'.join(field.alias), value):
-                self.notes.add('left out',
+                self.notes.add(Note.LEFT_OUT,
                                f'row of {table.name} of a {table.kind} that is left out')
                 return None
         key = cells[table.key]
@@ -353,7 +366,7 @@ class Deposit(Unpacking):
         else:
             name = field.name
         if field is None:
-            self.notes.add('unknown', f'field {element} of {table.name}')
+            self.notes.add(Note.UNKNOWN, f'field {element} of {table.name}')
             name = NO_NAME.sub('_', element.rpartition(':')[2].rpartition('}')[2])
             field = Field(name, None, False)
         if said.get('isLoc', '').strip() in TRUE:
@@ -381,5 +394,5 @@ def custom_name(name: str, table: str, notes: Notes) -> str:
     for each byte."""
     found = NO_NAME.sub(lambda it: ''.join(f'_{byte:02x}' for byte in it[0].encode()), name.strip())
     if found != name.strip():
-        notes.add('renamed', f'field {printable(name.strip())} of {table}, to custom.{found}')
+        notes.add(Note.RENAMED, f'field {printable(name.strip())} of {table}, to custom.{found}')
     return f'custom.{found}'

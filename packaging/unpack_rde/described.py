@@ -6,6 +6,7 @@ from collections.abc import Iterator
 from cutting import too_large
 from description import Source
 from description import read_description
+from faults import Note
 from faults import Notes
 from faults import Refusal
 from folder import SECONDS
@@ -101,7 +102,7 @@ class Described(Unpacking):
             return
         self.progress.objects += 1
         if not self.keys.add(table.kind, key):
-            self.notes.add('twice', f'row of {table.name} of a {table.kind} that an earlier row '
+            self.notes.add(Note.TWICE, f'row of {table.name} of a {table.kind} that an earlier row '
                            'has: of several the desk takes the last')
 
     def take_deletes(self, source: Source) -> None:

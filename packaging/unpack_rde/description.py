@@ -6,16 +6,22 @@ from collections.abc import Iterator
 from typing import NamedTuple
 
 from faults import Refusal
+from limits import ID
+from limits import MOST_BYTES
+from limits import MOST_COUNT
+from limits import MOST_FIELDS
+from limits import MOST_RESEND
+from limits import SECTION
+from limits import TABLE
 from names import KINDS
 from names import Table
 from progress import opened_plain
 from reading import in_utc
+from series import TYPES
+from series import DepositType
 from series import Header
+from writing import DESCRIPTION
 
-MOST_BYTES, MOST_FIELDS, MOST_RESEND, MOST_COUNT = 1 << 24, 64, 999_999, (1 << 64) - 1
-ID = re.compile(r'[A-Za-z0-9._-]{1,64}', re.ASCII)
-TABLE, SECTION = re.compile(r'[A-Za-z0-9_]{1,64}', re.ASCII), re.compile(r'[a-z0-9._-]{1,32}')
-TYPES = ('FULL', 'INCR', 'DIFF')
 # The members that are not kept as they are: the header, the tables, and what the last bundle alone
 # says, or each in its own way.
 OWN = ('id', 'type', 'watermark', 'prevId', 'resend', 'contents', 'deletes', 'counts', 'notes',
@@ -117,7 +123,7 @@ def header_in(path: str, value: dict) -> Header:
                              ('resend', resend is None or is_number(resend, MOST_RESEND))):
         if not is_right:
             raise Refusal(path, f'{member}: {FORM}')
-    if value['type'] == 'DIFF' and not prev:
+    if value['type'] == DepositType.DIFFERENTIAL and not prev:
         raise Refusal(path, 'prevId: missing, and it is a Differential')
     try:
         watermark = in_utc(value['watermark'])
@@ -167,10 +173,10 @@ def forms(told: dict, is_of_deletes: bool) -> Iterator[tuple[str, bool]]:
         map(is_id, fields)) and len(set(fields)) == len(fields)
     yield 'name', is_text(told.get('name'), TABLE)
     yield 'kind', told.get('kind') in KINDS
-    yield 'role', told.get('role') in (('parent', ) if is_of_deletes else ('parent', 'child'))
+    yield 'role', told.get('role') in (('parent',) if is_of_deletes else ('parent', 'child'))
     yield 'fields', are_fields
     yield 'key', are_fields and told.get('key') in fields
-    yield 'file', is_text(told.get('file'), SECTION) and told['file'] != 'envelope.json'
+    yield 'file', is_text(told.get('file'), SECTION) and told['file'] != DESCRIPTION
     yield 'from', are_texts(told.get('from', []))
     yield 'heading', isinstance(told.get('heading', False), bool)
 

@@ -7,6 +7,10 @@ from collections.abc import Iterable
 from typing import NamedTuple
 
 from faults import Refusal
+from limits import MOST_BYTES
+from limits import MOST_ROWS
+from limits import MOST_SECTIONS
+from limits import OF_DESCRIPTION
 from rest import NAME as REST
 from rest import Rest
 from series import Header
@@ -16,8 +20,7 @@ from writing import Portion
 from writing import TableFile
 from writing import row_text
 
-# What a bundle takes in all. So many bytes of it are left to the description.
-MOST_ROWS, MOST_BYTES, MOST_SECTIONS, OF_DESCRIPTION = 100_000, 16_777_216, 64, 65_536
+# What the rows of one bundle take.
 LIMITS = Limits(MOST_ROWS, MOST_BYTES - OF_DESCRIPTION)
 # Where a later deposit finds the objects that this one leaves out.
 SECONDS, OF_SECONDS = 'second.csv', ('field', 'value', 'key')

@@ -12,8 +12,11 @@ from typing import NoReturn
 from typing import Protocol
 from xml.parsers import expat
 
+from faults import Note
 from faults import Notes
 from faults import Refusal
+from limits import MOST_BYTES
+from limits import MOST_COUNT
 from names import Cell
 from names import Names
 from progress import Progress
@@ -27,8 +30,8 @@ from tree import Tree
 # Until the root element is there few bytes are read at a time, so that a document type is refused
 # before what follows it is read.
 FIRST_PIECE, PIECE = 64, 1 << 16
-# No element of a deposit is nested deeper, and no text of a bundle is longer.
-MOST_DEPTH, MOST_TEXT = 64, 1 << 24
+# No element of a deposit is nested deeper.
+MOST_DEPTH = 64
 WHITE = ' \t\r\n'
 WATERMARK = re.compile(
     r'(\d{4}-\d\d-\d\dT\d\d:\d\d:\d\d)(\.\d{1,9})?(?:(Z)|([+-])(\d\d):([0-5]\d))?', re.ASCII)
@@ -199,10 +202,10 @@ class DepositReader:
         raise self.refused('a document type (DOCTYPE) is not read')
 
     def check_text(self) -> None:
-        """A text that grows from piece to piece has its most."""
-        if len(self.pieces) > 1 and sum(map(len, self.pieces)) > MOST_TEXT:
+        """A text that grows from piece to piece has its most: no text of a bundle is longer."""
+        if len(self.pieces) > 1 and sum(map(len, self.pieces)) > MOST_BYTES:
             raise self.refused(
-                f'the text of {self.node.name} is longer than {MOST_TEXT} characters')
+                f'the text of {self.node.name} is longer than {MOST_BYTES} characters')
 
     def told(self, *names: str) -> str:
         """The path of the innermost open element, or of one in it, from the root, as it is told."""
@@ -251,7 +254,10 @@ class DepositReader:
         if node is None or node.does in (Does.UNKNOWN, Does.LEFT):
             told = self.told(self.names.spelled(raw))
             is_left = node is not None and node.does is Does.LEFT
-            self.notes.add(*(('left out', told) if is_left else ('unknown', f'element {told}')))
+            if is_left:
+                self.notes.add(Note.LEFT_OUT, told)
+            else:
+                self.notes.add(Note.UNKNOWN, f'element {told}')
             self.skip(raw, attributes)
         elif node.does in (Does.ROW, Does.TEXT, Does.GROUP, Does.MARK):
             self.start_form(node, attributes)
@@ -298,7 +304,7 @@ class DepositReader:
 
     def tell_attribute(self, name: str) -> None:
         if not name.startswith('xsi:'):
-            self.notes.add('unknown', f'attribute {self.told()}/@{name}')
+            self.notes.add(Note.UNKNOWN, f'attribute {self.told()}/@{name}')
 
     def skip(self, raw: str, attributes: list[str]) -> None:
         """Skips an element with all that is in it. One that stands among the objects of contents is
@@ -334,10 +340,10 @@ class DepositReader:
                                                                             None) is not None
         self.counted = None
         if kind is None and prefix not in self.names.lines['leave']:
-            self.notes.add('unknown', f'{self.told(node.name)} of {uri or "no namespace"}')
+            self.notes.add(Note.UNKNOWN, f'{self.told(node.name)} of {uri or "no namespace"}')
         elif kind is None or is_of_part:
             self.notes.add(
-                'left out',
+                Note.LEFT_OUT,
                 f'{self.told(node.name)} of {prefix}'
                 f'{f" by @{OF_A_REGISTRAR}" if is_of_part else ""}'
             )
@@ -350,7 +356,7 @@ class DepositReader:
         purpose = given.pop('name', '').strip(WHITE)
         known = node.variants.get(purpose)
         if known is None:
-            self.notes.add('unknown', f'{self.told(node.name)} of {purpose or "no name"}')
+            self.notes.add(Note.UNKNOWN, f'{self.told(node.name)} of {purpose or "no name"}')
             return False
         is_of_deletes = self.open[-1][0] is self.deletes
         self.definition = Definition(self.parser.CurrentLineNumber, known.name, is_of_deletes,
@@ -380,7 +386,7 @@ class DepositReader:
             at = row.repeated[field] = row.repeated.get(field, -1) + 1
             field = field.replace('#', str(at))
             if field not in self.taker.columns(row.table):
-                self.notes.add('unknown', f'element {self.told()} number {at + 1}')
+                self.notes.add(Note.UNKNOWN, f'element {self.told()} number {at + 1}')
                 return
         if field in row.cells:
             told = self.told(
@@ -420,7 +426,7 @@ class DepositReader:
             if end is not None:
                 end(node, word)
             elif word:
-                self.notes.add('unknown', f'text in {self.told()}')
+                self.notes.add(Note.UNKNOWN, f'text in {self.told()}')
         self.node, self.row, self.pieces = self.open.pop()
 
     def end_plain(self, node: Node, word: str) -> None:
@@ -430,12 +436,12 @@ class DepositReader:
             if word or node.table is None:
                 self.set_cell(node.cell, word)
         elif word:
-            self.notes.add('unknown', f'text in {self.told()}')
+            self.notes.add(Note.UNKNOWN, f'text in {self.told()}')
         if node.table is not None:
             if self.open[-1][0] is self.contents:
                 self.taker.object(self.row)
             elif not any(self.row.cells.values()) and self.row.is_empty():
-                self.notes.add('empty', f'element {self.told()}')
+                self.notes.add(Note.EMPTY, f'element {self.told()}')
 
     def end_skipped(self) -> None:
         self.skipped -= 1
@@ -446,7 +452,7 @@ class DepositReader:
         if node.cell is not None:
             self.taker.deleted(*node.cell, word)
         elif word:
-            self.notes.add('unknown', f'text in {self.told()}')
+            self.notes.add(Note.UNKNOWN, f'text in {self.told()}')
 
     def end_watermark(self, _node: Node, word: str) -> None:
         try:
@@ -456,18 +462,18 @@ class DepositReader:
 
     def end_version(self, _node: Node, word: str) -> None:
         if word != '1.0':
-            self.notes.add('unknown', f'{self.told()} {word}')
+            self.notes.add(Note.UNKNOWN, f'{self.told()} {word}')
 
     def end_namespace(self, _node: Node, word: str) -> None:
         if word not in self.names.prefixes:
-            self.notes.add('unknown', f'namespace {word}')
+            self.notes.add(Note.UNKNOWN, f'namespace {word}')
 
     def end_header_text(self, node: Node, word: str) -> None:
         self.taker.header(node.name.partition(':')[2], word)
 
     def end_count(self, _node: Node, word: str) -> None:
         if self.counted is not None:
-            if not re.fullmatch(r'\d{1,20}', word, re.ASCII) or int(word) >= 1 << 64:
+            if not re.fullmatch(r'\d{1,20}', word, re.ASCII) or int(word) > MOST_COUNT:
                 raise self.refused(f'no number of objects: {word}')
             kind, of_name, told = self.counted
             self.taker.count(kind, int(word), of_name, told)
@@ -478,6 +484,6 @@ class DepositReader:
 
     def end_csv(self, _node: Node, word: str) -> None:
         if word:
-            self.notes.add('unknown', f'text in {self.told()}')
+            self.notes.add(Note.UNKNOWN, f'text in {self.told()}')
         self.taker.definitions.append(self.definition)
         self.definition = None

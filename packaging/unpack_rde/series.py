@@ -11,19 +11,31 @@ from collections.abc import Iterable
 from collections.abc import Iterator
 from datetime import datetime
 from datetime import timedelta
+from enum import Enum
 from typing import NamedTuple
 
 from faults import Refusal
+from limits import MOST_ID
+from limits import MOST_PARTS
 from writing import DESCRIPTION
 
 EPOCH = datetime(1970, 1, 1)
 SECOND = 1_000_000_000
-# A store lists no more rows; the places of one revision are below this many nanoseconds.
-MOST_PARTS = 4_096
-MOST_ID = 64
 # The member of a header by which an Incremental is known that is given as a Differential.
 INCREMENTAL = 'incremental'
 Header = dict[str, object]
+
+
+class DepositType(str, Enum):
+    """The type of a deposit, by its word (RFC 8909 section 5.1)."""
+    FULL = 'FULL'
+    INCREMENTAL = 'INCR'
+    DIFFERENTIAL = 'DIFF'
+
+    __str__ = str.__str__
+
+
+TYPES = tuple(it.value for it in DepositType)
 
 
 def nanoseconds(watermark: str) -> int:
@@ -42,13 +54,13 @@ def watermark_text(moment: int) -> str:
 class Place(NamedTuple):
     """Where a bundle stands among others."""
     moment: int
-    type: str
+    type: DepositType
 
 
 class Known(NamedTuple):
     """A deposit that was unpacked before: in one folder, or in parts."""
     id: str
-    type: str
+    type: DepositType
     moment: int
     resend: int
     prev: str | None
@@ -62,9 +74,9 @@ class Known(NamedTuple):
         return len(self.folders) > 1
 
     @property
-    def own_type(self) -> str:
+    def own_type(self) -> DepositType:
         """Its type before it was given as another."""
-        return 'INCR' if self.is_incremental else self.type
+        return DepositType.INCREMENTAL if self.is_incremental else self.type
 
 
 def is_folder(path: str) -> bool:
@@ -90,10 +102,11 @@ def known_of(folder: str, folders: list[str], headers: list[Header]) -> Known:
     if folders != [folder]:
         check_parts(folder, headers)
     first, last = headers[0], headers[-1]
-    return Known(last['id'], first['type'], nanoseconds(last['watermark']),
+    places = [Place(nanoseconds(it['watermark']), DepositType(it['type'])) for it in headers]
+    return Known(last['id'], places[0].type, nanoseconds(last['watermark']),
                  last.get('resend') or 0, first.get('prevId'),
-                 first['type'] == 'INCR' or INCREMENTAL in first, folder, folders,
-                 [Place(nanoseconds(it['watermark']), it['type']) for it in headers])
+                 places[0].type is DepositType.INCREMENTAL or INCREMENTAL in first, folder, folders,
+                 places)
 
 
 def check_parts(folder: str, headers: list[Header]) -> None:
@@ -121,20 +134,21 @@ class Series:
 
     def __init__(self, path: str, header: Header, known: list[Known]) -> None:
         self.path, self.header, self.known = path, header, known
-        self.id, self.moment, self.resend = str(header['id']), nanoseconds(str(
-            header['watermark'])), int(header.get('resend', 0))
+        self.id, self.type = str(header['id']), DepositType(header['type'])
+        self.moment = nanoseconds(str(header['watermark']))
+        self.resend = int(header.get('resend', 0))
 
     def refused(self, what: str) -> Refusal:
         return Refusal(self.path, what)
 
     def full(self) -> Known | None:
         """The last known Full before an Incremental."""
-        fulls = [it for it in self.known if it.type == 'FULL' and it.moment < self.moment]
+        fulls = [it for it in self.known if it.type is DepositType.FULL and it.moment < self.moment]
         return fulls[-1] if fulls else None
 
     def revisions(self) -> list[Known]:
         """The known revisions of the deposit itself, which may have other ids."""
-        own_type = 'INCR' if INCREMENTAL in self.header else self.header['type']
+        own_type = DepositType.INCREMENTAL if INCREMENTAL in self.header else self.type
         return [it for it in self.known if (it.moment, it.own_type) == (self.moment, own_type)]
 
     def part_id(self, part: int, of: int) -> str:
@@ -147,11 +161,12 @@ class Series:
         return found
 
     def place(self, part: int, of: int) -> Place:
+        # (The places of one revision are below MOST_PARTS nanoseconds.)
         moment = self.moment if part == of else self.moment - self.resend * MOST_PARTS - (of - part)
         if moment < 0:
             raise self.refused(
                 'there is no room for the watermarks of its series, which would be before 1970')
-        return Place(moment, str(self.header['type']) if part == 1 else 'DIFF')
+        return Place(moment, self.type if part == 1 else DepositType.DIFFERENTIAL)
 
     def headers(self, of: int) -> Iterator[Header]:
         """The header of each bundle; of one that has the whole deposit, the deposit's own."""
@@ -201,22 +216,25 @@ class Series:
         """Whether this is the last Full before a known Incremental, which is based on another: by
         its type on the first bundle alone; if it was given as a Differential, on the Full that was
         the last one then."""
-        if self.header['type'] != 'FULL' or not known.is_incremental or known.moment <= self.moment:
+        is_after = known.is_incremental and known.moment > self.moment
+        if self.type is not DepositType.FULL or not is_after:
             return False
         fulls = {
             it.id: it.moment
             for it in self.known
-            if it.type == 'FULL' and it.moment < known.moment
+            if it.type is DepositType.FULL and it.moment < known.moment
         }
         if max(fulls.values(), default=0) > self.moment:
             return False
-        return of > 1 if known.type == 'INCR' else fulls.get(known.prev, self.moment) < self.moment
+        if known.type is DepositType.INCREMENTAL:
+            return of > 1
+        return fulls.get(known.prev, self.moment) < self.moment
 
     def check_revision(self, known: Known, last: Place, of: int) -> None:
         if known.places[-1] != last:
             before, now = ('a series' if it else 'one bundle' for it in (known.is_series, of > 1))
             if before == now:
-                before, now = known.type, self.header['type']
+                before, now = known.type, self.type
             raise self.refused(
                 f'{known.id} in {known.folder} is {before}, and this is {now}: one deposit has one '
                 'place. Unpack both with --series, or list the latest revision alone in a new '
@@ -240,5 +258,5 @@ def taken_of(places: list[Place], own: list[Place]) -> Place | None:
 def is_within(place: Place, full: list[Place]) -> bool:
     """Whether an Incremental would be based on the first part of a Full that is not whole by
     then."""
-    return (place.type, full[0].type) == (
-        'INCR', 'FULL') and full[0].moment < place.moment <= full[-1].moment
+    is_base = (place.type, full[0].type) == (DepositType.INCREMENTAL, DepositType.FULL)
+    return is_base and full[0].moment < place.moment <= full[-1].moment

@@ -6,15 +6,18 @@ from typing import NamedTuple
 
 from csv_files import CsvFiles
 from cutting import Cutting
+from faults import Note
 from faults import Notes
 from faults import Refusal
 from folder import LIMITS
 from folder import Folder
 from folder import Part
 from keys import Keys
+from limits import MOST_KEY
 from names import Table
 from progress import Progress
 from series import INCREMENTAL
+from series import DepositType
 from series import Header
 from series import Known
 from series import Series
@@ -23,7 +26,6 @@ from series import known_in
 from writing import Limits
 from writing import Portions
 
-MOST_KEY = 255
 # What a cell can have in a CSV file alone, and a terminal may obey. (A tab and line ends are
 # ordinary.)
 CONTROLS = re.compile('[\x00-\x08\x0b\x0c\x0e-\x1f\x7f-\x9f]')
@@ -100,25 +102,25 @@ class Unpacking:
     def tell_orphan(self, table: Table, key: str) -> None:
         """Tells of a row of a child table if the object that it is of is not in the deposit."""
         if not self.keys.has(table.kind, key):
-            self.notes.add('orphan',
+            self.notes.add(Note.ORPHAN,
                            f'row of {table.name} of a {table.kind} that is not in the deposit')
 
     def tell_control(self, table: Table, field: str, value: str) -> None:
         """Tells of a cell that a terminal may obey."""
         if not value.isprintable() and CONTROLS.search(value):
             self.notes.add(
-                'control', f'cell of {table.name}.{field} with control characters, as they are')
+                Note.CONTROL, f'cell of {table.name}.{field} with control characters, as they are')
 
     def tell_unnamed(self, named: set[str], beside: str) -> None:
         """Tells of CSV files that lie beside what names these files."""
         for name in self.files.unnamed(named):
-            self.notes.add('unknown', f'file {name} beside the {beside}, which does not name it')
+            self.notes.add(Note.UNKNOWN, f'file {name} beside the {beside}, which does not name it')
 
     def finish(self) -> list[Part]:
         series = Series(self.path, self.envelope, self.known)
-        if self.envelope['type'] == 'INCR':
+        if self.envelope['type'] == DepositType.INCREMENTAL:
             series = self.based(series)
-        if self.asked.is_strict and self.notes.has('unknown'):
+        if self.asked.is_strict and self.notes.has(Note.UNKNOWN):
             raise Refusal(self.path, 'it has what is unknown, and --strict was given')
         is_series = self.asked.is_series or any(it.is_series for it in series.revisions())
         portions = [it for its in self.portions.values() for it in its.all]
@@ -142,13 +144,15 @@ class Unpacking:
         full = series.full()
         if full is None:
             self.notes.add(
-                'given',
+                Note.GIVEN,
                 'as an Incremental, whose Full is in no folder of --known: if that is a series, '
                 'name it'
             )
             return series
         if not full.is_series:
             return series
-        self.notes.add('given', f'as a Differential on {full.id}, since this Full is a series')
-        self.envelope = {**self.envelope, 'type': 'DIFF', 'prevId': full.id, INCREMENTAL: True}
+        self.notes.add(Note.GIVEN, f'as a Differential on {full.id}, since this Full is a series')
+        self.envelope = {
+            **self.envelope, 'type': DepositType.DIFFERENTIAL, 'prevId': full.id, INCREMENTAL: True
+        }
         return Series(self.path, self.envelope, self.known)

@@ -3,4 +3,4 @@
 `program` has the words of the program. A source of objects (`tables`, a folder, or `store`) is
 filled (`fillings`) and written (`document`) in one of two models (`xml_model` by `shape`, and
 `csv_model`); `forms` has what texts are allowed, and `telling` what is told. `names`, `faults`,
-`keys` and `writing` are modules of unpack_rde."""
+`keys`, `limits` and `writing` are modules of unpack_rde."""

@@ -9,12 +9,13 @@ from typing import BinaryIO
 from typing import NamedTuple
 
 from faults import Refusal
+from limits import MOST_BYTES
+from limits import MOST_SECTION
 from packing.forms import is_moment
 
 FIRST_LINE, LAST_LINE, ENVELOPE = b'escrow-bundle 1\n', b'end\n', 'envelope.json'
-# The longest line of a section: a name of 32 signs, a space and a length.
-MOST_LINE = 64
-MOST_BYTES = 16_777_216
+# The longest line of a section: its name, a space, a length and a line end.
+MOST_LINE = MOST_SECTION + len(f' {MOST_BYTES}\n')
 
 
 class Section(NamedTuple):

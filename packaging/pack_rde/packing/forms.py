@@ -78,6 +78,8 @@ def is_base64(text: str) -> bool:
     return BASE64.fullmatch(re.sub('[ \t\r\n]', '', text)) is not None
 
 
+# The greatest resend of a deposit (RFC 8909 6.1), which is less than the desk's.
+MOST_RESEND = 65_535
 ID, PREFIX = form(rf'{WORD}{{1,13}}'), form(rf'{WORD}{{1,8}}')
 CLIENT, NAME, ROID = token(3, 16), token(1, 255), form(rf'({WORD}|_){{1,80}}-{WORD}{{1,8}}')
 PHONE = form(r'(?=.{0,17}$)(\+[0-9]{1,3}\.[0-9]{1,14})?')

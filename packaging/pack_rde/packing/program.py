@@ -17,6 +17,7 @@ from packing.document import give_up
 from faults import Refusal
 from packing.fillings import Fillings
 from packing.forms import ID
+from packing.forms import MOST_RESEND
 from packing.forms import NAME
 from packing.forms import PREFIX
 from packing.forms import is_moment
@@ -32,7 +33,7 @@ from packing.telling import Report
 from packing.telling import ended
 from packing.telling import tell
 
-MOST_RESEND, SECONDS = 65_535, 2
+SECONDS = 2
 ABOUT = """pack_rde: writes a Full of RFC 8909 and RFC 9022 of the tables of a registry.
 Nothing is filled without an option that says so, and credentials are never
 written. Standard error has a line for each thing that the deposit lacks or has in

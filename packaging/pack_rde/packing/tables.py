@@ -11,6 +11,7 @@ from dataclasses import field
 from typing import Protocol
 
 from faults import Refusal
+from limits import MOST_BYTES
 from names import Names
 from packing.telling import Note
 from packing.telling import Report
@@ -21,7 +22,7 @@ KEY, SUFFIX = 'key', '.csv'
 
 Cells = dict[str, str]
 Rows = Iterator[tuple[str, Cells]]
-csv.field_size_limit(1 << 24)
+csv.field_size_limit(MOST_BYTES)
 
 
 @dataclass
