@@ -1,11 +1,22 @@
-"""Runs of the program that are measured, for bench.py."""
-import http.client, os, subprocess, sys, time
+"""Runs of the program that are measured, for bench.py and sizes.py."""
+import http.client
+import os
+import subprocess
+import sys
+import time
+from collections.abc import Callable
+from collections.abc import Iterable
+from collections.abc import Sequence
 from dataclasses import dataclass
 
 sys.path.append(f'{sys.path[0]}/../tests')
 from support.files import read
-from support.sockets import HOST, free_port
+from support.sockets import HOST
+from support.sockets import free_port
 from support.stores import copy
+
+# A request: its method, its path, and its body, if it has one.
+Request = tuple[str, str, bytes | None]
 
 
 @dataclass
@@ -16,55 +27,61 @@ class Use:
     memory: float = 0
 
     @staticmethod
-    def least(uses):
-        return Use(*(min(getattr(it, name) for it in uses) for name in ('took', 'processor', 'memory')))
+    def least(uses: Iterable['Use']) -> 'Use':
+        names = ('took', 'processor', 'memory')
+        return Use(*(min(getattr(it, name) for it in uses) for name in names))
 
 
 class Program:
     """A built program and the folder in which it works."""
 
-    def __init__(self, path, work):
+    def __init__(self, path: str, work: str) -> None:
         self.path, self.work = path, work
         os.makedirs(work, exist_ok=True)
 
-    def at(self, name):
+    def at(self, name: str) -> str:
         return os.path.join(self.work, name)
 
-    def run(self, *words, want=0):
-        """Runs it to its end, with what it prints in a file."""
-        with open(os.path.join(self.work, 'out'), 'wb') as out:
+    def run(self, *words: str, want: int = 0, err: int | None = None) -> Use:
+        """Runs it to its end: what it prints is in a file, its standard error where `err` says."""
+        with open(self.at('out'), 'wb') as out:
             begun = time.perf_counter()
-            return self.ended(subprocess.Popen([self.path, *words], stdout=out), words, begun, want)
+            child = subprocess.Popen([self.path, *words], stdout=out, stderr=err)
+            return self.ended(child, words, begun, want)
 
-    def take(self, store, folder, want=0):
+    def take(self, store: str, folder: str, want: int = 0) -> Use:
         return self.run('take', '--store', store, folder, want=want)
 
-    def printed(self, *words):
+    def printed(self, *words: str) -> bytes:
         return subprocess.run([self.path, *words], check=True, capture_output=True).stdout
 
-    def ended(self, child, words, begun, want=0):
+    def ended(self, child: subprocess.Popen, words: Sequence[str], begun: float,
+              want: int = 0) -> Use:
         """Waits for a run, whose status has to be the wanted one, and answers what it used."""
         _, status, usage = os.wait4(child.pid, 0)
         child.returncode = os.waitstatus_to_exitcode(status)
         if child.returncode != want:
             sys.exit(f'{self.path} {" ".join(words)}: status {child.returncode}, wanted {want}')
-        return Use((time.perf_counter() - begun) * 1000, (usage.ru_utime + usage.ru_stime) * 1000, usage.ru_maxrss / 1024)
+        return Use((time.perf_counter() - begun) * 1000,
+                   (usage.ru_utime + usage.ru_stime) * 1000, usage.ru_maxrss / 1024)
 
-    def fresh(self, name, manifest):
+    def fresh(self, name: str, manifest: str) -> str:
         """A new store of a manifest."""
         store = copy(None, self.at(name))
         self.run('init', '--store', store, '--manifest', manifest)
         return store
 
-    def arrivals(self, store, folder):
-        """Takes a folder: the processor time once the store is open, and after each arrival; and what the run used."""
+    def arrivals(self, store: str, folder: str) -> tuple[list[float], Use]:
+        """Takes a folder: the processor time once the store is open, and after each arrival; and
+        what the run used."""
         words = ['take', '--store', store, folder]
         begun = time.perf_counter()
         child = subprocess.Popen([self.path, *words], stdout=subprocess.PIPE)
         return [spent(child) for _ in child.stdout], self.ended(child, words, begun)
 
-    def serve(self, store, count):
-        """Begins to serve a store for so many connections: the run, its port, and what ends it once they are over."""
+    def serve(self, store: str, count: int) -> tuple[subprocess.Popen, int, Callable[[], Use]]:
+        """Begins to serve a store for so many connections: the run, its port, and what ends it once
+        they are over."""
         port, begun = free_port(), time.perf_counter()
         words = ['serve', '--store', store, '--port', str(port), '--count', str(count)]
         child = subprocess.Popen([self.path, *words], stdout=subprocess.PIPE, text=True)
@@ -72,27 +89,30 @@ class Program:
             sys.exit(f'{self.path}: the desk does not listen')
         return child, port, lambda: self.ended(child, words, begun)
 
-    def served(self, store, path):
+    def served(self, store: str, path: str) -> Use:
         """What a desk over a store uses that answers one request, and ends."""
         _, port, ended = self.serve(store, 1)
         ask(port, 'GET', path)
         return ended()
 
-    def asked_again(self, store, path):
-        """Asks a desk over a store for a report, again and again: the processor time of the first response, the mean of the others,
-        and what the run used."""
+    def asked_again(self, store: str, path: str) -> tuple[Use, Use]:
+        """Asks a desk over a store for a report, again and again: the processor time of the first
+        response, the mean of the others, and what the run used."""
         clock, use = self.answered(store, [('GET', path, None)] * 52)
-        return Use(0, clock[1] - clock[0], use.memory), Use(0, (clock[-1] - clock[1]) / (len(clock) - 2), use.memory)
+        later = (clock[-1] - clock[1]) / (len(clock) - 2)
+        return Use(0, clock[1] - clock[0], use.memory), Use(0, later, use.memory)
 
-    def put_each(self, store, folder):
-        """PUTs the files of a folder to a desk over a store, in order: the mean processor time of a request."""
+    def put_each(self, store: str, folder: str) -> Use:
+        """PUTs the files of a folder to a desk over a store, in order: the mean processor time of a
+        request."""
         names = sorted(os.listdir(folder))
-        clock, use = self.answered(store, [('PUT', f'/arrivals/{it}', read(f'{folder}/{it}')) for it in names])
+        requests = [('PUT', f'/arrivals/{it}', read(f'{folder}/{it}')) for it in names]
+        clock, use = self.answered(store, requests)
         return Use(0, (clock[-1] - clock[0]) / (len(clock) - 1), use.memory)
 
-    def answered(self, store, requests):
-        """The processor time of a desk over a store before these requests and after each but the last one, with which it ends; and
-        what the run used."""
+    def answered(self, store: str, requests: list[Request]) -> tuple[list[float], Use]:
+        """The processor time of a desk over a store before these requests and after each but the
+        last one, with which it ends; and what the run used."""
         child, port, ended = self.serve(store, len(requests))
         clock = [spent(child)]
         for request in requests[:-1]:
@@ -102,7 +122,7 @@ class Program:
         return clock, ended()
 
 
-def ask(port, method, path, body=None):
+def ask(port: int, method: str, path: str, body: bytes | None = None) -> None:
     """Sends one request by a connection of its own, and reads the whole response."""
     connection = http.client.HTTPConnection(HOST, port)
     connection.request(method, path, body)
@@ -113,6 +133,7 @@ def ask(port, method, path, body=None):
         sys.exit(f'{method} {path}: status {response.status}, wanted 200')
 
 
-def spent(process):
-    """The processor time of a running process, in milliseconds, by the clock that Linux has for each (clock_getcpuclockid)."""
+def spent(process: subprocess.Popen) -> float:
+    """The processor time of a running process, in milliseconds, by the clock that Linux has for
+    each (clock_getcpuclockid)."""
     return time.clock_gettime((~process.pid << 3) | 2) * 1000

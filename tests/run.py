@@ -1,24 +1,41 @@
 #!/usr/bin/env python3
-"""python3 tests/run.py [--restore FILE] [--harness FILE] [--pack FILE] [--handover FILE] [NAME ..]: plays the test cases on the programs
-`restore`, `desk_harness`, `pack` and `handover`: all of them, or those whose file or title has one of these names in it. With --list their
-titles are printed alone: what two trees list says what one has lost.
+"""python3 tests/run.py [--restore FILE] [--harness FILE] [--pack FILE] [--handover FILE] [NAME ..]:
+plays the test cases on the programs `restore`, `desk_harness`, `pack` and `handover`: all of them,
+or those whose file or title has one of these names in it. With --list their titles are printed
+alone: what two trees list says what one has lost.
 
-The programs are those that `rt ci` built in this checkout (crates/restore/out/restore and so on), if no others are named.
+The programs are those that `rt ci` built in this checkout (crates/restore/out/restore and so on),
+if no others are named.
 
-A case is a folder of files, and command lines with the status, the standard output and the standard error that they must give, or lines
-that desk_harness is told with the answer to each. It is written in a transcript, tests/transcripts/FILE.txt (tests/support/transcripts.py
-has the form), or, where code is needed, as a function `test_..` in tests/cases/FILE.py, whose docstring is its title, or in the table CASES
-there, by its title. The tests in tests/unit/, which unittest finds, are of the tests' own parts: they need no program.
+A case is a folder of files, and command lines with the status, the standard output and the standard
+error that they must give, or lines that desk_harness is told with the answer to each. It is written
+in a transcript, tests/transcripts/FILE.txt (tests/support/transcripts.py has the form), or, where
+code is needed, as a function `test_..` in tests/cases/FILE.py, whose docstring is its title, or in
+the table CASES there, by its title. The tests in tests/unit/, which unittest finds, are of the
+tests' own parts: they need no program.
 
-The cases are played side by side, RT_JOBS of them or one for each processor. Each that ends otherwise is printed as FAILED, with the first
-line that did, what was wanted and what came. The last line is `N passed, M failed`; the status is 0 where M is 0."""
-import importlib, multiprocessing, os, pathlib, sqlite3, sys, textwrap, traceback, unittest
+The cases are played side by side, RT_JOBS of them or one for each processor. Each that ends
+otherwise is printed as FAILED, with the first line that did, what was wanted and what came. The
+last line is `N passed, M failed`; the status is 0 where M is 0."""
+import importlib
+import multiprocessing
+import os
+import pathlib
+import sqlite3
+import sys
+import textwrap
+import traceback
+import unittest
 from dataclasses import dataclass
 from typing import Callable
 
-from support import TESTS, arguments_of, built
-from support.stage import Failed, Stage
-from support.transcripts import Misread, read_transcripts
+from support import TESTS
+from support import arguments_of
+from support import built
+from support.stage import Failed
+from support.stage import Stage
+from support.transcripts import Misread
+from support.transcripts import read_transcripts
 
 PROGRAMS = ('restore', 'desk_harness', 'pack', 'handover')
 
@@ -36,14 +53,22 @@ class Case:
 
 def cases_of_transcript(name):
     try:
-        return [Case(name, it.title, it.play) for it in read_transcripts(f'{TESTS}/transcripts/{name}.txt')]
+        return [
+            Case(name, it.title, it.play)
+            for it in read_transcripts(f'{TESTS}/transcripts/{name}.txt')
+        ]
     except (Misread, UnicodeDecodeError) as error:
         sys.exit(f'tests: {name}: {error}')
 
 
+def title_of(play):
+    """The first paragraph of a docstring."""
+    return ' '.join(play.__doc__.partition('\n\n')[0].split()).rstrip('.')
+
+
 def cases_of_module(name):
     module = vars(importlib.import_module(f'cases.{name}'))
-    cases = {play.__doc__.partition('\n')[0].rstrip('.'): play for of, play in module.items() if of.startswith('test_')}
+    cases = {title_of(play): play for of, play in module.items() if of.startswith('test_')}
     return [Case(name, title, play) for title, play in (cases | module.get('CASES', {})).items()]
 
 
@@ -57,7 +82,10 @@ def case_of_test(test):
     def play(_):
         result = unittest.TestResult()
         test.run(result)
-        wrong = [*result.errors, *result.failures, *result.skipped, *((it, 'it passed') for it in result.unexpectedSuccesses)]
+        wrong = [
+            *result.errors, *result.failures, *result.skipped,
+            *((it, 'it passed') for it in result.unexpectedSuccesses)
+        ]
         if wrong:
             raise Failed(wrong[0][1])
     file, _, title = test.id().partition('.')
@@ -66,33 +94,48 @@ def case_of_test(test):
 
 def all_cases():
     found = []
-    for files, cases_of in (('transcripts/*.txt', cases_of_transcript), ('cases/[!_]*.py', cases_of_module)):
-        found += [case for it in sorted(pathlib.Path(TESTS).glob(files)) for case in cases_of(it.stem)]
-    return found + [case_of_test(it) for it in tests_in(unittest.defaultTestLoader.discover(f'{TESTS}/unit'))]
+    for files, cases_of in (('transcripts/*.txt', cases_of_transcript), ('cases/[!_]*.py',
+                                                                         cases_of_module)):
+        found += [
+            case for it in sorted(pathlib.Path(TESTS).glob(files)) for case in cases_of(it.stem)
+        ]
+    return found + [
+        case_of_test(it) for it in tests_in(unittest.defaultTestLoader.discover(f'{TESTS}/unit'))
+    ]
 
 
-def failure_at(at):
-    """Plays the case with this index, and gives why it failed, if it did."""
-    cases, programs = given
-    try:
-        with Stage(programs) as stage:
-            cases[at].play(stage)
-    except (Failed, OSError, sqlite3.Error) as failure:
-        return f'{failure}'
-    except Exception:
-        return traceback.format_exc()
-    return None
+class Player:
+    """A process that plays cases. It is forked, and has them from its beginning."""
+    cases: list[Case] = []
+    programs: dict[str, str] = {}
+
+    @classmethod
+    def begin(cls, cases: list[Case], programs: dict[str, str]) -> None:
+        cls.cases, cls.programs = cases, programs
+
+    @classmethod
+    def failure_at(cls, at: int) -> str | None:
+        """Plays the case with this index, and gives why it failed, if it did."""
+        try:
+            with Stage(cls.programs) as stage:
+                cls.cases[at].play(stage)
+        except (Failed, OSError, sqlite3.Error) as failure:
+            return f'{failure}'
+        except Exception:
+            return traceback.format_exc()
+        return None
 
 
 def count_passed(cases, programs):
-    """Plays cases, as many side by side as there are lanes, and tells in their order how each ended. Gives how many passed."""
-    # (The processes that play are forked here, and have the cases from then on.)
-    global given
-    given, lanes, passed = (cases, programs), int(os.environ.get('RT_JOBS') or os.cpu_count() or 1), 0
-    with multiprocessing.get_context('fork').Pool(lanes) as pool:
-        for case, failure in zip(cases, pool.imap(failure_at, range(len(cases)))):
+    """Plays cases, as many side by side as there are lanes, and tells in their order how each
+    ended. Gives how many passed."""
+    lanes, passed = int(os.environ.get('RT_JOBS') or os.cpu_count() or 1), 0
+    players = multiprocessing.get_context('fork').Pool(lanes, Player.begin, (cases, programs))
+    with players as pool:
+        for case, failure in zip(cases, pool.imap(Player.failure_at, range(len(cases)))):
             passed += failure is None
-            print(f'{case.file}: {case.title}:', 'passed' if failure is None else 'FAILED', flush=True)
+            print(f'{case.file}: {case.title}:', 'passed' if failure is None else 'FAILED',
+                  flush=True)
             if failure is not None:
                 print(textwrap.indent(failure, '  '), flush=True)
     return passed
@@ -101,7 +144,8 @@ def count_passed(cases, programs):
 def main():
     arguments = arguments_of(__doc__)
     for name in PROGRAMS:
-        arguments.add_argument(f'--{name.removeprefix("desk_")}', dest=name, default=built(name), metavar='FILE')
+        arguments.add_argument(f'--{name.removeprefix("desk_")}', dest=name, default=built(name),
+                               metavar='FILE')
     arguments.add_argument('--list', action='store_true')
     arguments.add_argument('names', nargs='*', metavar='NAME')
     given = arguments.parse_args()

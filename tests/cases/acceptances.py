@@ -1,25 +1,50 @@
-"""`handover check` over random releases, and over stores that went bad, against the plain model: the word of each test, and how its line
-begins. (The words of the lines are those of transcripts/handing.txt, what they name and count is the model's.)"""
-import hashlib, random
+"""`handover check` over random releases, and over stores that went bad, against the plain model:
+the word of each test, and how its line begins. (The words of the lines are those of
+transcripts/handing.txt, what they name and count is the model's.)"""
+import hashlib
+import random
 from collections import defaultdict
 
-from support.acceptance import Seen, beginning, is_accepted, is_bundle, tests_of, word_of
-from support.bundles import Header, Table, deposit, manifest
+from support.acceptance import RULES
+from support.acceptance import Seen
+from support.acceptance import beginning
+from support.acceptance import is_accepted
+from support.acceptance import is_bundle
+from support.acceptance import tests_of
+from support.acceptance import word_of
+from support.bundles import Header
+from support.bundles import Table
+from support.bundles import deposit
+from support.bundles import manifest
 from support.files import read
-from support.first_store import first_rows, write_store
-from support.flawed import draw_release, draw_series, misnamed_releases
-from support.formats import KINDS, read_record, record
-from support.releases import Release, numbered
-from support.stage import Failed, Wanted, case, compare, text_of
-from support.stores import EMPTY_LOG, change_row, run
+from support.first_store import first_rows
+from support.first_store import write_store
+from support.flawed import draw_release
+from support.flawed import draw_series
+from support.flawed import misnamed_releases
+from support.formats import KINDS
+from support.formats import read_record
+from support.formats import record
+from support.releases import Release
+from support.releases import numbered
+from support.stage import Failed
+from support.stage import Wanted
+from support.stage import case
+from support.stage import compare
+from support.stage import text_of
+from support.stores import EMPTY_LOG
+from support.stores import change_row
+from support.stores import run
 
-# The seeds of the releases. The last ones are rare: in these the day of the chain's end has a later place, a revision is missing below the
-# one that is used, a place is missing on the day of the end, and a deposit before the last one has orphans.
+# The seeds of the releases. The last ones are rare: in these the day of the chain's end has a later
+# place, a revision is missing below the one that is used, a place is missing on the day of the end,
+# and a deposit before the last one has orphans.
 SEEDS = (*range(26), 305, 129, 68, 28)
 # Those of releases whose deposits are series.
 SERIES = (2, 3, 4, 7, 9, 13, 15, 16, 18, 29, 33, 37)
 # The tests that each pass in some of these releases, and not in others.
-TESTS = ('end', 'resends', 'gaps', 'moment', 'parked', 'findings', 'orphans', 'counts', 'fields', 'names', 'bodies', 'tables')
+TESTS = ('end', 'resends', 'gaps', 'moment', 'parked', 'findings', 'orphans', 'counts', 'fields',
+         'names', 'bodies', 'tables')
 
 
 def changed_body(change):
@@ -36,23 +61,27 @@ def change_object(stage, store, desk, chance):
     kind, key = chance.choice(sorted(desk.objects))
     *before, (table, [*others, (field, text)]) = read_record(desk.objects[kind, key])
     desk.objects[kind, key] = record([*before, (table, [*others, (field, text + 'x')])])
-    change_row(stage, store, 'UPDATE object SET record = ? WHERE kind = ? AND key = ?', (desk.objects[kind, key], KINDS.index(kind), key))
+    change_row(stage, store, 'UPDATE object SET record = ? WHERE kind = ? AND key = ?',
+               (desk.objects[kind, key], KINDS.index(kind), key))
 
 
 def delete_object(stage, store, desk, chance):
     kind, key = chance.choice(sorted(desk.objects))
     del desk.objects[kind, key]
-    change_row(stage, store, 'DELETE FROM object WHERE kind = ? AND key = ?', (KINDS.index(kind), key))
+    change_row(stage, store, 'DELETE FROM object WHERE kind = ? AND key = ?',
+               (KINDS.index(kind), key))
 
 
 def add_object(stage, store, desk, chance):
     kind, key = chance.choice(sorted(desk.objects))
     new, made = b'new-' + key, desk.objects[kind, key]
     desk.objects[kind, new] = made
-    change_row(stage, store, 'INSERT INTO object (kind, key, record) VALUES (?, ?, ?)', (KINDS.index(kind), new, made))
+    change_row(stage, store, 'INSERT INTO object (kind, key, record) VALUES (?, ?, ?)',
+               (KINDS.index(kind), new, made))
 
 
-# A name in a held body is another one; it ends too early; a row of it has one field more; and so on.
+# A name in a held body is another one; it ends too early; a row of it has one field more; and so
+# on.
 SPOILINGS = {
     'another name': changed_body(lambda body: body.replace(b'.example', b'.exbmple', 1)),
     'an early end': changed_body(lambda body: body[:-1]),
@@ -64,8 +93,8 @@ SPOILINGS = {
 
 
 def check_store(stage, store, desk, seen):
-    """Compares what is said of a store, which stays as it is, and notes the word of each test. Nothing but S1 is said where the body of the
-    chain's last deposit is no bundle."""
+    """Compares what is said of a store, which stays as it is, and notes the word of each test.
+    Nothing but S1 is said where the body of the chain's last deposit is no bundle."""
     before, is_read = read(stage.at(store)), not desk.steps or is_bundle(desk.held[desk.steps[-1]])
     tests = list(tests_of(Seen(desk))) if is_read else []
     got = stage.end(stage.begin(['check', '--store', store], 'handover'))
@@ -73,8 +102,11 @@ def check_store(stage, store, desk, seen):
     # The line of a test that passes is just as it is, another one goes on with what to do.
     lines = [it for it in got.out.decode().splitlines() if not it.startswith('told note: ')]
     compare('number of lines', f'{len(tests)}', f'{len(lines)}')
-    wrong = [f'wanted {wanted} ..\ngot    {line}' for (_, passes, _), wanted, line in zip(tests, (beginning(*it) for it in tests), lines)
-             if not (line == wanted if passes else line.startswith(wanted))]
+    wrong = [
+        f'wanted {wanted} ..\ngot    {line}'
+        for (_, passes, _), wanted, line in zip(tests, (beginning(*it) for it in tests), lines)
+        if not (line == wanted if passes else line.startswith(wanted))
+    ]
     if wrong:
         raise Failed('\n'.join(wrong))
     compare('status', '3' if not is_read else '0' if is_accepted(tests) else '1', f'{got.status}')
@@ -128,11 +160,14 @@ def check_words(seen, tests):
 # ---- what is no all-clear, each by a release made by hand
 
 # A Full, a later revision of it, and a Differential on it, on the day after.
-F1, F1_AGAIN = Header('F1', 'FULL', '2024-03-03T00:00:00Z'), Header('F1', 'FULL', '2024-03-03T00:00:00Z', resend=1)
+F1, F1_AGAIN = Header('F1', 'FULL',
+                      '2024-03-03T00:00:00Z'), Header('F1', 'FULL', '2024-03-03T00:00:00Z',
+                                                      resend=1)
 D2 = Header('D2', 'DIFF', '2024-03-04T00:00:00Z', 'F1')
 DATES = '2020-01-01T00:00:00Z,2030-01-01T00:00:00Z'
-FIELDS = ('name', 'clID', 'registrant', 'crDate', 'exDate')
-REGISTRARS = Table('registrar', 'registrar', 'parent', ('id', 'crDate'), b'R1,2020-01-01T00:00:00Z\n')
+FIELDS = ('name', 'clID', 'registrant', 'crDate', 'exDate', 'roid')
+REGISTRARS = Table('registrar', 'registrar', 'parent', ('id', 'name', 'crDate'),
+                   b'R1,One,2020-01-01T00:00:00Z\n')
 CHILDREN = (Table('domainContacts', 'domain', 'child', ('domainName', 'contactId')),
             Table('domainNs', 'domain', 'child', ('domainName', 'hostName')),
             Table('domainStatuses', 'domain', 'child', ('domainName', 'status'), b'a.example,ok\n'))
@@ -142,7 +177,8 @@ def domains(*rows, fields=FIELDS):
     return Table('domain', 'domain', 'parent', fields, ''.join(f'{it}\n' for it in rows).encode())
 
 
-A, B = domains(f'a.example,R1,,{DATES}'), domains(f'b.example,R1,,{DATES}')
+A, B = domains(f'a.example,R1,,{DATES},D1-EX'), domains(f'b.example,R1,,{DATES},D2-EX')
+B_STATUS = Table('domainStatuses', 'domain', 'child', ('domainName', 'status'), b'b.example,ok\n')
 
 
 def body_of(header, *tables, domain=1, **besides):
@@ -161,15 +197,23 @@ def release_of(*deposits, moment=None):
 
 def lines_but(*others, end='2024-03-03T00:00:00Z FULL', tld='no held deposit names one', notes=()):
     """The lines where all tests pass, but for those that are given, and then those of notes."""
-    passed = {f'{it}': f'ok {it}' for it in ('tld', 'end', 'chain', 'resends', 'gaps', 'moment', 'parked', 'early', 'findings', 'registrars', 'nndns', 'orphans',
-                                             'counts', 'fields', 'names', 'bodies', 'tables', 'notes')}
-    passed |= {'tld': f'ok tld: {tld}', 'end': f'ok end: {end}'} | {it.split()[1].rstrip(':'): it for it in others}
+    passed = {
+        f'{it}': f'ok {it}'
+        for it in ('tld', 'end', 'future', 'chain', 'resends', 'gaps', 'moment', 'parked', 'early',
+                   'findings', *RULES, 'orphans', 'counts', 'fields', 'names', 'bodies', 'tables',
+                   'notes')
+    }
+    passed |= {'tld': f'ok tld: {tld}', 'end': f'ok end: {end}'
+               } | {it.split()[1].rstrip(':'): it
+                    for it in others}
     return ''.join(f'{it}\n' for it in (*passed.values(), *notes))
 
 
 def check_lines(stage, store, status, *others, strict=None, **told):
-    stage.check(f'check --store {store}', Wanted(status, lines_but(*others, **told)), program='handover')
-    stage.check(f'check --store {store} --strict', Wanted(status if strict is None else strict, lines_but(*others, **told)),
+    stage.check(f'check --store {store}', Wanted(status, lines_but(*others, **told)),
+                program='handover')
+    stage.check(f'check --store {store} --strict',
+                Wanted(status if strict is None else strict, lines_but(*others, **told)),
                 program='handover')
 
 
@@ -183,10 +227,14 @@ def test_all_clear(stage):
 
 def test_a_field_that_not_each_object_has(stage):
     """The domains of a Full have no registrar, and the one of a Differential has."""
-    bare = body_of(F1, REGISTRARS, domains(f'a.example,,{DATES}', fields=('name', 'registrant', 'crDate', 'exDate')), *CHILDREN)
-    release_of((F1, bare), (D2, body_of(D2, B, *CHILDREN[:2], domain=2))).rebuild(stage)
-    check_lines(stage, 'a.db', 1, 'wrong fields: domain clID declared by no deposit of the chain, or not for each object, and so not '
-                'checked; ask the agent which fields they are', end='2024-03-04T00:00:00Z DIFF')
+    bare = body_of(F1, REGISTRARS, domains(f'a.example,,{DATES},D1-EX',
+                                           fields=('name', *FIELDS[2:])), *CHILDREN)
+    release_of((F1, bare), (D2, body_of(D2, B, *CHILDREN[:2], B_STATUS, domain=2))).rebuild(stage)
+    check_lines(
+        stage, 'a.db', 1,
+        'wrong fields: domain clID declared by no deposit of the chain, or not for each object, '
+        'and so not '
+        'checked; ask the agent which fields they are', end='2024-03-04T00:00:00Z DIFF')
 
 
 def test_a_chain_that_is_not_the_latest(stage):
@@ -194,8 +242,11 @@ def test_a_chain_that_is_not_the_latest(stage):
     release_of((F1, full(F1)), (F1_AGAIN, full(F1_AGAIN))).rebuild(stage)
     check_lines(stage, 'a.db', 0)
     change_row(stage, 'a.db', 'UPDATE step SET row = ?', (0,))
-    check_lines(stage, 'a.db', 1,
-                'wrong chain: not the latest one of the held rows; go back to a copy of the store, or make it anew')
+    check_lines(
+        stage, 'a.db', 1,
+        'wrong chain: not the latest one of the held rows; go back to a copy of the store, or '
+        'make it anew'
+    )
 
 
 def test_two_tlds(stage):
@@ -203,8 +254,10 @@ def test_two_tlds(stage):
     other = Header('F2', 'FULL', '2024-03-04T00:00:00Z')
     release_of((F1, full(F1, tld='example')), (other, full(other, tld='EXAMPLE'))).rebuild(stage)
     check_lines(stage, 'a.db', 0, end='2024-03-04T00:00:00Z FULL', tld='example')
-    release_of((F1, full(F1, tld='example')), (other, full(other, tld='other'))).rebuild(stage, 'b.db')
-    check_lines(stage, 'b.db', 1, 'wrong tld: example, other are named by the held deposits; make a store for each',
+    release_of((F1, full(F1, tld='example')),
+               (other, full(other, tld='other'))).rebuild(stage, 'b.db')
+    check_lines(stage, 'b.db', 1,
+                'wrong tld: example, other are named by the held deposits; make a store for each',
                 end='2024-03-04T00:00:00Z FULL')
 
 
@@ -212,32 +265,45 @@ def test_a_held_body_that_is_gone(stage):
     """The body of a revision that the chain goes past."""
     release_of((F1, full(F1)), (F1_AGAIN, full(F1_AGAIN))).rebuild(stage)
     change_row(stage, 'a.db', 'DELETE FROM held WHERE row = ?', (0,))
-    check_lines(stage, 'a.db', 1, 'wrong bodies: 1 held are gone or have another SHA-256 than listed, the first of row 1; go back to a '
-                'copy of the store, or make it anew')
+    check_lines(
+        stage, 'a.db', 1,
+        'wrong bodies: 1 held are gone or have another SHA-256 than listed, the first of row 1; '
+        'go back to a '
+        'copy of the store, or make it anew')
 
 
 def test_a_body_of_the_chain_that_is_no_deposit(stage):
     """A body before the last one is cut, and the row lists it as it is now."""
-    release_of((F1, full(F1)), (D2, body_of(D2, B, domain=2))).rebuild(stage)
+    release_of((F1, full(F1)), (D2, body_of(D2, B, B_STATUS, domain=2))).rebuild(stage)
     check_lines(stage, 'a.db', 0, end='2024-03-04T00:00:00Z DIFF')
     cut = full(F1)[:-1]
     change_row(stage, 'a.db', 'UPDATE held SET body = ? WHERE row = 0', (cut,))
-    change_row(stage, 'a.db', 'UPDATE listed SET digest = ? WHERE row = 0', (hashlib.sha256(cut).digest(),))
+    change_row(stage, 'a.db', 'UPDATE listed SET digest = ? WHERE row = 0',
+               (hashlib.sha256(cut).digest(), ))
     tests = stage.end(stage.begin(['check', '--store', 'a.db'], 'handover'))
     compare('status', '1', f'{tests.status}')
-    for line in ('wrong bodies: one of the chain is gone or is no deposit; go back to a copy of the store, or make it anew',
-                 'wrong tables: not those of the chain\'s deposits; go back to a copy of the store, or make it anew'):
+    for line in (
+            'wrong bodies: one of the chain is gone or is no deposit; go back to a copy of the '
+            'store, or make it anew',
+            'wrong tables: not those of the chain\'s deposits; go back to a copy of the store, or '
+            'make it anew'
+    ):
         if line not in tests.out.decode().splitlines():
             raise Failed(f'no line {line!r}')
 
 
 def test_a_registrar_that_is_not_there(stage):
     """A domain was created by a registrar that is not there, and another asked for its transfer."""
-    made = domains(f'a.example,R1,,{DATES},R9', fields=(*FIELDS, 'crRr'))
-    moving = Table('domainTransfer', 'domain', 'child', ('name', 'reRr', 'acRr'), b'b.example,R8,R1\n')
-    release_of((F1, body_of(F1, REGISTRARS, made, *CHILDREN)), (D2, body_of(D2, B, moving, domain=2))).rebuild(stage)
-    check_lines(stage, 'a.db', 1, "wrong registrars: 2 name a registrar that isn't there, by crRr, upRr, reRr or acRr; ask the agent for "
-                'it: domain a.example, domain b.example', end='2024-03-04T00:00:00Z DIFF')
+    made = domains(f'a.example,R1,,{DATES},D1-EX,R9', fields=(*FIELDS, 'crRr'))
+    moving = Table('domainTransfer', 'domain', 'child', ('name', 'reRr', 'acRr'),
+                   b'b.example,R8,R1\n')
+    release_of((F1, body_of(F1, REGISTRARS, made, *CHILDREN)),
+               (D2, body_of(D2, B, B_STATUS, moving, domain=2))).rebuild(stage)
+    check_lines(
+        stage, 'a.db', 1,
+        "wrong registrars: 2 name a registrar that isn't there, by crRr, upRr, reRr or acRr; ask "
+        "the agent for "
+        'it: domain a.example, domain b.example', end='2024-03-04T00:00:00Z DIFF')
 
 
 def test_a_name_of_a_domain_and_an_nndn(stage):
@@ -245,26 +311,140 @@ def test_a_name_of_a_domain_and_an_nndn(stage):
     nndns = Table('nndn', 'nndn', 'parent', ('aName', 'idnTableId'), b'A.example,\n')
     counts = dict.fromkeys(KINDS, 0) | {'registrar': 1, 'domain': 1, 'nndn': 1}
     release_of((F1, deposit(F1, (REGISTRARS, A, *CHILDREN, nndns), counts=counts))).rebuild(stage)
-    check_lines(stage, 'a.db', 1, "wrong nndns: 1 have a domain's name; ask the agent which the name is: nndn A.example")
+    check_lines(
+        stage, 'a.db', 1,
+        "wrong nndns: 1 have a domain's name; ask the agent which the name is: nndn A.example")
+
+
+def test_equal_roids(stage):
+    """Two domains have one ROID, which a host has too."""
+    host = Table('host', 'host', 'parent', ('name', 'roid', 'clID', 'crDate'),
+                 b'ns.a.example,D1-EX,R1,2020-01-01T00:00:00Z\n')
+    statuses = Table('hostStatuses', 'host', 'child', ('name', 'status'), b'ns.a.example,ok\n')
+    same = domains(f'a.example,R1,,{DATES},D1-EX', f'b.example,R1,,{DATES},D1-EX',
+                   f'c.example,R1,,{DATES},D3-EX')
+    of_all = Table('domainStatuses', 'domain', 'child', ('domainName', 'status'),
+                   b'a.example,ok\nb.example,ok\nc.example,ok\n')
+    counts = dict.fromkeys(KINDS, 0) | {'registrar': 1, 'host': 1, 'domain': 3}
+    release_of(
+        (F1, deposit(F1, (REGISTRARS, host, statuses, same, *CHILDREN[:2], of_all),
+                     counts=counts))).rebuild(stage)
+    check_lines(
+        stage, 'a.db', 0,
+        'told roids: 2 have a ROID that another of their kind has; ask the agent which has it: '
+        'domain a.example, '
+        'domain b.example', strict=1)
+
+
+def test_what_is_required(stage):
+    """A registrar has no name, a domain no ROID, another no status, a third an empty registrar; a
+    contact has no city."""
+    registrars = Table('registrar', 'registrar', 'parent', ('id', 'name', 'crDate'),
+                       b'R1,,2020-01-01T00:00:00Z\n')
+    contact = Table('contact', 'contact', 'parent', ('id', 'roid', 'clID', 'crDate'),
+                    b'C1,C1-EX,R1,2020-01-01T00:00:00Z\nC2,C2-EX,R1,2020-01-01T00:00:00Z\n')
+    statuses = Table('contactStatuses', 'contact', 'child', ('id', 'status'), b'C1,ok\nC2,ok\n')
+    postal = Table('contactPostal', 'contact', 'child', ('id', 'name', 'city', 'cc'),
+                   b'C1,Ann,,CH\nC2,Bo,Rome,IT\n')
+    lacking = domains(f'a.example,R1,,{DATES},D1-EX', f'b.example,R1,,{DATES},',
+                      f'c.example,R1,,{DATES},D3-EX', f'd.example,,,{DATES},D4-EX')
+    of_most = Table('domainStatuses', 'domain', 'child', ('domainName', 'status'),
+                    b'a.example,ok\nb.example,ok\nd.example,ok\n')
+    counts = dict.fromkeys(KINDS, 0) | {'registrar': 1, 'contact': 2, 'domain': 4}
+    tables = (registrars, contact, statuses, postal, lacking, *CHILDREN[:2], of_most)
+    release_of((F1, deposit(F1, tables, counts=counts))).rebuild(stage)
+    check_lines(
+        stage, 'a.db', 0,
+        'told required: 5 lack what RFC 9022 requires of them; `pack_rde` says what, ask the '
+        'agent for it: '
+        'registrar R1, contact C1, domain b.example, domain c.example, domain d.example', strict=1)
+
+
+def test_names_outside(stage):
+    """Of the names of a TLD one ends like it alone, one is of another, and an NNDN is the TLD
+    itself. Without a TLD all are within."""
+    names = domains(f'a.example,R1,,{DATES},D1-EX', f'b.test,R1,,{DATES},D2-EX',
+                    f'anexample,R1,,{DATES},D3-EX')
+    of_all = Table('domainStatuses', 'domain', 'child', ('domainName', 'status'),
+                   b'a.example,ok\nb.test,ok\nanexample,ok\n')
+    nndns = Table('nndn', 'nndn', 'parent', ('aName', 'idnTableId'), b'c.Example,\nexample,\n')
+    counts = dict.fromkeys(KINDS, 0) | {'registrar': 1, 'domain': 3, 'nndn': 2}
+    tables = (REGISTRARS, names, *CHILDREN[:2], of_all, nndns)
+    release_of((F1, deposit(F1, tables, counts=counts, tld='EXAMPLE'))).rebuild(stage)
+    check_lines(
+        stage, 'a.db', 0,
+        'told outside: 3 are not below the TLD; ask the agent why they are there: domain '
+        'anexample, domain b.test, '
+        'nndn example', tld='EXAMPLE', strict=1)
+    release_of((F1, deposit(F1, tables, counts=counts))).rebuild(stage, 'b.db')
+    check_lines(stage, 'b.db', 0)
+
+
+def test_digests(stage):
+    """DS with digests of the three types, and of another; the same a digit short, with a sign that
+    is none, and with numbers out of range; and a row without a DS."""
+    parts = {
+        'a': '1,8,1,' + '0aF9' * 10, 'b': '65535,255,2,' + 'A' * 64, 'c': '0,13,4,' + '1' * 96,
+        'd': '1,8,3,' + 'bB' * 32, 'e': ',,,', 'f': '1,8,1,' + 'a' * 39, 'g': '1,8,2,' + 'g' * 64,
+        'h': '65536,8,1,' + 'a' * 40, 'i': '1,256,1,' + 'a' * 40, 'j': '1,8,,' + 'a' * 40,
+        'k': '-1,8,1,' + 'a' * 40, 'l': '1,8,3,', 'm': '1,8,4,' + 'a' * 64
+    }
+    names = domains(*(f'{it}.example,R1,,{DATES},D{it}-EX' for it in parts))
+    of_all = Table('domainStatuses', 'domain', 'child', ('domainName', 'status'),
+                   ''.join(f'{it}.example,ok\n' for it in parts).encode())
+    signed = Table('secDNS', 'domain', 'child', ('name', 'keyTag', 'dsAlg', 'digestType', 'digest'),
+                   ''.join(f'{it}.example,{ds}\n' for it, ds in parts.items()).encode())
+    counts = dict.fromkeys(KINDS, 0) | {'registrar': 1, 'domain': len(parts)}
+    release_of((F1, deposit(F1, (REGISTRARS, names, *CHILDREN[:2], of_all, signed),
+                            counts=counts))).rebuild(stage)
+    wrong = ', '.join(f'domain {it}.example' for it in 'fghijklm')
+    check_lines(
+        stage, 'a.db', 0,
+        'told digests: 8 have a DS that is none, which a zone leaves out; ask the agent for it: '
+        f'{wrong}',
+        strict=1)
+
+
+def test_an_end_in_the_future(stage):
+    """The watermark of the chain's end is later than the clock's time."""
+    late = Header('F1', 'FULL', '2260-01-01T00:00:00Z')
+    release_of((late, full(late))).rebuild(stage)
+    check_lines(
+        stage, 'a.db', 1,
+        'wrong future: 2260-01-01T00:00:00Z FULL is later than now; set this machine\'s clock, or '
+        'ask the agent which '
+        'watermark it has', end='2260-01-01T00:00:00Z FULL')
 
 
 def test_a_moment(stage):
     """A moment is only told; --strict lets nothing be told."""
-    release_of((F1, full(F1)), (D2, body_of(D2, B, domain=2)), moment='2024-03-03T00:00:00Z').rebuild(stage)
-    check_lines(stage, 'a.db', 0, 'told moment: 2024-03-03T00:00:00Z is set, and what is later doesn\'t count; take it back by `restore '
-                'as-of` with `latest`', end='2024-03-03T00:00:00Z FULL, up to the moment 2024-03-03T00:00:00Z', strict=1)
+    release_of((F1, full(F1)), (D2, body_of(D2, B, B_STATUS, domain=2)),
+               moment='2024-03-03T00:00:00Z').rebuild(stage)
+    check_lines(
+        stage, 'a.db', 0,
+        'told moment: 2024-03-03T00:00:00Z is set, and what is later doesn\'t count; take it back '
+        'by `restore '
+        'as-of` with `latest`',
+        end='2024-03-03T00:00:00Z FULL, up to the moment 2024-03-03T00:00:00Z', strict=1)
 
 
 def test_notes(stage):
     """What was told when a bundle was made is told again, each text on one line."""
     release_of((F1, full(F1, notes=['unknown: eppParams 1', 'left\nout']))).rebuild(stage)
-    check_lines(stage, 'a.db', 0, "told notes: 2 in the chain's deposits, from when their bundles were made; each has a line below",
-                notes=('told note: unknown: eppParams 1', 'told note: left\\nout'), strict=1)
+    check_lines(
+        stage, 'a.db', 0,
+        "told notes: 2 in the chain's deposits, from when their bundles were made; each has a "
+        "line below",
+        notes=('told note: unknown: eppParams 1', 'told note: left\\nout'), strict=1)
 
 
 def test_an_early_arrival(stage):
     """Version 1 kept no body that no row listed."""
-    write_store(stage.at('a.db'), first_rows(manifest([(F1, full(F1))]), [('1', full(F1)), ('2', full(D2))]))
+    write_store(stage.at('a.db'),
+                first_rows(manifest([(F1, full(F1))]), [('1', full(F1)), ('2', full(D2))]))
     run(stage, 'migrate --store a.db')
-    check_lines(stage, 'a.db', 0, "told early: 1 arrivals of version 1 had no row, and their bodies weren't kept; take them again unless "
-                'they are held', strict=1)
+    check_lines(
+        stage, 'a.db', 0,
+        "told early: 1 arrivals of version 1 had no row, and their bodies weren't kept; take them "
+        "again unless "
+        'they are held', strict=1)

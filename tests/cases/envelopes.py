@@ -1,19 +1,33 @@
-"""Envelopes: what they say, and each fault of each member, seen by the deposits of their bundles."""
+"""Envelopes: what they say, and each fault of each member, seen by the deposits of their
+bundles."""
 import re
 from dataclasses import dataclass
 
-from support.bodies import bytes_of, line_of
-from support.bundles import ENVELOPE, SAMPLE, bundle_of, row_of, section
-from support.stage import case, compare
-from support.verdicts import C1, F1, check_faults, check_held, desk_over, reply_to
+from support.bodies import bytes_of
+from support.bodies import line_of
+from support.bundles import ENVELOPE
+from support.bundles import SAMPLE
+from support.bundles import bundle_of
+from support.bundles import row_of
+from support.bundles import section
+from support.stage import case
+from support.stage import compare
+from support.verdicts import C1
+from support.verdicts import F1
+from support.verdicts import check_faults
+from support.verdicts import check_held
+from support.verdicts import desk_over
+from support.verdicts import reply_to
 
 # A Differential without tables, on the worked body F5.
 COUNTED = (b'{"id":"D6","type":"DIFF","prevId":"F5","resend":2,"watermark":"2024-03-11T00:00:00Z",'
            b'"counts":{"domain":3,"host":0,"registrar":1}}')
-# How the latest chain ends with F5 alone, and with both: the watermark, and how many objects there are.
+# How the latest chain ends with F5 alone, and with both: the watermark, and how many objects there
+# are.
 F5_ALONE = '2024-03-10T00:00:00Z\n'
 BOTH = '2024-03-11T00:00:00Z\nregistrar 1\nhost 0\ndomain 3\n'
-# The row of the Differential, and rows that differ from it in one value: what it is answered, and how the chain ends then.
+# The row of the Differential, and rows that differ from it in one value: what it is answered, and
+# how the chain ends then.
 ROWS = (
     ('D6,DIFF,2024-03-11T00:00:00Z,F5,2', 'A1,,D6,2,new,0', BOTH),
     ('D7,DIFF,2024-03-11T00:00:00Z,F5,2', 'A4,,D7,2,,', F5_ALONE),
@@ -25,9 +39,18 @@ ROWS = (
 
 
 def table(**other):
-    """The declaration of a table, with other values for some of its members. None is a member that isn't there."""
-    members = {'name': '"h"', 'kind': '"host"', 'role': '"parent"', 'key': '"a"', 'fields': '["a"]', 'file': '"f"'} | other
-    return '{%s}' % ','.join(f'"{name}":{value}' for name, value in members.items() if value is not None)
+    """The declaration of a table, with other values for some of its members. None is a member that
+    isn't there."""
+    members = {
+        'name': '"h"',
+        'kind': '"host"',
+        'role': '"parent"',
+        'key': '"a"',
+        'fields': '["a"]',
+        'file': '"f"'
+    } | other
+    return '{%s}' % ','.join(f'"{name}":{value}'
+                             for name, value in members.items() if value is not None)
 
 
 def contents(*tables):
@@ -40,8 +63,9 @@ def deletes(*tables):
 
 @dataclass(frozen=True)
 class Read:
-    """Members that follow a correct header (of a name that occurs twice the last counts), and what is read: the objects, the resend, and
-    how many objects it says there are. The file f has the row f, and g the row g."""
+    """Members that follow a correct header (of a name that occurs twice the last counts), and what
+    is read: the objects, the resend, and how many objects it says there are. The file f has the row
+    f, and g the row g."""
     members: str
     objects: tuple = ()
     resend: int = 0
@@ -49,41 +73,82 @@ class Read:
 
 
 READ = (
-    Read(''), Read(',"tld":1'), Read(',"prevId":null'), Read(',"prevId":""'), Read(',"prevId":"F1"'), Read(',"resend":null'),
-    Read(',"resend":999999', resend=999_999), Read(',"counts":{}'), Read(',"counts":{"domains":-1}'), Read(contents()),
+    Read(''),
+    Read(',"tld":1'),
+    Read(',"prevId":null'),
+    Read(',"prevId":""'),
+    Read(',"prevId":"F1"'),
+    Read(',"resend":null'),
+    Read(',"resend":999999', resend=999_999),
+    Read(',"counts":{}'),
+    Read(',"counts":{"domains":-1}'),
+    Read(contents()),
     Read(',"counts":{"domain":18446744073709551615}', counts=('domain 18446744073709551615',)),
-    Read(contents(table(), table(name='"i"', kind='"domain"', file='"g"')), ('host f: h a=f', 'domain g: i a=g')),
+    Read(contents(table(), table(name='"i"', kind='"domain"', file='"g"')),
+         ('host f: h a=f', 'domain g: i a=g')),
     Read(contents(table()) + deletes(table(file='"g"')), ('host f: h a=f',)),
     Read(deletes(table(), table(name='"i"', file='"g"'))),
 )
 # Members, by the fault.
 REFUSED = {
     'U5': [',"resend":01'],
-    'U6': [',"id":null', ',"id":7', ',"id":""', ',"id":"a b"', ',"type":null', ',"type":"full"', ',"type":[]', ',"watermark":null',
-           ',"watermark":1709424000', ',"watermark":"2024-03-03"', ',"prevId":"a b"', ',"prevId":1', ',"resend":1000000', ',"resend":1.0',
-           ',"resend":1e0', ',"resend":-0', ',"resend":"1"', ',"counts":null', ',"counts":[]', ',"counts":{"domain":18446744073709551616}',
-           ',"counts":{"domain":null}', ',"counts":{"domain":1,"domain":-1}', ',"contents":null', ',"contents":{}', ',"deletes":null',
-           contents('1') + ',"deletes":1'],
-    'U7': [contents('1'), contents('{}'),
-           *(contents(table(**it)) for it in (
-               {'name': None}, {'name': '"a.b"'}, {'kind': '"hosts"'}, {'role': 'null'}, {'key': '"b"'}, {'fields': '[]'},
-               {'fields': '["a","a"]'}, {'fields': '["a","b c"]'}, {'fields': '["a",1]'}, {'file': None})),
-           contents(table(), table(role='"child"', file='"g"')), contents(table(), table(name='"i"', file='"g"')),
-           deletes(table(role='"child"', file='"g"')), deletes(table(), table(kind='"idn"', file='"g"'))],
+    'U6': [
+        ',"id":null', ',"id":7', ',"id":""', ',"id":"a b"', ',"type":null', ',"type":"full"',
+        ',"type":[]', ',"watermark":null', ',"watermark":1709424000', ',"watermark":"2024-03-03"',
+        ',"prevId":"a b"', ',"prevId":1', ',"resend":1000000', ',"resend":1.0', ',"resend":1e0',
+        ',"resend":-0', ',"resend":"1"', ',"counts":null', ',"counts":[]',
+        ',"counts":{"domain":18446744073709551616}', ',"counts":{"domain":null}',
+        ',"counts":{"domain":1,"domain":-1}', ',"contents":null', ',"contents":{}',
+        ',"deletes":null',
+        contents('1') + ',"deletes":1'
+    ],
+    'U7': [
+        contents('1'),
+        contents('{}'), *(contents(table(**it)) for it in ({
+            'name': None
+        }, {
+            'name': '"a.b"'
+        }, {
+            'kind': '"hosts"'
+        }, {
+            'role': 'null'
+        }, {
+            'key': '"b"'
+        }, {
+            'fields': '[]'
+        }, {
+            'fields': '["a","a"]'
+        }, {
+            'fields': '["a","b c"]'
+        }, {
+            'fields': '["a",1]'
+        }, {
+            'file': None
+        })),
+        contents(table(), table(role='"child"', file='"g"')),
+        contents(table(), table(name='"i"', file='"g"')),
+        deletes(table(role='"child"', file='"g"')),
+        deletes(table(), table(kind='"idn"', file='"g"'))
+    ],
 }
 # Texts without a correct header, by the fault.
 NO_HEADERS = {
     'U5': [b'', b'{} {}', b'"\xff"', b'\xef\xbb\xbf{}'],
-    'U6': [b'[]', b'{"type":"FULL","watermark":"2024-03-03T00:00:00Z"}', b'{"id":"F1","watermark":"2024-03-03T00:00:00Z"}',
-           b'{"id":"F1","type":"FULL"}'],
+    'U6': [
+        b'[]', b'{"type":"FULL","watermark":"2024-03-03T00:00:00Z"}',
+        b'{"id":"F1","watermark":"2024-03-03T00:00:00Z"}', b'{"id":"F1","type":"FULL"}'
+    ],
 }
 
 
 def body_of(members, row=None):
-    """The bundle of an envelope with these members after a correct header. Each file that they name has one row: its name, or this."""
+    """The bundle of an envelope with these members after a correct header. Each file that they name
+    has one row: its name, or this."""
     files = dict.fromkeys(re.findall('"file":"([a-z])"', members))
     sections = b''.join(section(it, f'{row or it}\n'.encode()) for it in files)
-    return bundle_of(f'{{"id":"F1","type":"FULL","watermark":"2024-03-03T00:00:00Z"{members}}}'.encode(), sections)
+    return bundle_of(
+        f'{{"id":"F1","type":"FULL","watermark":"2024-03-03T00:00:00Z"{members}}}'.encode(),
+        sections)
 
 
 def body_of_fields(names):
@@ -108,17 +173,22 @@ def test_members_that_are_read(stage):
     """Members that an envelope may have."""
     for it in READ:
         said = F1.removesuffix('0') + str(it.resend)
-        check_held(stage, f'an envelope with {it.members!r}', body_of(it.members), it.objects, said, counts=it.counts)
+        check_held(stage, f'an envelope with {it.members!r}', body_of(it.members), it.objects, said,
+                   counts=it.counts)
 
 
 def test_members_that_are_refused(stage):
     """Members of other forms, and texts that are no envelope, are refused."""
-    check_faults(stage, [(f'an envelope with {it}', body_of(it), fault) for fault, members in REFUSED.items() for it in members]
-                 + [(f'the envelope {it}', bundle_of(it), fault) for fault, texts in NO_HEADERS.items() for it in texts])
+    check_faults(stage, [(f'an envelope with {it}', body_of(it), fault)
+                         for fault, members in REFUSED.items()
+                         for it in members] + [(f'the envelope {it}', bundle_of(it), fault)
+                                               for fault, texts in NO_HEADERS.items()
+                                               for it in texts])
 
 
 def test_the_fields_of_a_table(stage):
     """As many fields as a table may have, and one more."""
     names = ['a', *(f'b{at}' for at in range(64))]
-    check_held(stage, '64 fields', body_of_fields(names[:64]), [f'host in a: h {" ".join(f"{it}=in {it}" for it in names[:64])}'])
+    check_held(stage, '64 fields', body_of_fields(names[:64]),
+               [f'host in a: h {" ".join(f"{it}=in {it}" for it in names[:64])}'])
     check_faults(stage, [('65 fields', body_of_fields(names), 'U7')])

@@ -1,27 +1,56 @@
-"""`handover bundle`: registries that are rebuilt from their tables as one deposit; and the refusals of all commands of `handover`, after
-which nothing is left behind."""
-import contextlib, functools, os, shutil, sqlite3
+"""`handover bundle`: registries that are rebuilt from their tables as one deposit; and the refusals
+of all commands of `handover`, after which nothing is left behind."""
+import contextlib
+import functools
+import os
+import shutil
+import sqlite3
 
 from support import formats
-from support.bundles import Header, Table, deposit, manifest
+from support.bundles import Header
+from support.bundles import Table
+from support.bundles import deposit
+from support.bundles import manifest
 from support.files import read
 from support.flawed import some_release
-from support.formats import KINDS, envelope_in, record
-from support.outputs import no_longer_files, run_held_up
-from support.releases import SAMPLES, Release, numbered, sample
+from support.formats import KINDS
+from support.formats import envelope_in
+from support.formats import record
+from support.limits import MOST_BYTES
+from support.outputs import no_longer_files
+from support.outputs import run_held_up
+from support.releases import SAMPLES
+from support.releases import Release
+from support.releases import numbered
+from support.releases import sample
 from support.reports import report
-from support.stage import Failed, Wanted, case, compare, compare_all
-from support.steps import Copy, FirstStore, Folder, Link, Statements, Text
-from support.stores import EMPTY_LOG, change_row, opened, run
+from support.stage import Failed
+from support.stage import Wanted
+from support.stage import case
+from support.stage import compare
+from support.stage import compare_all
+from support.steps import Copy
+from support.steps import FirstStore
+from support.steps import Folder
+from support.steps import Link
+from support.steps import Statements
+from support.steps import Text
+from support.stores import EMPTY_LOG
+from support.stores import change_row
+from support.stores import opened
+from support.stores import run
 
-CHECK, BUNDLE, TABLES, PAGE = 'check --store a.db', 'bundle --store a.db --id G1 out', 'tables --store a.db out', 'page --store a.db out'
+CHECK, BUNDLE = 'check --store a.db', 'bundle --store a.db --id G1 out'
+TABLES, PAGE = 'tables --store a.db out', 'page --store a.db out'
 # More bytes than a log has, and fewer than what is made of a registry.
 SHORT = 100
 
 
 def names_in(folder):
     """The paths of all that is in a folder."""
-    return sorted(os.path.relpath(f'{at}/{name}', folder) for at, *names in os.walk(folder) for name in sum(names, []))
+    return sorted(
+        os.path.relpath(f'{at}/{name}', folder) for at, *names in os.walk(folder)
+        for name in sum(names, []))
 
 
 def clear(stage):
@@ -41,44 +70,60 @@ def rebuild_in_parts(stage):
 
 
 # How stores are rebuilt that are handed over.
-REBUILT = {name: it.rebuild for name, it in SAMPLES.items()} | {'the release in parts': rebuild_in_parts} | {
-    f'the release of seed {seed}': lambda stage, seed=seed: some_release(seed).rebuild(stage) for seed in range(4)}
+REBUILT = {name: it.rebuild
+           for name, it in SAMPLES.items()} | {'the release in parts': rebuild_in_parts} | {
+               f'the release of seed {seed}':
+               lambda stage, seed=seed: some_release(seed).rebuild(stage)
+               for seed in range(4)
+           }
 
 
 def check_there_and_back(stage, rebuild, *given):
-    """A registry that is rebuilt so is bundled, and rebuilt from that bundle alone: each export is the same, and so is the bundle of
-    that."""
+    """A registry that is rebuilt so is bundled, and rebuilt from that bundle alone: each export is
+    the same, and so is the bundle of that."""
     rebuild(stage, *given)
     Folder('next').do(stage)
     run(stage, 'bundle --store a.db --id G1 next/n1', 'handover')
     compare('files', 'n1', ' '.join(os.listdir(stage.at('next'))))
     body = read(stage.at('next/n1'))
-    # The plain reader finds in it a Full of the chain's end that has the store's objects and says how many there are, and no other rows.
-    end = dict(it.split(' ', 1) for it in run(stage, 'report --store a.db status').decode().splitlines())['end'].split()[0]
+    # The plain reader finds in it a Full of the chain's end that has the store's objects and says
+    # how many there are, and no other rows.
+    end = dict(
+        it.split(' ', 1)
+        for it in run(stage, 'report --store a.db status').decode().splitlines())['end'].split()[0]
     with opened(stage.at('a.db')) as database:
-        objects = {(KINDS[kind], key): it for kind, key, it in database.execute('SELECT kind, key, record FROM object')}
+        objects = {(KINDS[kind], key): it
+                   for kind, key, it in database.execute('SELECT kind, key, record FROM object')}
     found = formats.deposit(body)
-    compare('header', f'G1 {end} FULL None 0', f'{found.name} {formats.place_text(found.place)} {found.prev} {found.resend}')
-    compare('counts', f'{ {kind: sum(it[0] == kind for it in objects) for kind in KINDS} }', f'{found.counts}')
+    compare('header', f'G1 {end} FULL None 0',
+            f'{found.name} {formats.place_text(found.place)} {found.prev} {found.resend}')
+    compare('counts', f'{ {kind: sum(it[0] == kind for it in objects) for kind in KINDS} }',
+            f'{found.counts}')
     if found.orphans or found.deletes or found.says != objects:
         raise Failed('the bundle has other objects')
     stage.write('next.csv', run(stage, 'manifest next/n1', 'pack'))
     stage.check('init --store b.db --manifest next.csv', Wanted(0, 'listed 1\n'))
     stage.check('take --store b.db next', Wanted(0, report('receipts', ['1,n1,A1,,G1,0,new,0'])))
     for kind in KINDS:
-        compare(f'export of {kind}', *(run(stage, f'export --store {store} {kind}').decode() for store in ('a.db', 'b.db')))
+        compare(
+            f'export of {kind}',
+            *(run(stage, f'export --store {store} {kind}').decode() for store in ('a.db', 'b.db')))
     run(stage, 'bundle --store b.db --id G1 again', 'handover')
     if read(stage.at('again')) != body:
         raise Failed('the bundle of the registry that was rebuilt is another one')
 
 
-CASES = {f'There and back: {name}': functools.partial(check_there_and_back, rebuild=it) for name, it in REBUILT.items()}
+CASES = {
+    f'There and back: {name}': functools.partial(check_there_and_back, rebuild=it)
+    for name, it in REBUILT.items()
+}
 
 
 # ---- tables that are or aren't one deposit
 
 # A Full, a Differential on it, and a later revision of that.
-HEADERS = (Header('F1', 'FULL', '2024-03-03T00:00:00Z'), Header('D2', 'DIFF', '2024-03-04T00:00:00Z', 'F1'))
+HEADERS = (Header('F1', 'FULL',
+                  '2024-03-03T00:00:00Z'), Header('D2', 'DIFF', '2024-03-04T00:00:00Z', 'F1'))
 D2_LATER = HEADERS[1]._replace(resend=1)
 
 
@@ -103,11 +148,13 @@ def release_of(*contents):
 
 def store_of(stage, *contents):
     release_of(*contents).rebuild(stage)
-    compare('held', f'held {len(contents)}', run(stage, 'report --store a.db status').decode().splitlines()[1])
+    compare('held', f'held {len(contents)}',
+            run(stage, 'report --store a.db status').decode().splitlines()[1])
 
 
 def check_refused(stage, refusal, line=BUNDLE, status=1, kept=('a.db',), **given):
-    """Compares a refusal, after which the folder has what it had and the store's log, and these files are as they were."""
+    """Compares a refusal, after which the folder has what it had and the store's log, and these
+    files are as they were."""
     names, before = {*names_in(stage.room.name), 'a.db-wal'}, [read(stage.at(it)) for it in kept]
     stage.check(line, Wanted(status, '', f'{refusal}\n'), program='handover', **given)
     compare_all(f'$ handover {line}\nfiles', sorted(names), names_in(stage.room.name))
@@ -125,8 +172,11 @@ REFUSED = (
     # The same fields in another order.
     ('H4 contact', (FIRST,), (contacts(b'X2,C2\n', ('roid', 'id'), 'id'),)),
     # One name for tables of two kinds, and for a parent and a child table.
-    ('H4 more', (FIRST, CHILD), (HOST, Table('more', 'host', 'child', ('id', 'text'), b'ns1.example,x\n'))),
-    ('H4 contact', (FIRST,), (contacts(b'C2,X2\n', name='people'), contacts(b'C2,X2\n', role='child'))),
+    ('H4 more', (FIRST, CHILD), (HOST,
+                                 Table('more', 'host', 'child', ('id', 'text'),
+                                       b'ns1.example,x\n'))),
+    ('H4 contact', (FIRST,), (contacts(b'C2,X2\n',
+                                        name='people'), contacts(b'C2,X2\n', role='child'))),
     # The key is in one field here, and in another one there.
     ('H5 contact', (FIRST,), (contacts(b'X2,C2\n', key='roid'),)),
     ('H5 more', (FIRST, CHILD), (contacts(b'C2,X2\n'), children(b'x,C2\n', key='text'))),
@@ -169,11 +219,13 @@ def check_contents_refused(stage, refusal, *contents, lines=(BUNDLE,)):
 
 
 CASES['Tables that are no one deposit'] = played_apart(check_contents_refused, REFUSED)
-CASES['Tables that are one deposit'] = played_apart(check_there_and_back, [(store_of, *it) for it in TAKEN])
+CASES['Tables that are one deposit'] = played_apart(check_there_and_back,
+                                                    [(store_of, *it) for it in TAKEN])
 
 
 def check_limit(stage, refusal, first, second, later):
-    """Compares that a Full and a Differential make a deposit, and that with a later revision, which has more, they don't."""
+    """Compares that a Full and a Differential make a deposit, and that with a later revision, which
+    has more, they don't."""
     store_of(stage, first, second)
     run(stage, BUNDLE, 'handover')
     os.rename(stage.at('out'), stage.at('done'))
@@ -189,16 +241,23 @@ def check_limit(stage, refusal, first, second, later):
 def test_most_tables(stage):
     """A bundle has 63 tables at most."""
     def some(key, front, count):
-        return [contacts(f'{key},X\n'.encode()), *(children(f'{key},x\n'.encode(), f'{front}{at}') for at in range(count))]
+        return [
+            contacts(f'{key},X\n'.encode()),
+            *(children(f'{key},x\n'.encode(), f'{front}{at}') for at in range(count))
+        ]
 
-    body = check_limit(stage, 'U4 out', some('C1', 'a', 40), some('C2', 'b', 22), some('C2', 'b', 23))
+    body = check_limit(stage, 'U4 out', some('C1', 'a', 40), some('C2', 'b', 22),
+                       some('C2', 'b', 23))
     compare('tables', '63', f'{len(envelope_in(body)["contents"])}')
 
 
 def test_most_rows(stage):
     """A bundle has 100,000 rows at most."""
     def some(key, count):
-        return [contacts(f'{key},X\n'.encode()), children(f'{key}\n'.encode() * count, fields=('id',))]
+        return [
+            contacts(f'{key},X\n'.encode()),
+            children(f'{key}\n'.encode() * count, fields=('id',))
+        ]
 
     body = check_limit(stage, 'U11 out', some('C1', 50_000), some('C2', 49_998), some('C2', 49_999))
     compare('rows', '100000', f'{sum(text.count(10) for _, text in formats.sections(body)[1:])}')
@@ -209,19 +268,20 @@ def test_most_bytes(stage):
     def some(key, count):
         return [contacts(f'{key},{count * "x"}\n'.encode(), ('id', 'text'))]
 
-    # The length of a bundle with texts of 10,000,000 bytes gives that of the second text with which it is as long as it may be: the numbers
-    # in it have as many digits.
+    # The length of a bundle with texts of 10,000,000 bytes gives that of the second text with which
+    # it is as long as it may be: the numbers in it have as many digits.
     first, second = 9_000_000, 1_000_000
     store_of(stage, some('C1', first), some('C2', second))
     run(stage, BUNDLE, 'handover')
-    last = second + formats.MOST_BYTES - os.path.getsize(stage.at('out'))
+    last = second + MOST_BYTES - os.path.getsize(stage.at('out'))
     clear(stage)
     body = check_limit(stage, 'U4 out', some('C1', first), some('C2', last), some('C2', last + 1))
-    compare('bytes', f'{formats.MOST_BYTES}', f'{len(body)}')
+    compare('bytes', f'{MOST_BYTES}', f'{len(body)}')
 
 
 def test_other_objects(stage):
-    """A bundle that reads as other objects than those of the store, which no deposit makes, is none."""
+    """A bundle that reads as other objects than those of the store, which no deposit makes, is
+    none."""
     store_of(stage, (FIRST, CHILD))
     rows = [('contact', [('id', 'C1')]), *((it, [('id', 'C1')]) for it in ('b', 'a'))]
     change_row(stage, 'a.db', 'UPDATE object SET record = ? WHERE key = ?', (record(rows), b'C1'))
@@ -232,26 +292,32 @@ def test_other_objects(stage):
 
 # What stands in a store's place, the refusal, and whether it is opened as a database.
 OTHERS = (
-    (Copy('a.db', 'no-database.txt'), 'S1', True), (Text('a.db', ''), 'S3', True),
+    (Copy('a.db', 'no-database.txt'), 'S1', True),
+    (Text('a.db', ''), 'S3', True),
     (Statements('a.db', 'CREATE TABLE note (id INTEGER PRIMARY KEY)'), 'S3', True),
     # A store of version 1.
     (FirstStore('a.db', 'first.csv', (('n1', 'f1.bundle'),)), 'S3', True),
     # A folder, a link to nothing, and nothing.
-    (Folder('a.db'), 'E1 a.db', False), (Link('a.db', 'absent.db'), 'S3', False), (Folder('more'), 'S3', False),
+    (Folder('a.db'), 'E1 a.db', False),
+    (Link('a.db', 'absent.db'), 'S3', False),
+    (Folder('more'), 'S3', False),
 )
 
 
 def check_no_store(stage, line, made, refusal, is_opened):
-    """Compares a refusal of what is no store, which stays as it is, beside an empty log. An empty file is a database without tables then."""
+    """Compares a refusal of what is no store, which stays as it is, beside an empty log. An empty
+    file is a database without tables then."""
     made.do(stage)
-    names, before = {*names_in(stage.room.name), *(['a.db-wal'] if is_opened else [])}, read(stage.at('a.db')) if is_opened else b''
+    names, before = {*names_in(stage.room.name), *(['a.db-wal'] if is_opened else [])
+                     }, read(stage.at('a.db')) if is_opened else b''
     stage.check(line, Wanted(3, '', f'{refusal}\n'), program='handover')
     compare_all('files', sorted(names), names_in(stage.room.name))
     if before and (len(read(stage.at('a.db-wal'))) > EMPTY_LOG or read(stage.at('a.db')) != before):
         raise Failed('a file is changed')
     if is_opened and not before:
         with contextlib.closing(sqlite3.connect(stage.at('a.db'))) as database:
-            compare('tables', '[]', f'{database.execute("SELECT name FROM sqlite_master").fetchall()}')
+            compare('tables', '[]',
+                    f'{database.execute("SELECT name FROM sqlite_master").fetchall()}')
 
 
 CASES['What is no store is refused, and nothing is made but a log'] = played_apart(
@@ -265,8 +331,10 @@ def test_a_store_that_is_in_use(stage):
             check_refused(stage, 'S1', line, 3)
 
     store_of(stage, (FIRST,))
-    take, receipts = 'take --store a.db a.db-deposits', report('receipts', ['1,0000,A1,,F1,0,new,0'])
-    stage.compare(take, Wanted(0, receipts), run_held_up(stage, take, len(report('receipts')), meanwhile))
+    take, receipts = 'take --store a.db a.db-deposits', report('receipts',
+                                                               ['1,0000,A1,,F1,0,new,0'])
+    stage.compare(take, Wanted(0, receipts),
+                  run_held_up(stage, take, len(report('receipts')), meanwhile))
     run(stage, BUNDLE, 'handover')
 
 
@@ -281,13 +349,15 @@ def test_a_body_that_is_no_bundle(stage):
 def test_where_nothing_is_written(stage):
     """A bundle or a page that can't be written, or whose place is taken."""
     store_of(stage, (FIRST,))
-    for made in (Folder('folder'), Text('file', 'text'), Link('link', 'nowhere'), Link('store', 'a.db'), Text('beside.part', 'text')):
+    for made in (Folder('folder'), Text('file', 'text'), Link('link', 'nowhere'),
+                 Link('store', 'a.db'), Text('beside.part', 'text')):
         made.do(stage)
     for line in (BUNDLE, PAGE):
-        for target in ('folder', 'file', 'link', 'store', 'beside', 'a.db', 'absent/out', 'file/out', ''):
+        for target in ('folder', 'file', 'link', 'store', 'beside', 'a.db', 'absent/out',
+                       'file/out', ''):
             with case(f'at {target!r}'):
-                check_refused(stage, f'E1 {target or "(an empty path)"}', line, 3, ['a.db', 'file', 'beside.part'],
-                              words=[*line.split()[:-1], target])
+                check_refused(stage, f'E1 {target or "(an empty path)"}', line, 3,
+                              ['a.db', 'file', 'beside.part'], words=[*line.split()[:-1], target])
         with case('a file that is too long'):
             check_refused(stage, 'E1 out', line, 3, prepare=no_longer_files(SHORT))
     with open('/dev/full', 'wb') as full:
@@ -295,7 +365,8 @@ def test_where_nothing_is_written(stage):
 
 
 def test_progress(stage):
-    """How far the work is stands on standard error, if it is asked for: of a short one that it begins, of files that they are written."""
+    """How far the work is stands on standard error, if it is asked for: of a short one that it
+    begins, of files that they are written."""
     store_of(stage, (FIRST, CHILD))
     lines = run(stage, CHECK, 'handover', (1,)).decode()
     stage.check(f'{CHECK} --progress', Wanted(1, lines, 'opening a.db\n'), program='handover')
@@ -303,20 +374,29 @@ def test_progress(stage):
     for line in (BUNDLE, 'page --store a.db page'):
         stage.check(f'{line} --progress', Wanted(0, '', 'opening a.db\n'), program='handover')
     check_refused(stage, 'opening a.db\nE1 out', f'{BUNDLE} --progress', 3)
-    files = [*(f'{it}.csv' for it in 'registrar contact more host domain idn nndn'.split()), 'registry.sqlite']
+    files = [
+        *(f'{it}.csv' for it in 'registrar contact more host domain idn nndn'.split()),
+        'registry.sqlite'
+    ]
     told = ''.join(f'{it}: written\n' for it in files)
-    stage.check('tables --store a.db --progress --sqlite files', Wanted(0, '', f'opening a.db\n{told}'), program='handover')
-    stage.check('tables --store a.db --progress files', Wanted(3, '', 'E1 files\n'), program='handover')
+    stage.check('tables --store a.db --progress --sqlite files',
+                Wanted(0, '', f'opening a.db\n{told}'), program='handover')
+    stage.check('tables --store a.db --progress files', Wanted(3, '', 'E1 files\n'),
+                program='handover')
 
 
 # Words that are no command. The last one has a byte that is no UTF-8.
-NO_WORDS = (
-    '', 'check', 'check --store', 'check --store a.db more', 'check --store a.db --store a.db', 'check --store a.db --id G1',
-    'Check --store a.db', '--store a.db check', 'rows --store a.db out', 'bundle --store a.db', 'bundle --store a.db --id G1',
-    'bundle --store a.db out', 'bundle --id G1 out', 'bundle --store a.db --id G1 out more', 'bundle --store a.db --id G1 --all out', 'page',
-    'page --store a.db', 'page out', 'page --store a.db out more', 'page --store a.db --id G1 out', 'tables', 'tables --store a.db',
-    'tables out', 'tables --store a.db out more', 'tables --store a.db --sqlite=yes out', 'tables --store a.db --sqlite --sqlite out',
-    'tables --store a.db --Sqlite out', 'tables --store a.db --id G1 out', 'tables --progress out', 'bundle --store a.db --id G1 \udcff')
+NO_WORDS = ('', 'check', 'check --store', 'check --store a.db more',
+            'check --store a.db --store a.db', 'check --store a.db --id G1', 'Check --store a.db',
+            '--store a.db check', 'rows --store a.db out', 'bundle --store a.db',
+            'bundle --store a.db --id G1', 'bundle --store a.db out', 'bundle --id G1 out',
+            'bundle --store a.db --id G1 out more', 'bundle --store a.db --id G1 --all out', 'page',
+            'page --store a.db', 'page out', 'page --store a.db out more',
+            'page --store a.db --id G1 out', 'tables', 'tables --store a.db', 'tables out',
+            'tables --store a.db out more', 'tables --store a.db --sqlite=yes out',
+            'tables --store a.db --sqlite --sqlite out', 'tables --store a.db --Sqlite out',
+            'tables --store a.db --id G1 out', 'tables --progress out',
+            'bundle --store a.db --id G1 \udcff')
 
 
 def test_words(stage):
@@ -328,6 +408,7 @@ def test_words(stage):
     compare_all('files', names, names_in(stage.room.name))
     for name in ('', 'a' * 65, 'G/1', 'G1\n', 'é'):
         check_refused(stage, 'U6 out', words=['bundle', '--store', 'a.db', '--id', name, 'out'])
-    stage.check('an id of 64 letters', Wanted(), ['bundle', '--store', 'a.db', '--id', 'aZ09._-'.ljust(64, 'a'), 'out'], 'handover')
+    stage.check('an id of 64 letters', Wanted(),
+                ['bundle', '--store', 'a.db', '--id', 'aZ09._-'.ljust(64, 'a'), 'out'], 'handover')
     if read(stage.at('a.db')) != before:
         raise Failed('the store is changed')

@@ -1,27 +1,43 @@
-"""Random lists of events over desks, against the plain model: each answer, and the whole state whenever the store is closed.
+"""Random lists of events over desks, against the plain model: each answer, and the whole state
+whenever the store is closed.
 
-Some desks are given the events one by one, others all of them in one call. Some stores are of version 1: each is migrated, and then
-the events come, many of them arrivals that version 1 answered."""
-import contextlib, functools
+Some desks are given the events one by one, others all of them in one call. Some stores are of
+version 1: each is migrated, and then the events come, many of them arrivals that version 1
+answered."""
+import contextlib
+import functools
 
-from support.first_store import first_rows, first_script
-from support.formats import Refused, manifest
+from support.first_store import first_rows
+from support.first_store import first_script
+from support.formats import Refused
+from support.formats import manifest
 from support.harness import Harness
 from support.model import Desk
 from support.reports import report
-from support.stage import case, text_of
-from support.telling import answer, state
-from support.universe import History, draw_arrival, draw_event, draw_first, draw_history, drawn, manifest_text
+from support.stage import case
+from support.stage import text_of
+from support.telling import answer
+from support.telling import state
+from support.universe import Chance
+from support.universe import History
+from support.universe import draw_arrival
+from support.universe import draw_event
+from support.universe import draw_first
+from support.universe import draw_history
+from support.universe import drawn
+from support.universe import manifest_text
 
 # How many lists a case plays, each of a seed.
 LISTS = 25
-# How many events a list has that is played one by one, that is played in one call, or that follows a migration.
+# How many events a list has that is played one by one, that is played in one call, or that follows
+# a migration.
 EVENTS, RUN_EVENTS, LATER_EVENTS = 18, 24, 16
 
 
-def draw_migrated(seed, closes):
-    """The list of a seed after a migration. In one of three cases an event is an early one again."""
-    chance, bodies, rows = drawn(seed)
+def draw_migrated(chance, closes):
+    """A list after a migration. In one of three cases an event is an early one
+    again."""
+    bodies, rows = drawn(chance)
     # Rows that make a manifest: one that is listed first, and some more.
     listed = [draw_first(chance, rows)]
     for _ in range(chance.below(6)):
@@ -34,7 +50,8 @@ def draw_migrated(seed, closes):
         history.early.append(draw_arrival(chance, bodies, history.early))
     for _ in range(LATER_EVENTS):
         again = chance.is_one_in(3)
-        history.events.append(chance.one_of(history.early) if again else draw_event(chance, bodies, rows, history, closes))
+        history.events.append(chance.one_of(history.early) if again else
+                              draw_event(chance, bodies, rows, history, closes))
     return history
 
 
@@ -45,10 +62,12 @@ class Play:
         self.stage, self.desk = stage, desk
         for name, content in history.files.items():
             stage.write(name, content)
-        arrivals = [(number, history.files[body]) for _, number, body in map(str.split, history.early)]
+        arrivals = [(number, history.files[body])
+                    for _, number, body in map(str.split, history.early)]
         self.model = Desk(history.files['first.csv'], early=arrivals)
         if arrivals:
-            stage.write('first.sql', first_script(first_rows(history.files['first.csv'], arrivals)).encode())
+            stage.write('first.sql',
+                        first_script(first_rows(history.files['first.csv'], arrivals)).encode())
             desk.check('script first.sql', '')
             desk.check('migrate', 'migrated\n')
         else:
@@ -80,19 +99,24 @@ class Play:
 def play_all(stage, play, draw, first):
     """Plays the lists of some seeds, each over a desk of its own."""
     for seed in range(first, first + LISTS):
-        history = draw(seed, closes=play == Play.one_by_one)
+        history = draw(Chance.of_seed(seed), closes=play == Play.one_by_one)
         with case(f'the list of seed {seed}:\n{history.shown()}'), Harness(stage) as desk:
             play(Play(stage, desk, history), history.events)
 
 
 DRAW, DRAW_RUN = (functools.partial(draw_history, count=count) for count in (EVENTS, RUN_EVENTS))
-CASES = {title: functools.partial(play_all, play=play, draw=draw, first=first) for title, play, draw, first in (
-    ('Lists of the first seeds', Play.one_by_one, DRAW, 0),
-    ('Lists of the second seeds', Play.one_by_one, DRAW, 100),
-    ('Lists of the third seeds', Play.one_by_one, DRAW, 200),
-    ('Runs of the first seeds', Play.in_one_call, DRAW_RUN, 1000),
-    ('Runs of the second seeds', Play.in_one_call, DRAW_RUN, 1100),
-    ('Lists of the first seeds over stores that were migrated', Play.one_by_one, draw_migrated, 2000),
-    ('Lists of the second seeds over stores that were migrated', Play.one_by_one, draw_migrated, 2100),
-    ('Runs over stores that were migrated', Play.in_one_call, draw_migrated, 2200),
-)}
+CASES = {
+    title: functools.partial(play_all, play=play, draw=draw, first=first)
+    for title, play, draw, first in (
+        ('Lists of the first seeds', Play.one_by_one, DRAW, 0),
+        ('Lists of the second seeds', Play.one_by_one, DRAW, 100),
+        ('Lists of the third seeds', Play.one_by_one, DRAW, 200),
+        ('Runs of the first seeds', Play.in_one_call, DRAW_RUN, 1000),
+        ('Runs of the second seeds', Play.in_one_call, DRAW_RUN, 1100),
+        ('Lists of the first seeds over stores that were migrated', Play.one_by_one, draw_migrated,
+         2000),
+        ('Lists of the second seeds over stores that were migrated', Play.one_by_one, draw_migrated,
+         2100),
+        ('Runs over stores that were migrated', Play.in_one_call, draw_migrated, 2200),
+    )
+}

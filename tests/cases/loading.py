@@ -5,17 +5,35 @@ import hashlib
 import os
 import shutil
 
-from cases.handovers import (
-    BUNDLE, CHECK, CHILD, FIRST, PAGE, TABLES, check_contents_refused, check_refused, children,
-    contacts, names_in, played_apart, store_of)
+from cases.handovers import BUNDLE
+from cases.handovers import CHECK
+from cases.handovers import CHILD
+from cases.handovers import FIRST
+from cases.handovers import PAGE
+from cases.handovers import TABLES
+from cases.handovers import check_contents_refused
+from cases.handovers import check_refused
+from cases.handovers import children
+from cases.handovers import contacts
+from cases.handovers import names_in
+from cases.handovers import played_apart
+from cases.handovers import store_of
 from cases.tables import sheets_of
 from support.documents import csv_text
 from support.files import read
 from support.formats import KINDS
 from support.outputs import prepared
-from support.releases import SAMPLES, Release
-from support.stage import Failed, Stage, Wanted, case, compare, compare_all
-from support.stores import EMPTY_LOG, contents, run
+from support.releases import SAMPLES
+from support.releases import Release
+from support.stage import Failed
+from support.stage import Stage
+from support.stage import Wanted
+from support.stage import case
+from support.stage import compare
+from support.stage import compare_all
+from support.stores import EMPTY_LOG
+from support.stores import contents
+from support.stores import run
 
 LOAD = 'tables --store a.db --postgres out'
 # The kinds that columns name objects of (FORMATS, links).

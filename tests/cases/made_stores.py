@@ -1,23 +1,41 @@
-"""Stores that the C library makes, with nothing of the program: one of the texts of the tables alone, and stores of version 1, which are
-migrated. What is told of them then, and their rows, are those of a store that `restore` made and that took the same arrivals."""
-import contextlib, functools, os, sqlite3
+"""Stores that the C library makes, with nothing of the program: one of the texts of the tables
+alone, and stores of version 1, which are migrated. What is told of them then, and their rows, are
+those of a store that `restore` made and that took the same arrivals."""
+import contextlib
+import functools
+import os
+import sqlite3
 from dataclasses import dataclass
 
 from support import TOP
-from support.bundles import Header, Table, deposit, manifest
+from support.bundles import Header
+from support.bundles import Table
+from support.bundles import deposit
+from support.bundles import manifest
 from support.files import read
-from support.first_store import TABLES, first_rows, write_store
+from support.first_store import TABLES
+from support.first_store import first_rows
+from support.first_store import write_store
 from support.registries import csv_text
-from support.releases import DEPOSITS, MISSING, folder, sample
+from support.releases import DEPOSITS
+from support.releases import MISSING
+from support.releases import folder
+from support.releases import sample
 from support.stage import Failed
-from support.stores import contents, copy, is_whole, opened, readings, rows
+from support.stores import contents
+from support.stores import copy
+from support.stores import is_whole
+from support.stores import opened
+from support.stores import readings
+from support.stores import rows
 
 FIRST = f'{TOP}/samples/first'
 NEW_TABLES = {'parked': 'digest BLOB PRIMARY KEY, body BLOB NOT NULL',
               'moment': 'id INTEGER PRIMARY KEY CHECK (id = 1), watermark INTEGER NOT NULL'}
 S3 = (3, '', 'S3\n')
 # What each command but `migrate` is told beside its store.
-OTHERS = (('init', '--manifest', 'manifest.csv'), ('take', 'taken'), ('amend', '--manifest', 'manifest.csv'), ('as-of', 'latest'),
+OTHERS = (('init', '--manifest', 'manifest.csv'), ('take', 'taken'),
+          ('amend', '--manifest', 'manifest.csv'), ('as-of', 'latest'),
           ('serve', '--port', '65535', '--count', '1'), ('report', 'status'), ('export', 'domain'))
 
 
@@ -45,7 +63,8 @@ def rows_of(stage, store):
 # ---- a store of the texts of the tables
 
 def write_plain(stage, store, tables):
-    """Makes a store of the first sample's manifest, with its tables in this order, in small letters."""
+    """Makes a store of the first sample's manifest, with its tables in this order, in small
+    letters."""
     listed = first_rows(read(f'{FIRST}/manifest.csv'), [])['listed']
     with contextlib.closing(sqlite3.connect(stage.at(store))) as database, database:
         for name, columns in tables.items():
@@ -55,7 +74,8 @@ def write_plain(stage, store, tables):
 
 
 def test_plain_store(stage):
-    """A store that is made of the texts of the tables alone is one; with the tables in another order it is none."""
+    """A store that is made of the texts of the tables alone is one; with the tables in another
+    order it is none."""
     tables = TABLES | NEW_TABLES
     write_plain(stage, 'plain.db', tables)
     run(stage, 'init', 'own.db', '--manifest', f'{FIRST}/manifest.csv')
@@ -75,7 +95,8 @@ def test_plain_store(stage):
 
 @dataclass(frozen=True)
 class Release:
-    """A manifest with the arrivals that version 1 took, numbers with bodies; what arrives after the migration; and further parts."""
+    """A manifest with the arrivals that version 1 took, numbers with bodies; what arrives after the
+    migration; and further parts."""
     manifest: bytes
     arrivals: list
     more: tuple = ()
@@ -84,7 +105,10 @@ class Release:
 
 def as_later(told):
     """What this version says: A5, where version 1 said A2."""
-    return {what: (status, out.replace(',A2,', ',A5,'), err) for what, (status, out, err) in told.items()}
+    return {
+        what: (status, out.replace(',A2,', ',A5,'), err)
+        for what, (status, out, err) in told.items()
+    }
 
 
 def rows_as_later(found):
@@ -94,20 +118,25 @@ def rows_as_later(found):
 
 def texts_of(stage, store):
     with opened(stage.at(store)) as database:
-        return [it for it, in database.execute("SELECT sql FROM sqlite_master WHERE type = 'table' ORDER BY rowid")]
+        return [
+            it for it, in database.execute(
+                "SELECT sql FROM sqlite_master WHERE type = 'table' ORDER BY rowid")
+        ]
 
 
 def check_migration(stage, kept):
-    """Of a store of version 1, with these rows, nothing changes but the version, and two tables that are empty. Any other command refuses
-    it, and so does a second migration."""
+    """Of a store of version 1, with these rows, nothing changes but the version, and two tables
+    that are empty. Any other command refuses it, and so does a second migration."""
     write_store(stage.at('a.db'), kept)
     whole, before = contents(stage.at('a.db')), rows_of(stage, 'a.db')
-    check('the rows of version 1', {table: sorted(it, key=repr) for table, it in kept.items()}, before)
+    check('the rows of version 1', {table: sorted(it, key=repr)
+                                    for table, it in kept.items()}, before)
     for command, *words in OTHERS:
         check(f'{command} of version 1', S3, run(stage, command, 'a.db', *words))
     check('the file after refusals', whole[0], contents(stage.at('a.db'))[0])
     check('migrate', (0, 'migrated\n', ''), run(stage, 'migrate', 'a.db'))
-    check('the rows once migrated', before | {'info': [(1, 2)], 'parked': [], 'moment': []}, rows_of(stage, 'a.db'))
+    check('the rows once migrated', before | {'info': [(1, 2)], 'parked': [], 'moment': []},
+          rows_of(stage, 'a.db'))
     whole = contents(stage.at('a.db'))[0]
     check('migrate again', S3, run(stage, 'migrate', 'a.db'))
     check('the file after it', whole, contents(stage.at('a.db'))[0])
@@ -115,13 +144,15 @@ def check_migration(stage, kept):
 
 def check_same(stage, store, other):
     """Compares reports, exports, tables and rows of a migrated store with those of another one."""
-    check('reports and exports', as_later(readings_of(stage, other)), as_later(readings_of(stage, store)))
+    check('reports and exports', as_later(readings_of(stage, other)),
+          as_later(readings_of(stage, store)))
     check('texts of tables', texts_of(stage, other), texts_of(stage, store))
     check('rows', rows_as_later(rows_of(stage, other)), rows_as_later(rows_of(stage, store)))
 
 
 def go_on(stage, steps):
-    """Takes the arrivals again, amends, and takes what comes later, on a migrated store and on the other one."""
+    """Takes the arrivals again, amends, and takes what comes later, on a migrated store and on the
+    other one."""
     for start, store in (('a.db', 'b.db'), ('fresh.db', 'c.db')):
         copy(stage.at(start), stage.at(store))
     for step in [*steps, ('take', 'taken')]:
@@ -133,17 +164,23 @@ def go_on(stage, steps):
 
 
 def check_release(stage, release):
-    """Migrates a store that version 1 made of a release. Then it is as one that took the same arrivals, but for the bodies that no row
-    listed; and once these come again, before or after their rows, it is the same."""
+    """Migrates a store that version 1 made of a release. Then it is as one that took the same
+    arrivals, but for the bodies that no row listed; and once these come again, before or after
+    their rows, it is the same."""
     kept = first_rows(release.manifest, release.arrivals)
-    for name, content in {'manifest.csv': release.manifest, **{f'part{at}.csv': it for at, it in enumerate(release.parts)}}.items():
+    for name, content in {
+            'manifest.csv': release.manifest,
+            **{f'part{at}.csv': it
+               for at, it in enumerate(release.parts)}
+    }.items():
         stage.write(name, content)
-    for folder, arrivals in (('taken', release.arrivals), ('later', release.more)):
-        os.makedirs(stage.at(folder))
+    for place, arrivals in (('taken', release.arrivals), ('later', release.more)):
+        os.makedirs(stage.at(place))
         for number, body in arrivals:
-            stage.write(f'{folder}/{number}', body)
+            stage.write(f'{place}/{number}', body)
     check_migration(stage, kept)
-    check('init', (0, f'listed {len(kept["listed"])}\n', ''), run(stage, 'init', 'fresh.db', '--manifest', 'manifest.csv'))
+    check('init', (0, f'listed {len(kept["listed"])}\n', ''),
+          run(stage, 'init', 'fresh.db', '--manifest', 'manifest.csv'))
     run(stage, 'take', 'fresh.db', 'taken')
     wanted = readings_of(stage, 'fresh.db') | {'report parked': (0, 'sha256,bytes\n', '')}
     check('reports once migrated', as_later(wanted), as_later(readings_of(stage, 'a.db')))
@@ -158,32 +195,45 @@ def header(id, type, day, prev='', resend=0):
 
 
 def of_domains(it, domains, statuses):
-    return deposit(it, [Table('domainStatuses', 'domain', 'child', ('domainName', 'status'), csv_text(statuses)),
-                        Table('domain', 'domain', 'parent', ('name', 'clID'), csv_text(domains))])
+    return deposit(it, [
+        Table('domainStatuses', 'domain', 'child', ('domainName', 'status'), csv_text(statuses)),
+        Table('domain', 'domain', 'parent', ('name', 'clID'), csv_text(domains))
+    ])
 
 
 def each_verdict():
-    """Arrivals of each verdict, and of each twice under other numbers. The bodies that no row lists are listed by two parts, as a deposit, as
-    one that doesn't read, and as one that differs from its row; one stays unlisted."""
-    f1, d2, d4 = header('F1', 'FULL', 1), header('D2', 'DIFF', 2, 'F1'), header('D4', 'DIFF', 4, 'D2')
-    full = of_domains(f1, [('a.example', 'R1'), ('B.example', 'R1')],
-                      [('a.example', 'ok'), ('b.example', 'clientHold'), ('a.example', 'linked'), ('z.example', 'ok')])
+    """Arrivals of each verdict, and of each twice under other numbers. The bodies that no row lists
+    are listed by two parts, as a deposit, as one that doesn't read, and as one that differs from
+    its row; one stays unlisted."""
+    f1, d2, d4 = header('F1', 'FULL', 1), header('D2', 'DIFF', 2,
+                                                 'F1'), header('D4', 'DIFF', 4, 'D2')
+    full = of_domains(f1, [('a.example', 'R1'), ('B.example', 'R1')], [('a.example', 'ok'),
+                                                                       ('b.example', 'clientHold'),
+                                                                       ('a.example', 'linked'),
+                                                                       ('z.example', 'ok')])
     second = of_domains(d2, [('c.example', 'R2')], [('c.example', 'ok'), ('d.example', 'ok')])
-    other, fourth = of_domains(header('D9', 'DIFF', 3, 'F1'), [('x.example', 'R1')], []), of_domains(d4, [('e.example', 'R2')], [('e.example', 'ok')])
-    cut, broken, none = full[:-5], second.replace(b'c.example,R2', b'c.example R2'), b'neither a bundle'
+    other, fourth = of_domains(header('D9', 'DIFF', 3, 'F1'), [('x.example', 'R1')],
+                               []), of_domains(d4, [('e.example', 'R2')], [('e.example', 'ok')])
+    cut, broken, none = full[:-5], second.replace(b'c.example,R2',
+                                                  b'c.example R2'), b'neither a bundle'
     bodies = (full, cut, other, second, broken, b'abc', full, second, fourth, none, other, cut, b'')
     return Release(
-        manifest([(f1, full), (header('F1', 'FULL', 1, resend=1), cut), (header('D3', 'DIFF', 3, 'F1'), other)]),
+        manifest([(f1, full), (header('F1', 'FULL', 1, resend=1), cut),
+                  (header('D3', 'DIFF', 3, 'F1'), other)]),
         [(chr(ord('a') + at), it) for at, it in enumerate(bodies)], (('n', second), ('o', fourth)),
-        (manifest([(d2, second), (header('D2', 'DIFF', 2, 'F1', 1), broken)]),
-         manifest([(d4, fourth), (header('D5', 'DIFF', 5, 'D4'), none)])))
+        (manifest([(d2, second), (header('D2', 'DIFF', 2, 'F1', 1), broken)
+                   ]), manifest([(d4, fourth), (header('D5', 'DIFF', 5, 'D4'), none)])))
 
 
 RELEASES = {
     'the first sample': Release(sample('first/manifest.csv'), folder('first/deposits')),
     'no arrivals': Release(sample('first/manifest.csv'), [], folder('first/deposits')),
     'the second sample': Release(sample('release/manifest.csv'), DEPOSITS, MISSING),
-    'a manifest in parts': Release(sample('parts/first.csv'), DEPOSITS, MISSING, (sample('parts/second.csv'),)),
+    'a manifest in parts': Release(sample('parts/first.csv'), DEPOSITS, MISSING,
+                                   (sample('parts/second.csv'),)),
     'each verdict': each_verdict(),
 }
-CASES = {f'A store of version 1, of {name}, is migrated': functools.partial(check_release, release=it) for name, it in RELEASES.items()}
+CASES = {
+    f'A store of version 1, of {name}, is migrated': functools.partial(check_release, release=it)
+    for name, it in RELEASES.items()
+}

@@ -1,11 +1,16 @@
-"""Manifests: the least fault of a text, the values of its rows, how many rows and bytes it may have, and the union of two."""
+"""Manifests: the least fault of a text, the values of its rows, how many rows and bytes it may
+have, and the union of two."""
 from support.bundles import HEADING
 from support.clients import new_desk
 from support.harness import Harness
-from support.stage import case, compare, text_of
-from support.verdicts import said_of, text_of_rows
+from support.stage import case
+from support.stage import compare
+from support.stage import text_of
+from support.verdicts import said_of
+from support.verdicts import text_of_rows
 
-# Texts that begin with another line than the heading, or with the heading in another form, and what is said of them.
+# Texts that begin with another line than the heading, or with the heading in another form, and what
+# is said of them.
 FIRST_LINES = (
     (b'', 'M3 row 0'),
     (b'id,type,watermark,prevId,resend\n', 'M2 row 0'),
@@ -13,8 +18,9 @@ FIRST_LINES = (
     (b'"id",type,watermark,prevId,resend,sha256', 'listed 0'),
     (b'\xef\xbb\xbfid,type,watermark,prevId,resend,sha256\n', 'listed 0'),
 )
-# Worked manifests, each fault alone, and the least of two: for each case what is said of it, and its rows: the first five fields, and the
-# digest as a number. Where that is `-`, the row has no further field.
+# Worked manifests, each fault alone, and the least of two: for each case what is said of it, and
+# its rows: the first five fields, and the digest as a number. Where that is `-`, the row has no
+# further field.
 FULL = 'F1,FULL,2024-03-03T00:00:00Z,,'
 TEXTS = (
     ('M12 row 2', f'{FULL} 1', 'D2,DIFF,2024-03-03T00:00:00Z,F1, 2'),
@@ -52,16 +58,21 @@ TEXTS = (
     ('M11 row 2', f'{FULL}0 1', 'F1,DIFF,2024-03-03T00:00:00Z,F1,0 1'),
     ('M12 row 2', f'{FULL}0 1', 'D2,DIFF,2024-03-03T00:00:00Z,F1,0 1'),
 )
-# A manifest whose rows have the published digests of the empty text and of `abc` (FIPS 180-4), and one more.
+# A manifest whose rows have the published digests of the empty text and of `abc` (FIPS 180-4), and
+# one more.
 WORKED = '''id,type,watermark,prevId,resend,sha256
 F1,FULL,2024-03-03T00:00:00Z,X9,007,e3b0c44298fc1c149afbf4c8996fb92427ae41e4649b934ca495991b7852b855
 D2,DIFF,2024-03-04T00:00:00.0Z,F1,,BA7816BF8F01CFEA414140DE5DAE2223B00361A396177A9CB410FF61F20015AD
-F3,FULL,2024-03-05T00:00:00Z,,999999,00000000000000000000000000000000000000000000000000000000000000fF
+F3,FULL,2024-03-05T00:00:00Z,,999999,\
+00000000000000000000000000000000000000000000000000000000000000fF
 '''
-# Its rows in the store: id, type (0 is a Differential, 2 a Full), watermark, previous id, resend and digest.
-WORKED_ROWS = '''F1 2 1709424000000000000 X9 7 xe3b0c44298fc1c149afbf4c8996fb92427ae41e4649b934ca495991b7852b855
+# Its rows in the store: id, type (0 is a Differential, 2 a Full), watermark, previous id, resend
+# and digest.
+WORKED_ROWS = '''\
+F1 2 1709424000000000000 X9 7 xe3b0c44298fc1c149afbf4c8996fb92427ae41e4649b934ca495991b7852b855
 D2 0 1709510400000000000 F1 0 xba7816bf8f01cfea414140de5dae2223b00361a396177a9cb410ff61f20015ad
-F3 2 1709596800000000000 none 999999 x00000000000000000000000000000000000000000000000000000000000000ff
+F3 2 1709596800000000000 none 999999 \
+x00000000000000000000000000000000000000000000000000000000000000ff
 '''
 # Bodies, and the replies by the rows with their digests: a body that no row lists is parked.
 ARRIVALS = ((b'abc', '1,n1,A3,U1,D2,0,,'), (b'abd', '2,n2,A5,,,,,'), (b'', '3,n3,A3,U1,F1,7,,'))
@@ -79,7 +90,8 @@ F5_WITH_BYTES_OF_F1 = ('F5,FULL,2024-03-07T00:00:00Z,,', 1)
 F7 = ('F7,FULL,2024-03-11T00:00:00Z,,', 7)
 D8_AT_D2 = ('D8,DIFF,2024-03-04T00:00:00Z,F1,', 8)
 X9 = ('X9,FULL,2024-03-05T00:00:00Z,,', 9)
-# The rows of two manifests, what an amendment of the first by the second is answered, and the ids that are listed then.
+# The rows of two manifests, what an amendment of the first by the second is answered, and the ids
+# that are listed then.
 UNIONS = (
     ((F1,), (F1, D2), 'added 1', 'F1 D2'),
     ((F1, D2), (F1_IN_OTHER_WORDS,), 'added 0', 'F1 D2'),
@@ -108,7 +120,8 @@ def test_the_first_line(stage):
 def test_the_least_fault_of_a_text(stage):
     """The least fault of a text."""
     for said, *rows in TEXTS:
-        compare(f'what is said of {rows}', said, said_of(stage, text_of_rows(it.rsplit(' ', 1) for it in rows)))
+        compare(f'what is said of {rows}', said,
+                said_of(stage, text_of_rows(it.rsplit(' ', 1) for it in rows)))
 
 
 def test_the_values_of_rows(stage):
@@ -119,12 +132,15 @@ def test_the_values_of_rows(stage):
             stage.write('body', body)
             compare(f'reply to {body}', reply, desk.ask(f'comes n{at} body').partition(';')[0])
         desk.check('close', '')
-        desk.check('query SELECT id, type, watermark, prev, resend, digest FROM listed ORDER BY row', WORKED_ROWS)
+        desk.check(
+            'query SELECT id, type, watermark, prev, resend, digest FROM listed ORDER BY row',
+            WORKED_ROWS)
 
 
 def fulls(count):
     """Fulls, one nanosecond apart."""
-    return text_of_rows((f'F{at},FULL,2024-03-03T00:00:00.{at:09}Z,,', at) for at in range(1, count + 1))
+    return text_of_rows(
+        (f'F{at},FULL,2024-03-03T00:00:00.{at:09}Z,,', at) for at in range(1, count + 1))
 
 
 def test_how_many_rows_and_bytes_there_may_be(stage):
@@ -148,6 +164,7 @@ def test_the_union_of_two(stage):
         stage.write('second.csv', text_of_rows(second))
         with case(f'{first} and then {second}'), Harness(stage) as desk:
             desk.check('create first.csv', 'created\n')
-            compare('amendment', said, desk.ask('amend second.csv').partition(';')[0].removesuffix('\n'))
+            compare('amendment', said,
+                    desk.ask('amend second.csv').partition(';')[0].removesuffix('\n'))
             desk.check('close', '')
             desk.check('query SELECT id FROM listed ORDER BY row', text_of(ids.split()))

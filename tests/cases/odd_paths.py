@@ -1,20 +1,39 @@
-"""Paths that are no plain files, and files that change while they are read, for FILE, DIR and the manifest; and what a run gets from the
-system beside them: other rights, closed streams, limits. A run has 1 GB of memory, so that what is read without an end would show."""
-import contextlib, os, resource, shutil, signal, socket, stat, threading
+"""Paths that are no plain files, and files that change while they are read, for FILE, DIR and the
+manifest; and what a run gets from the system beside them: other rights, closed streams, limits. A
+run has 1 GB of memory, so that what is read without an end would show."""
+import contextlib
+import os
+import resource
+import shutil
+import signal
+import socket
+import stat
+import threading
 
 from support import TOP
-from support.files import read, write
+from support.files import read
+from support.files import write
 from support.messages import put
-from support.outputs import prepared, run_held_up
+from support.outputs import prepared
+from support.outputs import run_held_up
 from support.reports import report
-from support.sockets import response_to, serve
-from support.stage import Failed, Wanted, faults
-from support.stores import copy, is_whole, rows
+from support.sockets import response_to
+from support.sockets import serve
+from support.stage import Failed
+from support.stage import Wanted
+from support.stage import faults
+from support.stores import copy
+from support.stores import is_whole
+from support.stores import rows
 
 MANIFEST, DEPOSITS = f'{TOP}/samples/release/manifest.csv', f'{TOP}/samples/release/deposits'
 HEADING, FIRST = report('receipts'), report('receipts', ['1,n1,A1,,F1,0,new,0'])
-LISTED, EMPTY, S1, S3 = Wanted(0, 'listed 7\n'), Wanted(0, HEADING), Wanted(3, '', 'S1\n'), Wanted(3, '', 'S3\n')
-WHOLE = Wanted(0, HEADING + ''.join(f'{at},n{at},A1,,{it},new,0\n' for at, it in enumerate(('F1,0', 'D2,0', 'D3,0', 'I4,0', 'D6,0', 'D3,1'), 1)))
+LISTED, EMPTY, S1, S3 = Wanted(0, 'listed 7\n'), Wanted(0, HEADING), Wanted(3, '', 'S1\n'), Wanted(
+    3, '', 'S3\n')
+WHOLE = Wanted(
+    0,
+    HEADING + ''.join(f'{at},n{at},A1,,{it},new,0\n'
+                      for at, it in enumerate(('F1,0', 'D2,0', 'D3,0', 'I4,0', 'D6,0', 'D3,1'), 1)))
 RECEIPTS = ('report', '--store', 'a.db', 'receipts')
 TAKE = ('take', '--store', 'a.db')
 GIGABYTE, NOBODY = 2**30, 65534
@@ -47,9 +66,18 @@ def listening(path):
         listener.bind(path)
 
 
-# Paths that are refused wherever a plain file or a folder is read, and what makes them, if anything does.
+# Paths that are refused wherever a plain file or a folder is read, and what makes them, if anything
+# does.
 LONG = 'n/' * 2500
-ODD = {'nothing': linked('gone'), 'loop': linked('loop'), 'socket': listening, 'file/x': None, 'n' * 300: None, LONG: None, 'absent': None}
+ODD = {
+    'nothing': linked('gone'),
+    'loop': linked('loop'),
+    'socket': listening,
+    'file/x': None,
+    'n' * 300: None,
+    LONG: None,
+    'absent': None
+}
 
 
 def make_odd(stage, folder='.'):
@@ -120,10 +148,18 @@ def beside(work):
 
 # Files in its place, and what comes of each. (The length of /proc/version is told as 0.)
 MANIFESTS = (
-    ('link.csv', linked(MANIFEST), LISTED), ('link2.csv', linked('link.csv'), LISTED), ('.', None, refused('.')), ('', None, refused('')),
-    ('a\nS1', None, refused('a\\nS1')), ('/dev/null', None, refused('/dev/null')), ('/proc/self/mem', None, refused('/proc/self/mem')),
-    ('/proc/version', None, manifest_fault('M2 row 0')), ('/dev/zero', None, refused('/dev/zero')), ('a.pipe', os.mkfifo, refused('a.pipe')),
-    ('pipe.csv', linked('a.pipe'), refused('pipe.csv')), ('long.csv', sparse(4_194_305), manifest_fault('M1 row 0')),
+    ('link.csv', linked(MANIFEST), LISTED),
+    ('link2.csv', linked('link.csv'), LISTED),
+    ('.', None, refused('.')),
+    ('', None, refused('')),
+    ('a\nS1', None, refused('a\\nS1')),
+    ('/dev/null', None, refused('/dev/null')),
+    ('/proc/self/mem', None, refused('/proc/self/mem')),
+    ('/proc/version', None, manifest_fault('M2 row 0')),
+    ('/dev/zero', None, refused('/dev/zero')),
+    ('a.pipe', os.mkfifo, refused('a.pipe')),
+    ('pipe.csv', linked('a.pipe'), refused('pipe.csv')),
+    ('long.csv', sparse(4_194_305), manifest_fault('M1 row 0')),
     ('huge.csv', sparse(5 * 10**9), manifest_fault('M1 row 0')),
 )
 
@@ -144,7 +180,10 @@ def test_manifests(stage):
 def test_a_manifest_that_changes(stage):
     """A manifest that changes while it is read: what was there of it at some time is read."""
     path, text = stage.at('m.csv'), read(MANIFEST)
-    parts = [manifest_fault('M3 row 0'), *(manifest_fault(f'M{code} row {row}') for code in (2, 9) for row in range(8))]
+    parts = [
+        manifest_fault('M3 row 0'),
+        *(manifest_fault(f'M{code} row {row}') for code in (2, 9) for row in range(8))
+    ]
     parts += [Wanted(0, f'listed {row}\n') for row in range(8)]
     write(path, text)
     with beside(lambda: (write(path, text), write(path, text[:300]))):
@@ -153,21 +192,32 @@ def test_a_manifest_that_changes(stage):
     write(path, text)
     with open(path, 'ab') as file, beside(lambda: file.tell() < 10**8 and file.write(bytes(10**7))):
         for _ in range(10):
-            check_init(stage, 'm.csv', LISTED, manifest_fault('M1 row 0'), manifest_fault('M2 row 8'))
+            check_init(stage, 'm.csv', LISTED, manifest_fault('M1 row 0'),
+                       manifest_fault('M2 row 8'))
 
 
 # What is in its place, what `init` gives, and what a report does.
 STORES = (
-    ('link.db', linked('linked.db'), [refused('link.db')], [S3]), ('.', None, [refused('.')], [refused('.')]),
-    ('nowhere/a.db', None, [refused('nowhere/a.db')], [S3]), ('loop', None, [refused('loop')], [refused('loop')]),
-    ('socket', None, [refused('socket')], [refused('socket')]), ('file/x', None, [refused('file/x')], [S3]),
-    ('n' * 300, None, [refused('n' * 300)], [refused('n' * 300)]), (LONG, None, [refused(LONG)], [refused(LONG)]),
-    ('absent', None, [LISTED], [EMPTY]), ('empty.db', sparse(0), [LISTED], [EMPTY]),
-    ('text.db', lambda path: write(path, b'words\n' * 1000), [S1], [S1]), ('/dev/null', None, [S1, S3], [S1, S3]),
-    ('/dev/zero', None, [S1, S3], [S1, S3]), ('pipe.db', os.mkfifo, [S1, S3], [S1, S3]), ('', None, [refused('')], [S3]),
+    ('link.db', linked('linked.db'), [refused('link.db')], [S3]),
+    ('.', None, [refused('.')], [refused('.')]),
+    ('nowhere/a.db', None, [refused('nowhere/a.db')], [S3]),
+    ('loop', None, [refused('loop')], [refused('loop')]),
+    ('socket', None, [refused('socket')], [refused('socket')]),
+    ('file/x', None, [refused('file/x')], [S3]),
+    ('n' * 300, None, [refused('n' * 300)], [refused('n' * 300)]),
+    (LONG, None, [refused(LONG)], [refused(LONG)]),
+    ('absent', None, [LISTED], [EMPTY]),
+    ('empty.db', sparse(0), [LISTED], [EMPTY]),
+    ('text.db', lambda path: write(path, b'words\n' * 1000), [S1], [S1]),
+    ('/dev/null', None, [S1, S3], [S1, S3]),
+    ('/dev/zero', None, [S1, S3], [S1, S3]),
+    ('pipe.db', os.mkfifo, [S1, S3], [S1, S3]),
+    ('', None, [refused('')], [S3]),
     (':memory:', None, [S1], [S1, S3]),
 )
-LOGS = (os.mkdir, os.mkfifo, linked('no-log'), lambda path: os.symlink(path, path), lambda path: write(path, bytes(range(256)) * 20))
+LOGS = (os.mkdir, os.mkfifo, linked('no-log'), lambda path: os.symlink(path, path),
+        lambda path: write(path,
+                           bytes(range(256)) * 20))
 
 
 def test_stores(stage):
@@ -192,7 +242,8 @@ def test_logs(stage):
 
 
 def test_a_store_by_a_link(stage):
-    """A store that is named by a link is locked by either name, and has by either what was answered before a kill."""
+    """A store that is named by a link is locked by either name, and has by either what was answered
+    before a kill."""
     make_store(stage)
     os.symlink('a.db', stage.at('link.db'))
     check(stage, ('take', '--store', 'link.db', DEPOSITS), WHOLE)
@@ -202,7 +253,8 @@ def test_a_store_by_a_link(stage):
     child.kill()
     child.wait()
     for store in ('link.db', 'a.db'):
-        check(stage, ('report', '--store', store, 'receipts'), Wanted(0, f'{WHOLE.out}7,killed,A5,,,,,\n'))
+        check(stage, ('report', '--store', store, 'receipts'),
+              Wanted(0, f'{WHOLE.out}7,killed,A5,,,,,\n'))
 
 
 NAMES = (b'a\nS1', b'b\x1b[2J', b'c\\', b'd\\\t', b'e\xff')
@@ -218,7 +270,8 @@ def test_folders(stage):
     make_odd(stage, 'mixed')
     for name in os.listdir(DEPOSITS):
         shutil.copy(f'{DEPOSITS}/{name}', stage.at('mixed'))
-    for name, make in (('a-link', linked(MANIFEST)), ('to-folder', linked(DEPOSITS)), ('a-pipe', os.mkfifo), ('folder', os.mkdir)):
+    for name, make in (('a-link', linked(MANIFEST)), ('to-folder', linked(DEPOSITS)),
+                       ('a-pipe', os.mkfifo), ('folder', os.mkdir)):
         make(stage.at(f'mixed/{name}'))
     if not os.geteuid():
         os.mknod(stage.at('mixed/device'), stat.S_IFCHR | 0o666, os.makedev(1, 5))
@@ -237,8 +290,9 @@ def replaced(make):
 
 
 # How a file of a folder changes once the folder is listed, and what comes of it.
-CHANGES = ((os.remove, None), (replaced(os.mkdir), None), (replaced(linked(MANIFEST)), None), (replaced(linked('/dev/zero')), None),
-           (replaced(os.mkfifo), None), (sparse(17 * 10**6), Wanted(1, FIRST, 'E2 z\n')))
+CHANGES = ((os.remove, None), (replaced(os.mkdir), None), (replaced(linked(MANIFEST)), None),
+           (replaced(linked('/dev/zero')),
+            None), (replaced(os.mkfifo), None), (sparse(17 * 10**6), Wanted(1, FIRST, 'E2 z\n')))
 
 
 def test_files_that_change(stage):
@@ -249,8 +303,10 @@ def test_files_that_change(stage):
         for name in ('n1', 'z'):
             write(stage.at(f'{folder}/{name}'), read(f'{DEPOSITS}/n1'))
         line = ' '.join((*TAKE, folder))
-        # (It is listed once the heading is printed, and there is no room for more until the file has changed.)
-        got = run_held_up(stage, line, len(HEADING), lambda: change(stage.at(f'{folder}/z')), prepare=bounded())
+        # (It is listed once the heading is printed, and there is no room for more until the file
+        # has changed.)
+        got = run_held_up(stage, line, len(HEADING), lambda: change(stage.at(f'{folder}/z')),
+                          prepare=bounded())
         stage.compare(line, wanted or refused(f'{folder}/z', FIRST), got)
         check(stage, RECEIPTS, Wanted(0, FIRST))
 
@@ -263,19 +319,22 @@ def test_a_file_that_is_rewritten(stage):
     with beside(lambda: (write(path, body), write(path, body[:100]))):
         for _ in range(30):
             got = stage.end(stage.begin([*TAKE, 'folder']))
-            if (got.status, got.err) not in ((0, b''), (1, b'')) or (b',A1,' in got.out) != (got.status == 0):
+            if (got.status, got.err) not in ((0, b''),
+                                             (1, b'')) or (b',A1,' in got.out) != (got.status == 0):
                 raise Failed(f'{got}')
     write(path, body)
     check(stage, (*TAKE, 'folder'), Wanted(0, part=',n1,A1,,F1,0,'))
 
 
 def test_the_store_in_its_folder(stage):
-    """The store lies in the folder that is taken: it is an arrival that no row lists, and stays locked."""
+    """The store lies in the folder that is taken: it is an arrival that no row lists, and stays
+    locked."""
     os.mkdir(stage.at('own'))
     make_store(stage, taken=False, store='own/a.db')
     shutil.copy(f'{DEPOSITS}/n1', stage.at('own/a'))
     status = ('report', '--store', 'own/a.db', 'status')
-    got = run_held_up(stage, 'take --store own/a.db own', len(HEADING), lambda: check(stage, status, S1))
+    got = run_held_up(stage, 'take --store own/a.db own', len(HEADING),
+                      lambda: check(stage, status, S1))
     stage.compare('take own', Wanted(1, part='1,a,A1,,F1,0,new,0\n2,a.db,A5,'), got)
     check_whole(stage, 'the store in its folder', store='own/a.db')
 
@@ -290,15 +349,17 @@ def test_rights(stage):
     stage.programs = {'restore': shutil.copy(stage.programs['restore'], stage.at('restore'))}
     os.chmod(stage.room.name, 0o777)
     shutil.copy(MANIFEST, stage.at('readable.csv'))
-    for folder, mode in (('closed', 0o700), ('unread', 0o300), ('unsearched', 0o744), ('some', 0o755)):
+    for folder, mode in (('closed', 0o700), ('unread', 0o300), ('unsearched', 0o744), ('some',
+                                                                                       0o755)):
         shutil.copytree(DEPOSITS, stage.at(folder))
         os.chmod(stage.at(folder), mode)
     os.chown(stage.at('unread'), NOBODY, -1)
     for path in ('closed/n2', 'some/n4'):
         os.chmod(stage.at(path), 0o600)
     for words, path in ((('init', '--store', 'b.db', '--manifest', 'some/n4'), 'some/n4'),
-                        (('init', '--store', 'b.db', '--manifest', 'closed/n1'), 'closed/n1'),
-                        (('init', '--store', 'closed/b.db', '--manifest', 'readable.csv'), 'closed/b.db')):
+                        (('init', '--store', 'b.db', '--manifest', 'closed/n1'),
+                         'closed/n1'), (('init', '--store', 'closed/b.db', '--manifest',
+                                         'readable.csv'), 'closed/b.db')):
         check(stage, words, refused(path), user=NOBODY)
     before = make_store(stage)
     for mode in (0o600, 0o644):
@@ -311,9 +372,11 @@ def test_rights(stage):
     for end in ('', '-wal'):
         os.chown(stage.at(f'a.db{end}'), NOBODY, NOBODY)
     check(stage, (*TAKE, 'unread'), refused('unread'), user=NOBODY)
-    check(stage, (*TAKE, 'unsearched'), refused('unsearched'), refused('unsearched/n1'), user=NOBODY)
+    check(stage, (*TAKE, 'unsearched'), refused('unsearched'), refused('unsearched/n1'),
+          user=NOBODY)
     # The receipts before a file that may not be read are the same once it may.
-    check(stage, (*TAKE, 'some'), Wanted(3, ''.join(WHOLE.out.splitlines(keepends=True)[:4]), 'E1 some/n4\n'), user=NOBODY)
+    check(stage, (*TAKE, 'some'),
+          Wanted(3, ''.join(WHOLE.out.splitlines(keepends=True)[:4]), 'E1 some/n4\n'), user=NOBODY)
     os.chmod(stage.at('some/n4'), 0o644)
     check(stage, (*TAKE, 'some'), WHOLE, user=NOBODY)
 
@@ -327,7 +390,8 @@ def test_closed_streams(stage):
             got = stage.end(stage.begin(words, prepare=bounded(closed=closed)))
             if (got.status, got.err) not in ((0, b''), (3, b'E1 -\n'), (3, b'')):
                 raise Failed(f'{words[0]}, closed {closed}: {got}')
-            check_whole(stage, f'{words[0]}, closed {closed}', store='b.db' if words[0] == 'init' else 'a.db')
+            check_whole(stage, f'{words[0]}, closed {closed}',
+                        store='b.db' if words[0] == 'init' else 'a.db')
 
 
 def test_limits(stage):
@@ -335,9 +399,12 @@ def test_limits(stage):
     few, small = (resource.RLIMIT_NOFILE, 4), (resource.RLIMIT_FSIZE, 60_000)
     for limit, ignored in ((few, ()), (small, ()), (small, (signal.SIGXFSZ,))):
         make_store(stage, taken=False)
-        got = stage.end(stage.begin([*TAKE, DEPOSITS], prepare=bounded(limits=[limit], ignored=ignored)))
+        got = stage.end(
+            stage.begin([*TAKE, DEPOSITS], prepare=bounded(limits=[limit], ignored=ignored)))
         out = got.out.decode()
-        allowed = (Wanted(0, out), Wanted(3, out, 'S1\n'), Wanted(-signal.SIGXFSZ, out), refused(DEPOSITS), refused('a.db'))
+        allowed = (Wanted(0, out), Wanted(3, out,
+                                          'S1\n'), Wanted(-signal.SIGXFSZ,
+                                                          out), refused(DEPOSITS), refused('a.db'))
         if all(faults(it, got) for it in allowed):
             raise Failed(f'{limit}: {got}')
         check_whole(stage, f'{limit}')

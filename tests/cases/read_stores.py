@@ -1,16 +1,33 @@
-"""Reports and exports of stores with a row that no store writes, with an index that lies, and with a log that was not copied: what they read of
-the tables alone, and what is tested first for a desk. And commands on a store that is not there."""
-import contextlib, sqlite3
+"""Reports and exports of stores with a row that no store writes, with an index that lies, and with
+a log that was not copied: what they read of the tables alone, and what is tested first for a desk.
+And commands on a store that is not there."""
+import contextlib
+import sqlite3
 
 from cases.handovers import names_in
 from support.files import read
 from support.formats import KINDS
 from support.messages import put
 from support.reports import report
-from support.sockets import response_to, serve
-from support.stage import Failed, Wanted, case, compare, compare_all
-from support.steps import Copy, FirstStore, Folder, Link, Text
-from support.stores import EMPTY_LOG, REPORTS, change_row, contents, copy, is_whole, run
+from support.sockets import response_to
+from support.sockets import serve
+from support.stage import Failed
+from support.stage import Wanted
+from support.stage import case
+from support.stage import compare
+from support.stage import compare_all
+from support.steps import Copy
+from support.steps import FirstStore
+from support.steps import Folder
+from support.steps import Link
+from support.steps import Text
+from support.stores import EMPTY_LOG
+from support.stores import REPORTS
+from support.stores import change_row
+from support.stores import contents
+from support.stores import copy
+from support.stores import is_whole
+from support.stores import run
 
 # The deposits that come, under the numbers 1 to 4; then a body that no row lists.
 BUNDLES = ('f1', 'd2', 'd3', 'd2-resent')
@@ -53,34 +70,46 @@ def check_reports(stage, store, told, refused=()):
 def check_refused(stage, store):
     """Whatever has a desk refuses the store, which stays as it is but for its log."""
     before = contents(stage.at(store))[0]
-    for line in (f'take --store {store} deposits', f'as-of --store {store} latest', f'amend --store {store} --manifest listed.csv',
+    for line in (f'take --store {store} deposits', f'as-of --store {store} latest',
+                 f'amend --store {store} --manifest listed.csv',
                  f'serve --store {store} --port 65535 --count 1'):
         stage.check(line, S1)
     if contents(stage.at(store))[0] != before:
         raise Failed(f'{store} is changed')
 
 
-# Statements that make a row one that no store writes, the reports and exports that read it, and whether a desk is refused: its list of rows is
-# read as the store is opened, and where a row leads to another, that is there.
+# Statements that make a row one that no store writes, the reports and exports that read it, and
+# whether a desk is refused: its list of rows is read as the store is opened, and where a row leads
+# to another, that is there.
 OF_RECEIPTS = ('receipts', 'status', 'gaps')
 FOREIGN = {
     'a verdict': ('UPDATE receipt SET verdict = 9 WHERE receipt = 3', OF_RECEIPTS, False),
-    'a number that is no text': ("UPDATE receipt SET number = X'31' WHERE receipt = 1", OF_RECEIPTS, False),
-    'a count of orphans that is a text': ("UPDATE receipt SET orphans = 'none' WHERE receipt = 1", OF_RECEIPTS, False),
-    'a receipt of no listed row': ('UPDATE receipt SET row = 7 WHERE receipt = 2', OF_RECEIPTS, True),
+    'a number that is no text': ("UPDATE receipt SET number = X'31' WHERE receipt = 1", OF_RECEIPTS,
+                                 False),
+    'a count of orphans that is a text': ("UPDATE receipt SET orphans = 'none' WHERE receipt = 1",
+                                          OF_RECEIPTS, False),
+    'a receipt of no listed row': ('UPDATE receipt SET row = 7 WHERE receipt = 2', OF_RECEIPTS,
+                                   True),
     'a type': ('UPDATE listed SET type = 9 WHERE row = 1', READ, True),
     'a short digest': ("UPDATE listed SET digest = X'00' WHERE row = 1", READ, True),
-    'a step of no held row': ("UPDATE step SET row = 'one' WHERE pos = 1", ('status', 'links'), True),
-    'a key that is a text': ("UPDATE object SET key = 'b.example' WHERE key = CAST('b.example' AS BLOB)", ('links', 'domain'), False),
-    'a record that is none': ("UPDATE object SET record = X'00' WHERE key = CAST('b.example' AS BLOB)", ('links', 'domain'), False),
+    'a step of no held row': ("UPDATE step SET row = 'one' WHERE pos = 1", ('status', 'links'),
+                              True),
+    'a key that is a text': (
+        "UPDATE object SET key = 'b.example' WHERE key = CAST('b.example' AS BLOB)",
+        ('links', 'domain'), False),
+    'a record that is none': (
+        "UPDATE object SET record = X'00' WHERE key = CAST('b.example' AS BLOB)",
+        ('links', 'domain'), False),
     'a parked body that is a text': ("UPDATE parked SET body = 'abc'", ('parked',), False),
     'a moment that is a text': ("UPDATE moment SET watermark = 'noon'", ('moment', 'gaps'), False),
-    'a before-image of another kind': ("UPDATE undo SET kind = 9 WHERE pos = 1 AND key = CAST('a.example' AS BLOB)", (), False),
+    'a before-image of another kind': (
+        "UPDATE undo SET kind = 9 WHERE pos = 1 AND key = CAST('a.example' AS BLOB)", (), False),
 }
 
 
 def test_foreign_rows(stage):
-    """A row that no store writes is `S1` to each report and export that reads it, which prints nothing, and to no other."""
+    """A row that no store writes is `S1` to each report and export that reads it, which prints
+    nothing, and to no other."""
     told = put_store(stage)
     Folder('nothing').do(stage)
     for name, (statement, refused, has_no_desk) in FOREIGN.items():
@@ -107,13 +136,16 @@ def schema_of(path):
 
 
 def make_index_lie(path):
-    """Gives a receipt another number in the index of numbers alone: in the table too, and there back while the table has no index."""
+    """Gives a receipt another number in the index of numbers alone: in the table too, and there
+    back while the table has no index."""
     with schema_of(path) as database:
         database.execute("UPDATE receipt SET number = 'other' WHERE receipt = 1")
-        index, = database.execute(f'SELECT {COLUMNS} FROM sqlite_master WHERE name = ?', (NUMBERS,)).fetchall()
+        index, = database.execute(f'SELECT {COLUMNS} FROM sqlite_master WHERE name = ?',
+                                  (NUMBERS,)).fetchall()
         text, = database.execute("SELECT sql FROM sqlite_master WHERE name = 'receipt'").fetchone()
         database.execute('DELETE FROM sqlite_master WHERE name = ?', (NUMBERS,))
-        database.execute("UPDATE sqlite_master SET sql = ? WHERE name = 'receipt'", (text.replace(UNIQUE, ''),))
+        database.execute("UPDATE sqlite_master SET sql = ? WHERE name = 'receipt'",
+                         (text.replace(UNIQUE, ''),))
     with schema_of(path) as database:
         database.execute("UPDATE receipt SET number = '1' WHERE receipt = 1")
         database.execute("UPDATE sqlite_master SET sql = ? WHERE name = 'receipt'", (text,))
@@ -121,7 +153,8 @@ def make_index_lie(path):
 
 
 def test_lying_index(stage):
-    """An index that has another number than its table is `S1` to each command that has a desk. No report or export reads it."""
+    """An index that has another number than its table is `S1` to each command that has a desk. No
+    report or export reads it."""
     told = put_store(stage)
     make_index_lie(stage.at('a.db'))
     if is_whole(stage.at('a.db')):
@@ -131,7 +164,8 @@ def test_lying_index(stage):
 
 
 def test_log_that_was_not_copied(stage):
-    """A report of what a stopped command left reads the log, too, and leaves both files as they are. A desk, which copies it, says the same."""
+    """A report of what a stopped command left reads the log, too, and leaves both files as they
+    are. A desk, which copies it, says the same."""
     put_files(stage)
     Folder('nothing').do(stage)
     # The two files of a store are copied while a desk on a port has taken the first deposit.
@@ -158,9 +192,12 @@ def test_first_version(stage):
         stage.check(command_of('a.db', what), S3)
 
 
-# The words of each command that is for a store, around the file; which is not there, nor is what a link leads to, nor its folder.
-COMMANDS = ('take --store {} deposits', 'serve --store {} --port 65535 --count 1', 'report --store {} status', 'export --store {} domain',
-            'amend --store {} --manifest listed.csv', 'as-of --store {} latest', 'as-of --store {} 2024-03-04T00:00:00Z', 'migrate --store {}')
+# The words of each command that is for a store, around the file; which is not there, nor is what a
+# link leads to, nor its folder.
+COMMANDS = ('take --store {} deposits', 'serve --store {} --port 65535 --count 1',
+            'report --store {} status', 'export --store {} domain',
+            'amend --store {} --manifest listed.csv', 'as-of --store {} latest',
+            'as-of --store {} 2024-03-04T00:00:00Z', 'migrate --store {}')
 
 
 def test_no_store_is_made(stage):
@@ -170,6 +207,7 @@ def test_no_store_is_made(stage):
     Copy('listed.csv', 'first.csv').do(stage)
     Link('link.db', 'absent.db').do(stage)
     before = names_in(stage.room.name)
-    for line in (command.format(file) for command in COMMANDS for file in ('absent.db', 'link.db', 'nowhere/absent.db')):
+    for line in (command.format(file) for command in COMMANDS
+                 for file in ('absent.db', 'link.db', 'nowhere/absent.db')):
         stage.check(line, S3)
         compare_all(f'$ restore {line}\nfiles', before, names_in(stage.room.name))

@@ -1,16 +1,37 @@
-"""Requests and their responses, whole and in pieces; requests that are cut, too long, or lie of their lengths; and requests around an
-amendment and a moment."""
-import functools, hashlib
-from dataclasses import dataclass, replace
+"""Requests and their responses, whole and in pieces; requests that are cut, too long, or lie of
+their lengths; and requests around an amendment and a moment."""
+import functools
+import hashlib
+from dataclasses import dataclass
+from dataclasses import replace
 
 from support.bodies import bytes_of
-from support.clients import (
-    AMPLE, BAD_REQUEST, GET_ONLY, HELD, LENGTH_REQUIRED, NOT_FOUND, OTHER, PUT_ONLY, RECEIPTS, SAMPLE, SERVED, TOO_LARGE, WRITE_FAULT,
-    RequestDesk, Wire, list_sample, new_desk, replied, table)
+from support.clients import AMPLE
+from support.clients import BAD_REQUEST
+from support.clients import GET_ONLY
+from support.clients import HELD
+from support.clients import LENGTH_REQUIRED
+from support.clients import NOT_FOUND
+from support.clients import OTHER
+from support.clients import PUT_ONLY
+from support.clients import RECEIPTS
+from support.clients import SAMPLE
+from support.clients import SERVED
+from support.clients import TOO_LARGE
+from support.clients import WRITE_FAULT
+from support.clients import RequestDesk
+from support.clients import Wire
+from support.clients import list_sample
+from support.clients import new_desk
+from support.clients import replied
+from support.clients import table
 from support.events import check
-from support.messages import get, put, response
+from support.messages import get
+from support.messages import put
+from support.messages import response
 from support.reports import status
-from support.steps import FirstScript, Manifest
+from support.steps import FirstScript
+from support.steps import Manifest
 
 GET_STATUS = get('/status')
 NOTHING_TAKEN = response(200, status(1, 0, 0, 0, 'none'))
@@ -20,7 +41,8 @@ OTHER_PARKED = replied(OTHER_RECEIPT)
 
 @dataclass(frozen=True)
 class Exchange:
-    """Requests that come before, a request, its response, the receipts that there are then; and what comes of it."""
+    """Requests that come before, a request, its response, the receipts that there are then; and
+    what comes of it."""
     before: tuple
     wire: Wire
     response: bytes
@@ -37,8 +59,10 @@ ANSWERS = (
     # So it is where the response did not go out.
     Exchange((Wire(OTHER, writable=100),), Wire(OTHER), OTHER_PARKED, (OTHER_RECEIPT,)),
     Exchange((), Wire(GET_STATUS), NOTHING_TAKEN, ()),
-    Exchange((Wire(SAMPLE), Wire(OTHER)), Wire(get('/receipts?all')), table('receipts', *RECEIPTS), RECEIPTS),
-    # No more is read than the answer needs: all of a request without a body, and nothing after a body.
+    Exchange((Wire(SAMPLE), Wire(OTHER)), Wire(get('/receipts?all')), table('receipts', *RECEIPTS),
+             RECEIPTS),
+    # No more is read than the answer needs: all of a request without a body, and nothing after a
+    # body.
     Exchange((), Wire(GET_STATUS, readable=24), NOTHING_TAKEN, ()),
     Exchange((), Wire(OTHER, readable=51), OTHER_PARKED, (OTHER_RECEIPT,)),
     # A flush that fails.
@@ -74,18 +98,21 @@ REPORTS = (
     ('/status?x=1', response(200, status(1, 1, 1, 1, '2024-03-03T00:00:00Z FULL 0', contact=1))),
     ('/gaps', table('gaps', '2024-03-03T00:00:00Z,FULL,0,chain,,')),
     ('/links', table('links', 'V1,contact,C1,clID,R1,registrar')),
-    ('/export/contact', table('export', 'contact,C1,contact,0,id,C1', 'contact,C1,contact,0,clID,R1')),
+    ('/export/contact', table('export', 'contact,C1,contact,0,id,C1',
+                              'contact,C1,contact,0,clID,R1')),
     ('/receipts', table('receipts', *RECEIPTS[:1])),
 )
 
 
 def head(lines=0, size=8_192, end=b'\r\n\r\n'):
-    """A request for the receipts of so many bytes, with so many short header lines before a long one, and this end."""
+    """A request for the receipts of so many bytes, with so many short header lines before a long
+    one, and this end."""
     front = b'GET /receipts HTTP/1.1\r\n' + lines * b'A: 1\r\n' + b'X: '
     return front.ljust(size - len(end), b'x') + end
 
 
-# Heads of as many bytes and lines as there may be, of one more, and without an end; and their responses.
+# Heads of as many bytes and lines as there may be, of one more, and without an end; and their
+# responses.
 HEADS = (
     (head(), table('receipts')),
     (head(size=8_193), BAD_REQUEST),
@@ -111,11 +138,20 @@ def check_exchanges(stage, exchanges, pieces):
 # What is asked for, and the pieces in which it comes.
 ASKED = {
     'Requests are answered, whole and in pieces': (ANSWERS, (1, 7, AMPLE)),
-    'Requests are refused in their order': ([Exchange((), Wire(it), response, ()) for it, response in REFUSED], (1, AMPLE)),
-    'A head has a limit': ([Exchange((), Wire(it), response, ()) for it, response in HEADS], (1, AMPLE)),
-    'Reports are told': ([Exchange((Wire(SAMPLE),), Wire(get(it)), response, RECEIPTS[:1]) for it, response in REPORTS], (AMPLE,)),
+    'Requests are refused in their order': ([
+        Exchange((), Wire(it), response, ()) for it, response in REFUSED
+    ], (1, AMPLE)),
+    'A head has a limit': ([Exchange((), Wire(it), response, ())
+                            for it, response in HEADS], (1, AMPLE)),
+    'Reports are told': ([
+        Exchange((Wire(SAMPLE),), Wire(get(it)), response, RECEIPTS[:1])
+        for it, response in REPORTS
+    ], (AMPLE,)),
 }
-CASES = {title: functools.partial(check_exchanges, exchanges=exchanges, pieces=pieces) for title, (exchanges, pieces) in ASKED.items()}
+CASES = {
+    title: functools.partial(check_exchanges, exchanges=exchanges, pieces=pieces)
+    for title, (exchanges, pieces) in ASKED.items()
+}
 
 
 def test_beginnings(stage):
@@ -136,14 +172,20 @@ def test_an_amendment(stage):
     Manifest('amended.csv', ('F1', 'D2')).do(stage)
     FirstScript('first.sql', 'first.csv', (('1', 'F1'), ('2', 'D2'))).do(stage)
     d2 = bytes_of('D2')
-    # Version 1 didn't keep D2, and its reply stays. As it comes again it is parked, and held once it is listed.
+    # Version 1 didn't keep D2, and its reply stays. As it comes again it is parked, and held once
+    # it is listed.
     lost, d2_parked = '2,2,A2,,,,,', table('parked', f'{hashlib.sha256(d2).hexdigest()},{len(d2)}')
     before = ((put('2', d2), replied(lost)), (get('/parked'), d2_parked),
               (get('/gaps'), table('gaps', '2024-03-03T00:00:00Z,FULL,0,chain,,')))
     after = (
         (get('/parked'), table('parked')),
-        (get('/gaps'), table('gaps', '2024-03-03T00:00:00Z,FULL,0,chain,,', '2024-03-04T00:00:00Z,DIFF,0,standing,,')),
-        (get('/status'), response(200, status(2, 2, 2, 1, '2024-03-03T00:00:00Z FULL 0', registrar=1, contact=1, domain=1))),
+        (get('/gaps'),
+         table('gaps', '2024-03-03T00:00:00Z,FULL,0,chain,,',
+               '2024-03-04T00:00:00Z,DIFF,0,standing,,')),
+        (get('/status'),
+         response(
+             200, status(2, 2, 2, 1, '2024-03-03T00:00:00Z FULL 0', registrar=1, contact=1,
+                         domain=1))),
         (get('/moment'), response(200, '2024-03-03T00:00:00Z\n')),
         (put('2', d2), replied(lost)),
         (put('3', d2), replied('3,3,A1,,D2,0,new,0')),

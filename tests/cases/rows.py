@@ -1,26 +1,40 @@
-"""The worked rows: bodies that arrive at a desk in some order, and the chain that it has in the end; all else is by the plain model. Each is
-played in a new store, and in one that is opened again. And what stood before each step of a chain."""
+"""The worked rows: bodies that arrive at a desk in some order, and the chain that it has in the
+end; all else is by the plain model. Each is played in a new store, and in one that is opened again.
+And what stood before each step of a chain."""
 import contextlib
 from typing import NamedTuple
 
-from support.bodies import bytes_of, line_of, manifest_text
-from support.clients import Wire, new_desk, table
+from support.bodies import bytes_of
+from support.bodies import line_of
+from support.bodies import manifest_text
+from support.clients import Wire
+from support.clients import new_desk
+from support.clients import table
 from support.events import query
-from support.first_store import literal, undo_of
+from support.first_store import literal
+from support.first_store import undo_of
 from support.formats import record
 from support.messages import get
 from support.model import Desk
-from support.stage import case, compare, text_of
-from support.telling import answer, rows_told, state
-from support.verdicts import DOMAIN_A, DOMAIN_B, R1
+from support.stage import case
+from support.stage import compare
+from support.stage import text_of
+from support.telling import answer
+from support.telling import rows_told
+from support.telling import state
+from support.verdicts import DOMAIN_A
+from support.verdicts import DOMAIN_B
+from support.verdicts import R1
 
 B = ('F1', 'D2', 'D3', 'I4', 'F5', 'D6', 'D2Resent')
-# Manifests with a revision whose base isn't listed, and with two types at one watermark, not in the order of places.
+# Manifests with a revision whose base isn't listed, and with two types at one watermark, not in the
+# order of places.
 WITH_X9, TIES = (*B, 'D3Unlisted'), ('F2', 'D2', 'F1', 'I2', 'I0')
 
 
 class Row(NamedTuple):
-    """Arrivals, each a number and a body, and the rows of the manifest that are the latest chain after them."""
+    """Arrivals, each a number and a body, and the rows of the manifest that are the latest chain
+    after them."""
     name: str
     arrivals: str
     chain: tuple = ()
@@ -58,24 +72,30 @@ ROWS = (
     Row('an Incremental of the moment of its Full', '1:F2 2:I2', (0,), TIES),
     Row('an Incremental before its Full', '1:I0', (), TIES),
     Row('an Incremental before all Fulls', '1:I0 2:D2 3:F2', (0,), TIES),
-    Row('an Incremental after a Full that is missing', '1:F1 2:D2 3:D3 4:I7', (0, 1, 2), (*B, 'I7')),
-    Row('an Incremental after a Full, whose previous id is another', '1:F1 2:D2 3:D3 4:F5 5:I7', (4, 7), (*B, 'I7')),
+    Row('an Incremental after a Full that is missing', '1:F1 2:D2 3:D3 4:I7', (0, 1, 2),
+        (*B, 'I7')),
+    Row('an Incremental after a Full, whose previous id is another', '1:F1 2:D2 3:D3 4:F5 5:I7',
+        (4, 7), (*B, 'I7')),
     Row('an Incremental whose Full is missing', '1:F1 2:I4', (0,), (*B, 'F4')),
-    Row('each kind of blocker', '1:EarlyI0 2:EarlyD2 3:EarlyD3', (), ('EarlyI0', 'EarlyF1', 'EarlyD2', 'EarlyD3')),
+    Row('each kind of blocker', '1:EarlyI0 2:EarlyD2 3:EarlyD3', (),
+        ('EarlyI0', 'EarlyF1', 'EarlyD2', 'EarlyD3')),
     # The later revisions of D2 and D3 are used, and none of F5; and each row by itself.
     Row('later revisions', '1:D2 2:D2Resent 3:D3 4:D3Unlisted 5:F1', (0, 6), WITH_X9),
     Row('F1 alone', '1:F1', (0,), WITH_X9),
     *(Row(f'{it} alone', f'1:{it}', (), WITH_X9) for it in ('D2', 'D3', 'I4', 'D6', 'D3Unlisted')),
-    Row('bodies that are no bundle', 'n1:Empty n2:Cut n3:Long n2:Abc', (), ('Empty', 'Cut', 'Long')),
+    Row('bodies that are no bundle', 'n1:Empty n2:Cut n3:Long n2:Abc', (),
+        ('Empty', 'Cut', 'Long')),
     Row('a child row without a parent row', '1:Orphan', (0,), ('Orphan',)),
     Row('another resend than listed', '1:Unequal', (), ('Unequal',)),
-    Row('bodies of which some are held', '1:Empty 2:D2 3:Unequal 4:Abc 5:F2 6:D2 6:D2', (2,), ('Empty', 'Unequal', 'F2', 'D2')),
+    Row('bodies of which some are held', '1:Empty 2:D2 3:Unequal 4:Abc 5:F2 6:D2 6:D2', (2,),
+        ('Empty', 'Unequal', 'F2', 'D2')),
 )
 
 
 @contextlib.contextmanager
 def desk_of(stage, listed):
-    """A desk over a new store that lists worked bodies, and the plain model, in a `with` statement."""
+    """A desk over a new store that lists worked bodies, and the plain model, in a `with`
+    statement."""
     stage.write('listed.csv', manifest_text(listed).encode())
     with new_desk(stage) as desk:
         yield desk, Desk(manifest_text(listed).encode())
@@ -95,7 +115,8 @@ def check_state(desk, model):
 
 
 def check_rows(stage, closing, *closings):
-    """Each row in a new store that is closed so and opened again before each arrival, if it is; and so in the end."""
+    """Each row in a new store that is closed so and opened again before each arrival, if it is; and
+    so in the end."""
     for row in ROWS:
         with case(row.name), desk_of(stage, row.listed) as (desk, model):
             for it in row.arrivals.split():
@@ -103,7 +124,8 @@ def check_rows(stage, closing, *closings):
                     open_again(desk, closing)
                 number, name = it.split(':')
                 stage.write(name, bytes_of(name))
-                desk.check(f'comes {number} {name}', answer(stage, model, f'comes {number} {name}').whole())
+                desk.check(f'comes {number} {name}',
+                           answer(stage, model, f'comes {number} {name}').whole())
             compare('the rows of the chain', f'{row.chain}', f'{tuple(model.steps)}')
             check_state(desk, model)
             for it in closings:
@@ -116,9 +138,10 @@ def check_rows(stage, closing, *closings):
 # (Files are closed as a crash of the program leaves them, and as the program does.)
 CASES = {
     'Each row in a new store': lambda stage: check_rows(stage, None),
-    'Each row in a store that is closed and opened again before each arrival': lambda stage: check_rows(stage, 'close'),
-    'Each row in files that are closed and opened again before each arrival, and at the end':
-        lambda stage: check_rows(stage, 'reopen', 'crash written', 'reopen'),
+    'Each row in a store that is closed and opened again before each arrival': lambda stage:
+    check_rows(stage, 'close'),
+    'Each row in files that are closed and opened again before each arrival, and at the end': lambda
+    stage: check_rows(stage, 'reopen', 'crash written', 'reopen'),
 }
 
 
@@ -126,7 +149,8 @@ def test_tables_are_moved_and_not_read_again(stage):
     """Tables are moved, and not read again."""
     # F1's contact has another registrar since, in the store alone.
     moved = record([('contact', [('id', 'C1'), ('clID', 'R7')])])
-    stage.write('moved.sql', f'UPDATE object SET record = {literal(moved)} WHERE kind = 1;\n'.encode())
+    stage.write('moved.sql',
+                f'UPDATE object SET record = {literal(moved)} WHERE kind = 1;\n'.encode())
     for name in ('F1', 'D2'):
         stage.write(name, bytes_of(name))
     with desk_of(stage, B) as (desk, model):
@@ -139,4 +163,8 @@ def test_tables_are_moved_and_not_read_again(stage):
 
 def test_the_empty_body(_):
     """The empty body is listed by its published digest."""
-    compare('row', 'E0,FULL,2024-03-01T00:00:00Z,,0,e3b0c44298fc1c149afbf4c8996fb92427ae41e4649b934ca495991b7852b855\n', line_of('Empty'))
+    compare(
+        'row',
+        'E0,FULL,2024-03-01T00:00:00Z,,0,'
+        'e3b0c44298fc1c149afbf4c8996fb92427ae41e4649b934ca495991b7852b855\n',
+        line_of('Empty'))

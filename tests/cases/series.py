@@ -13,13 +13,20 @@ from cases.handovers import clear
 from support.bundles import HEADING
 from support.escrow import folders_in
 from support.files import read
-from support.formats import KINDS, read_record
+from support.formats import KINDS
+from support.formats import read_record
 from support.model import Desk
 from support.reports import report
-from support.stage import Failed, Wanted, case, compare, compare_all
+from support.stage import Failed
+from support.stage import Wanted
+from support.stage import case
+from support.stage import compare
+from support.stage import compare_all
 from support.stores import run
 from support.telling import state
-from support.unpacking import Described, bundle_in, row_of
+from support.unpacking import Described
+from support.unpacking import bundle_in
+from support.unpacking import row_of
 
 FULL = {'id': 'F1', 'type': 'FULL', 'watermark': '2024-03-03T00:00:00Z'}
 INCR = {'id': 'I2', 'type': 'INCR', 'watermark': '2024-03-04T00:00:00Z'}

@@ -1,16 +1,46 @@
 """The desk on a socket."""
-import contextlib, functools, os, resource, socket, time
+import contextlib
+import functools
+import os
+import resource
+import socket
+import time
 
 from support.bundles import SAMPLE as CONTACT
-from support.clients import BAD_REQUEST, NOT_FOUND, PUT_ONLY, RECEIPTS, replied, table
+from support.clients import BAD_REQUEST
+from support.clients import NOT_FOUND
+from support.clients import PUT_ONLY
+from support.clients import RECEIPTS
+from support.clients import replied
+from support.clients import table
 from support.first_store import insertion
-from support.formats import KINDS, record
-from support.messages import get, put, response
-from support.outputs import check_narrow, run_narrow
+from support.formats import KINDS
+from support.formats import record
+from support.limits import BYTES_A_SECOND
+from support.limits import FIRST_SECONDS
+from support.limits import MOST_PARKED
+from support.messages import get
+from support.messages import put
+from support.messages import response
+from support.outputs import check_narrow
+from support.outputs import run_narrow
 from support.reports import report
-from support.sockets import HOST, PORTS, breaks_off, call, free_port, is_taken, received, serve, serving
-from support.stage import SECONDS, Failed, Wanted, difference
-from support.steps import Copy, Parked, Statements
+from support.sockets import HOST
+from support.sockets import PORTS
+from support.sockets import breaks_off
+from support.sockets import call
+from support.sockets import free_port
+from support.sockets import is_taken
+from support.sockets import received
+from support.sockets import serve
+from support.sockets import serving
+from support.stage import SECONDS
+from support.stage import Failed
+from support.stage import Wanted
+from support.stage import difference
+from support.steps import Copy
+from support.steps import Parked
+from support.steps import Statements
 
 CONTACTS = 'contact,C1,contact,0,id,C1', 'contact,C1,contact,0,clID,R1'
 # Requests, and their responses.
@@ -35,7 +65,8 @@ def responses_of(port, requests):
 
 
 def served(stage, count, ask, told='', **streams):
-    """Serves so many connections from a store, and gives the responses, which are asked for at a port. Compares what is told of them."""
+    """Serves so many connections from a store, and gives the responses, which are asked for at a
+    port. Compares what is told of them."""
     child, port = serve(stage, 'a.db', count, **streams)
     responses = ask(port)
     stage.compare(serving('a.db', port, count), Wanted(0, '', told), stage.end(child))
@@ -50,7 +81,8 @@ def compare_responses(exchanges, responses):
 
 def check_responses(stage, exchanges):
     requests = [request for request, _ in exchanges]
-    compare_responses(exchanges, served(stage, len(requests), lambda port: responses_of(port, requests)))
+    compare_responses(exchanges,
+                      served(stage, len(requests), lambda port: responses_of(port, requests)))
 
 
 def set_up(stage):
@@ -81,7 +113,8 @@ AROUND = (get('/receipts'), table('receipts'))
 
 
 def responses_around_broken(port):
-    """The responses to the first request and to the last one. The connections between these break while the first one is waited for."""
+    """The responses to the first request and to the last one. The connections between these break
+    while the first one is waited for."""
     with socket.create_connection((HOST, port), SECONDS) as first:
         for request in BROKEN:
             with socket.create_connection((HOST, port), SECONDS) as client:
@@ -99,11 +132,10 @@ def test_broken_connections(stage):
     set_up(stage)
     with open('/dev/full', 'wb') as full:
         for told, streams in (('read fault\nwrite fault\n', {}), ('', {'err': full})):
-            compare_responses((AROUND, AROUND), served(stage, 4, responses_around_broken, told, **streams))
+            compare_responses((AROUND, AROUND),
+                              served(stage, 4, responses_around_broken, told, **streams))
 
 
-# For how many seconds a client is waited for, and the bytes that earn one second more.
-GRANTED, EARNING = 10, 65_536
 # A cell so long that no connection holds an export with it, and the response that has it.
 CELL = 2_000_000 * 'x'
 LONG = table('export', 'contact,C1,contact,0,id,C1', f'contact,C1,contact,0,clID,{CELL}')
@@ -114,10 +146,12 @@ def response_since(begun, port):
 
 
 def check_time(seconds, moved):
-    """Compares for how long the desk waited for a client that moved so many bytes. (Its own work comes on top.)"""
-    granted = GRANTED + moved // EARNING
-    if not granted - 1 <= seconds < granted + GRANTED:
-        raise Failed(f'a client that is granted {granted} seconds was waited for {seconds:.1f} seconds')
+    """Compares for how long the desk waited for a client that moved so many bytes. (Its own work
+    comes on top.)"""
+    granted = FIRST_SECONDS + moved // BYTES_A_SECOND
+    if not granted - 1 <= seconds < granted + FIRST_SECONDS:
+        raise Failed(
+            f'a client that is granted {granted} seconds was waited for {seconds:.1f} seconds')
 
 
 def check_silent(stage, said):
@@ -134,12 +168,16 @@ def check_silent(stage, said):
     compare_responses((AROUND,), served(stage, 2, ask, 'read fault\n'))
 
 
-CASES = {f'A client that sends nothing{more} is given up in time, and the next one is served': functools.partial(check_silent, said=said)
-         for more, said in ((' more', AROUND[0][:8]), ('', b''))}
+CASES = {
+    f'A client that sends nothing{more} is given up in time, and the next one is served':
+    functools.partial(check_silent, said=said)
+    for more, said in ((' more', AROUND[0][:8]), ('', b''))
+}
 
 
 def responses_beside_idle(port):
-    """The response to a request, while a client that came before takes nothing of its own; and what there is of that in the end."""
+    """The response to a request, while a client that came before takes nothing of its own; and what
+    there is of that in the end."""
     begun = time.monotonic()
     with socket.socket() as idle:
         # Neither side of such a connection holds much of what isn't taken.
@@ -155,14 +193,16 @@ def responses_beside_idle(port):
 
 
 def test_client_that_takes_nothing(stage):
-    """A client that takes nothing of a long response is given up in time, and the next one is served."""
+    """A client that takes nothing of a long response is given up in time, and the next one is
+    served."""
     set_up(stage)
     long = record([('contact', [('id', 'C1'), ('clID', CELL)])])
     Statements('a.db', insertion('object', (KINDS.index('contact'), b'C1', long))).do(stage)
     *responses, taken = served(stage, 2, responses_beside_idle, 'write fault\n')
     compare_responses((AROUND,), responses)
     if not taken or len(taken) == len(LONG) or not LONG.startswith(taken):
-        raise Failed(f'{len(taken)} bytes that came are no beginning of the response: {taken[:400]!r}')
+        raise Failed(
+            f'{len(taken)} bytes that came are no beginning of the response: {taken[:400]!r}')
     # Whoever takes it gets all of it.
     check_responses(stage, [(get('/export/contact'), LONG)])
 
@@ -191,8 +231,9 @@ def test_no_room_for_another_receipt(stage):
 def test_no_room_for_another_parked_body(stage):
     """No room for another parked body."""
     set_up(stage)
-    Parked('a.db', 1_024).do(stage)
-    check_responses(stage, [(put('n2', b'abc'), response(503, 'S5\n')), (put('n1', CONTACT), replied('1025,n1,A1,,F1,0,new,0'))])
+    Parked('a.db', MOST_PARKED).do(stage)
+    check_responses(stage, [(put('n2', b'abc'), response(503, 'S5\n')),
+                            (put('n1', CONTACT), replied('1025,n1,A1,,F1,0,new,0'))])
 
 
 def test_taken_port(stage):

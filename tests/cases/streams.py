@@ -1,10 +1,14 @@
-"""Standard output and standard error that fail, and a file that is removed while its folder is taken."""
+"""Standard output and standard error that fail, and a file that is removed while its folder is
+taken."""
 import os
 
-from support.outputs import check_narrow, run_held_up
+from support.outputs import check_narrow
+from support.outputs import run_held_up
 from support.reports import report
 from support.stage import Wanted
-from support.steps import Copy, Folder, Text
+from support.steps import Copy
+from support.steps import Folder
+from support.steps import Text
 
 HEADING, FIRST = report('receipts'), report('receipts', ['1,n1,A1,,F1,0,new,0'])
 INIT = 'init --store a.db --manifest listed.csv'
@@ -14,7 +18,9 @@ AMPLE = 10_000
 
 
 def set_up(stage, **bodies):
-    for step in (Copy('listed.csv', 'fulls.csv'), Folder('deposits'), *(Copy(f'deposits/{it}', body) for it, body in bodies.items())):
+    for step in (Copy('listed.csv',
+                      'fulls.csv'), Folder('deposits'), *(Copy(f'deposits/{it}', body)
+                                                          for it, body in bodies.items())):
         step.do(stage)
 
 
@@ -37,7 +43,8 @@ def test_whoever_reads_leaves(stage):
     """Whoever reads standard output leaves after the heading."""
     set_up(stage, n1='f1.bundle', n2='f5.bundle')
     stage.check(INIT, Wanted(0, 'listed 2\n'))
-    stage.compare(TAKE, Wanted(3, '', 'E1 -\n'), run_held_up(stage, TAKE, len(HEADING), lambda: False))
+    stage.compare(TAKE, Wanted(3, '', 'E1 -\n'),
+                  run_held_up(stage, TAKE, len(HEADING), lambda: False))
     stage.check(RECEIPTS, Wanted(0, FIRST))
 
 
@@ -57,7 +64,8 @@ def test_a_file_that_goes(stage):
     """A file that goes stops its folder."""
     set_up(stage, n1='f1.bundle', n2='f1.bundle', n3='f5.bundle')
     stage.check(INIT, Wanted(0, 'listed 2\n'))
-    # The second file is removed once the heading is written. There is no room for the row of the first one until then.
+    # The second file is removed once the heading is written. There is no room for the row of the
+    # first one until then.
     got = run_held_up(stage, TAKE, len(HEADING), lambda: os.remove(stage.at('deposits/n2')))
     stage.compare(TAKE, Wanted(3, FIRST, 'E1 deposits/n2\n'), got)
     stage.check(RECEIPTS, Wanted(0, FIRST))

@@ -1,29 +1,63 @@
-"""`handover tables`: the files and the database of registries, read by Python's csv, hashlib and sqlite3, against a plain model of what is held;
-and where they are not made. (handovers.py has what all commands refuse.)"""
-import contextlib, csv, functools, hashlib, io, os, resource, shutil, signal, sqlite3
+"""`handover tables`: the files and the database of registries, read by Python's csv, hashlib and
+sqlite3, against a plain model of what is held; and where they are not made. (handovers.py has what
+all commands refuse.)"""
+import contextlib
+import csv
+import functools
+import hashlib
+import io
+import os
+import resource
+import shutil
+import signal
+import sqlite3
 
-from cases.handovers import (
-    CHILD, FIRST, HOST, SHORT, TABLES, check_contents_refused, check_refused, children, contacts, hosts, names_in, played_apart, release_of,
-    store_of)
-from support.bundles import HEADING, Table
+from cases.handovers import CHILD
+from cases.handovers import FIRST
+from cases.handovers import HOST
+from cases.handovers import SHORT
+from cases.handovers import TABLES
+from cases.handovers import check_contents_refused
+from cases.handovers import check_refused
+from cases.handovers import children
+from cases.handovers import contacts
+from cases.handovers import hosts
+from cases.handovers import names_in
+from cases.handovers import played_apart
+from cases.handovers import release_of
+from cases.handovers import store_of
+from support.bundles import HEADING
+from support.bundles import Table
 from support.documents import csv_text
 from support.files import read
 from support.flawed import some_release
-from support.formats import KINDS, read_record, record
-from support.outputs import no_longer_files, prepared
-from support.releases import SAMPLES, Release
-from support.stage import Failed, case, compare, compare_all
-from support.steps import Folder, Link, Text
-from support.stores import change_row, run
+from support.formats import KINDS
+from support.formats import read_record
+from support.formats import record
+from support.outputs import no_longer_files
+from support.outputs import prepared
+from support.releases import SAMPLES
+from support.releases import Release
+from support.stage import Failed
+from support.stage import case
+from support.stage import compare
+from support.stage import compare_all
+from support.steps import Folder
+from support.steps import Link
+from support.steps import Text
+from support.stores import change_row
+from support.stores import run
 
 BOTH = 'tables --store a.db --sqlite out'
 
 
 def sheet_of(is_parent, rows):
-    """The table of rows, of each the key and its cells: whether it has parent rows, its columns after the key, and its rows: of each the key,
-    and the texts, or None where it has no such field. A field that stands in it twice has its first text."""
+    """The table of rows, of each the key and its cells: whether it has parent rows, its columns
+    after the key, and its rows: of each the key, and the texts, or None where it has no such field.
+    A field that stands in it twice has its first text."""
     columns = list(dict.fromkeys(field for _, cells in rows for field, _ in cells))
-    return is_parent, columns, [(key, *map(dict(reversed(cells)).get, columns)) for key, cells in rows]
+    return is_parent, columns, [(key, *map(dict(reversed(cells)).get, columns))
+                                for key, cells in rows]
 
 
 def sheets_of(objects):
@@ -36,27 +70,37 @@ def sheets_of(objects):
             parents.append((key.decode(), cells))
             for table, cells in others:
                 children.setdefault(table, []).append((key.decode(), cells))
-        sheets |= {kind: sheet_of(True, parents)} | {table: sheet_of(False, rows) for table, rows in children.items()}
+        sheets |= {kind: sheet_of(True, parents)
+                   } | {table: sheet_of(False, rows)
+                        for table, rows in children.items()}
     return sheets
 
 
 def check_database(stage, sheets):
     with contextlib.closing(sqlite3.connect(stage.at('out/registry.sqlite'))) as database:
         compare('integrity', 'ok', database.execute('PRAGMA integrity_check').fetchone()[0])
-        names = [it for it, in database.execute("SELECT name FROM sqlite_master WHERE type = 'table'")]
+        names = [
+            it for it, in database.execute("SELECT name FROM sqlite_master WHERE type = 'table'")
+        ]
         compare_all('tables', sorted(sheets), sorted(names))
         for name, (is_parent, columns, rows) in sheets.items():
             quoted = '"' + name.replace('"', '""') + '"'
-            compare_all(f'columns of {name}', [('key', 'TEXT', int(is_parent)), *((it, 'TEXT', 0) for it in columns)],
-                        [(it[1], it[2], it[5]) for it in database.execute(f'PRAGMA table_info({quoted})')])
-            compare_all(f'rows of {name}', rows, database.execute(f'SELECT * FROM {quoted} ORDER BY rowid'))
-            plan = database.execute(f'EXPLAIN QUERY PLAN SELECT * FROM {quoted} WHERE key = ?', ('',)).fetchall()[0][3]
-            if not plan.startswith((f'SEARCH {name} USING INDEX', f'SEARCH {name} USING COVERING INDEX')):
+            compare_all(f'columns of {name}',
+                        [('key', 'TEXT', int(is_parent)), *((it, 'TEXT', 0) for it in columns)],
+                        [(it[1], it[2], it[5])
+                         for it in database.execute(f'PRAGMA table_info({quoted})')])
+            compare_all(f'rows of {name}', rows,
+                        database.execute(f'SELECT * FROM {quoted} ORDER BY rowid'))
+            plan = database.execute(f'EXPLAIN QUERY PLAN SELECT * FROM {quoted} WHERE key = ?',
+                                    ('',)).fetchall()[0][3]
+            if not plan.startswith(
+                (f'SEARCH {name} USING INDEX', f'SEARCH {name} USING COVERING INDEX')):
                 raise Failed(f'{name} is searched without an index: {plan}')
 
 
 def check_tables(stage, objects, line=TABLES):
-    """Makes the files of a store, and compares them with the tables of these objects. Nothing else is made or changed."""
+    """Makes the files of a store, and compares them with the tables of these objects. Nothing else
+    is made or changed."""
     names, before = {*names_in(stage.room.name), 'a.db-wal', 'out'}, read(stage.at('a.db'))
     run(stage, line, 'handover')
     sheets = sheets_of(objects)
@@ -65,8 +109,10 @@ def check_tables(stage, objects, line=TABLES):
     compare_all('files', sorted(names | made), names_in(stage.room.name))
     for name, (_, columns, rows) in sheets.items():
         wanted = [['key', *columns], *([text or '' for text in row] for row in rows)]
-        compare_all(f'{name}.csv', wanted, csv.reader(io.StringIO(read(stage.at(f'out/{name}.csv')).decode(), newline='')))
-    compare_all('sha256sums', (f'{hashlib.sha256(read(stage.at(f"out/{it}"))).hexdigest()}  {it}' for it in files),
+        compare_all(f'{name}.csv', wanted,
+                    csv.reader(io.StringIO(read(stage.at(f'out/{name}.csv')).decode(), newline='')))
+    compare_all('sha256sums', (f'{hashlib.sha256(read(stage.at(f"out/{it}"))).hexdigest()}  {it}'
+                               for it in files),
                 read(stage.at('out/sha256sums')).decode().splitlines())
     if '--sqlite' in line:
         check_database(stage, sheets)
@@ -75,8 +121,8 @@ def check_tables(stage, objects, line=TABLES):
 
 
 def check_release(stage, release, refusal=None):
-    """Compares the files of a release, with a database, and without one. There may be a refusal of the database, and there are none where
-    there is no chain."""
+    """Compares the files of a release, with a database, and without one. There may be a refusal of
+    the database, and there are none where there is no chain."""
     release.rebuild(stage)
     desk = release.desk()
     if desk.steps:
@@ -89,14 +135,19 @@ def check_release(stage, release, refusal=None):
 
 
 RELEASES = SAMPLES | {f'the release of seed {seed}': some_release(seed) for seed in range(6)}
-CASES = {f'Tables of {name}': functools.partial(check_release, release=it) for name, it in RELEASES.items()}
+CASES = {
+    f'Tables of {name}': functools.partial(check_release, release=it)
+    for name, it in RELEASES.items()
+}
 
 
 # ---- texts, and fields that differ
 
 
-ODD = ('"', '""', ',', 'a,b', ' a ', '\n', '\r\n', 'a\rb', 'a\n\n', '\t', '\x00', '\ufeff', 'é', '例え.テスト', '🙂', "'; DROP TABLE contact;--", '')
-# The tables of a Full and of a Differential, and the refusal where they can't be those of a database.
+ODD = ('"', '""', ',', 'a,b', ' a ', '\n', '\r\n', 'a\rb', 'a\n\n', '\t', '\x00', '\ufeff', 'é',
+       '例え.テスト', '🙂', "'; DROP TABLE contact;--", '')
+# The tables of a Full and of a Differential, and the refusal where they can't be those of a
+# database.
 REGISTRIES = (
     # Texts of all sorts.
     ((contacts(csv_text(((f'C{at}', it) for at, it in enumerate(ODD)), ',')),), (), None),
@@ -104,10 +155,15 @@ REGISTRIES = (
     ((contacts(csv_text((('a,"b', 'x'), ('a\nb', 'y'), ('\ufeffa', 'z')), ',')),), (), None),
     # The letters of a host's key are lowered, and those in its field aren't.
     ((hosts(b'NS1.example\nns2.EXAMPLE\n'),), (), None),
-    # Fields that only some rows have, in other orders; a text that is empty, and a field that isn't there.
-    ((FIRST, CHILD), (contacts(b'x,C2\n,C3\n', ('note', 'id'), 'id'), children(b',C2,s\n', fields=('text', 'id', 'sort'), key='id')), None),
+    # Fields that only some rows have, in other orders; a text that is empty, and a field that isn't
+    # there.
+    ((FIRST, CHILD), (contacts(b'x,C2\n,C3\n', ('note', 'id'),
+                               'id'), children(b',C2,s\n', fields=('text', 'id', 'sort'),
+                                               key='id')), None),
     # The parent rows are declared under one name here and under another there.
-    ((FIRST,), (contacts(b'C2,X2\n', name='people'), children(b'C2,1,2\n', 'a_b', ('id', 'a.b', 'a-b'))), None),
+    ((FIRST,), (contacts(b'C2,X2\n',
+                          name='people'), children(b'C2,1,2\n', 'a_b',
+                                                   ('id', 'a.b', 'a-b'))), None),
     # Two rows of one table in an object, between those of others.
     ((FIRST, CHILD), (FIRST, *(children(b'C1,x\nC1,y\n', it) for it in ('z', 'more', 'a'))), None),
     # Names that are words of SQL.
@@ -115,30 +171,36 @@ REGISTRIES = (
     # Names of columns that a database takes for one.
     ((contacts(b'C1,c1\n', ('id', 'ID')),), (), 'H10 contact'),
     ((contacts(b'C1,c1\n', ('id', 'Key')),), (), 'H10 contact'),
-    ((FIRST, CHILD), (contacts(b'C2,X2\n'), children(b'C2,x\n', fields=('id', 'Text'))), 'H10 more'),
+    ((FIRST, CHILD), (contacts(b'C2,X2\n'), children(b'C2,x\n',
+                                                     fields=('id', 'Text'))), 'H10 more'),
     # A name of SQLite's own.
     ((FIRST, children(b'C1\n', 'SQLITE_more', ('id',))), (), 'H10 SQLITE_more'),
     # An empty registry.
     ((), (), None),
 )
-CASES['Tables of all sorts'] = played_apart(lambda stage, *given: check_release(stage, release_of(*given[:2]), given[2]), REGISTRIES)
+CASES['Tables of all sorts'] = played_apart(
+    lambda stage, *given: check_release(stage, release_of(*given[:2]), given[2]), REGISTRIES)
 
 
 def test_cells_that_no_bundle_has(stage):
     """Rows that no bundle has: a field that stands in a row twice, and a row without cells."""
     store_of(stage, (FIRST, CHILD))
-    rows = [('contact', [('id', 'C1'), ('x', '1'), ('id', 'C2'), ('x', '2')]), ('more', []), ('more', [('x', '')])]
+    rows = [('contact', [('id', 'C1'), ('x', '1'), ('id', 'C2'), ('x', '2')]), ('more', []),
+            ('more', [('x', '')])]
     change_row(stage, 'a.db', 'UPDATE object SET record = ? WHERE key = ?', (record(rows), b'C1'))
     check_tables(stage, {('contact', b'C1'): record(rows)}, BOTH)
 
 
 # The tables of a Full and of a Differential of which two would be in one file.
 ALIKE = (
-    ('H9 more', (FIRST, CHILD, HOST), (HOST, Table('more', 'host', 'child', ('name', 'text'), b'ns1.example,x\n'))),
+    ('H9 more', (FIRST, CHILD, HOST), (HOST,
+                                       Table('more', 'host', 'child', ('name', 'text'),
+                                             b'ns1.example,x\n'))),
     ('H9 more', (FIRST, CHILD), (contacts(b'C2,X2\n'), children(b'C2\n', 'More', ('id',)))),
     ('H9 Domain', (FIRST, children(b'C1\n', 'Domain', ('id',))), ()),
 )
-CASES['Tables of which two would be in one file'] = played_apart(functools.partial(check_contents_refused, lines=(TABLES, BOTH)), ALIKE)
+CASES['Tables of which two would be in one file'] = played_apart(
+    functools.partial(check_contents_refused, lines=(TABLES, BOTH)), ALIKE)
 
 
 def test_no_chain(stage):
@@ -150,21 +212,26 @@ def test_no_chain(stage):
 def test_places(stage):
     """The folder of the files is made, or is empty; else they are not made."""
     store_of(stage, (FIRST,))
-    for made in (Folder('full/of'), Text('file', 'text'), Link('link', 'nowhere'), Folder('empty'), Link('led', 'empty'), Folder('beside.part')):
+    for made in (Folder('full/of'), Text('file', 'text'), Link('link', 'nowhere'), Folder('empty'),
+                 Link('led', 'empty'), Folder('beside.part')):
         made.do(stage)
     for target in ('full', 'file', 'link', 'led', 'absent/out', 'file/out', '', '/', '.', 'a.db'):
         with case(f'at {target!r}'):
-            check_refused(stage, f'E1 {target or "(an empty path)"}', status=3, kept=('a.db', 'file'), words=[*TABLES.split()[:-1], target])
+            check_refused(stage, f'E1 {target or "(an empty path)"}', status=3,
+                          kept=('a.db', 'file'), words=[*TABLES.split()[:-1], target])
     with case('where a stopped run left its files'):
         check_refused(stage, 'E1 beside.part', TABLES.replace('out', 'beside'), 3)
     for target in ('empty', 'new', 'slashes//'):
         run(stage, TABLES.replace('out', target), 'handover')
-        compare('files', 'contact.csv domain.csv host.csv idn.csv nndn.csv registrar.csv sha256sums', ' '.join(sorted(os.listdir(stage.at(target)))))
+        compare('files',
+                'contact.csv domain.csv host.csv idn.csv nndn.csv registrar.csv sha256sums',
+                ' '.join(sorted(os.listdir(stage.at(target)))))
     check_refused(stage, 'E1 new', TABLES.replace('out', 'new'), 3)
 
 
 def make_long(stage):
-    """A store whose first table is short, and whose second one is longer than a log without entries."""
+    """A store whose first table is short, and whose second one is longer than a log without
+    entries."""
     store_of(stage, (contacts(b'C1,%b\n' % (b'x' * 200)),))
 
 
@@ -182,7 +249,8 @@ def test_a_stop(stage):
     ends = prepared([(resource.RLIMIT_FSIZE, SHORT), (resource.RLIMIT_CORE, 0)])
     got = stage.end(stage.begin(TABLES.split(), 'handover', prepare=ends))
     compare('status', f'{-signal.SIGXFSZ}', f'{got.status}')
-    if 'out' in os.listdir(stage.room.name) or 'contact.csv' not in os.listdir(stage.at('out.part')):
+    if 'out' in os.listdir(stage.room.name) or 'contact.csv' not in os.listdir(
+            stage.at('out.part')):
         raise Failed(f'there is {names_in(stage.room.name)}')
     check_refused(stage, 'E1 out.part', TABLES, 3)
     shutil.rmtree(stage.at('out.part'))

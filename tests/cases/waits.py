@@ -1,15 +1,26 @@
 """How long the desk waits for slow clients, by a clock that moves only while one is waited for."""
-from support.clients import (
-    GET_ONLY, LENGTH_REQUIRED, NOT_FOUND, READ_FAULT, SERVED, TOO_LARGE, WRITE_FAULT, Wire, list_sample, new_desk, replied)
-from support.messages import get, put, response
+from support.clients import GET_ONLY
+from support.clients import LENGTH_REQUIRED
+from support.clients import NOT_FOUND
+from support.clients import READ_FAULT
+from support.clients import SERVED
+from support.clients import TOO_LARGE
+from support.clients import WRITE_FAULT
+from support.clients import Wire
+from support.clients import list_sample
+from support.clients import new_desk
+from support.clients import replied
+from support.messages import get
+from support.messages import put
+from support.messages import response
 from support.reports import status
 
 GET_STATUS, LONG_REQUEST = get('/status'), put('n1', 700_000 * b'x')
 # The responses to them, where nothing else has come.
 STATUS, PARKED = response(200, status(1, 0, 0, 0, 'none')), replied('1,n1,A5,,,,,')
 
-# Clients: milliseconds before each part that one gives or takes, and the bytes of each part; what comes of it, and after how many
-# milliseconds. Of a request of 24 bytes.
+# Clients: milliseconds before each part that one gives or takes, and the bytes of each part; what
+# comes of it, and after how many milliseconds. Of a request of 24 bytes.
 HEADS = (
     (0, 24, SERVED, 0),
     # The whole head comes in 9.6 seconds; in 12 seconds it doesn't come.
@@ -19,7 +30,8 @@ HEADS = (
     (9_999, 1, READ_FAULT, 10_000),
     (3_600_000, 24, READ_FAULT, 10_000),
 )
-# What is refused by its head alone, and the response: nothing is read past the piece that ends the head.
+# What is refused by its head alone, and the response: nothing is read past the piece that ends the
+# head.
 REFUSALS = (
     (get('/none'), NOT_FOUND),
     (b'PUT /status HTTP/1.1\r\nContent-Length: 5\r\n\r\n', GET_ONLY),
@@ -29,7 +41,8 @@ REFUSALS = (
 )
 # Of a body of 700,000 bytes.
 BODIES = (
-    # 8,192 bytes come with the head, the others in eleven seconds: more than ten, but the bytes that came earned more.
+    # 8,192 bytes come with the head, the others in eleven seconds: more than ten, but the bytes
+    # that came earned more.
     (1_000, 64_000, SERVED, 12_000),
     # Each second earns less than a second.
     (1_000, 6_000, READ_FAULT, 10_000),
@@ -44,22 +57,27 @@ TAKERS = (
 )
 
 
-def check_requests(stage, request, clients, response):
+def check_requests(stage, request, clients, wanted):
     """A request that comes in parts. There is no response where it doesn't come."""
     list_sample(stage)
     with new_desk(stage) as desk:
         for pause, at_once, came, time in clients:
-            desk.check_served(Wire(request, at_once, pause), response if came == SERVED else b'', came=came, time=time)
+            desk.check_served(Wire(request, at_once, pause), wanted if came == SERVED else b'',
+                              came=came, time=time)
 
 
 def test_refusals(stage):
     """A request that is refused by its head is answered once the head has come."""
-    for request, response in REFUSALS:
-        check_requests(stage, request, [(400, len(request), SERVED, 400), (40, 1, SERVED, 40 * len(request))], response)
+    for request, refusal in REFUSALS:
+        clients = [(400, len(request), SERVED, 400), (40, 1, SERVED, 40 * len(request))]
+        check_requests(stage, request, clients, refusal)
 
 
-CASES = {'A head is waited for as a whole': lambda stage: check_requests(stage, GET_STATUS, HEADS, STATUS),
-         'A body earns its time': lambda stage: check_requests(stage, LONG_REQUEST, BODIES, PARKED)}
+CASES = {
+    'A head is waited for as a whole': lambda stage: check_requests(stage, GET_STATUS, HEADS, STATUS
+                                                                    ),
+    'A body earns its time': lambda stage: check_requests(stage, LONG_REQUEST, BODIES, PARKED)
+}
 
 
 def test_responses(stage):

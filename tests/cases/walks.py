@@ -1,11 +1,17 @@
-"""Exports of many objects: by a reader of the store, and by a desk on a port, which walks page by page, 256 objects in each."""
-from support.bodies import BODIES, SHAPES, bytes_of, manifest_text
+"""Exports of many objects: by a reader of the store, and by a desk on a port, which walks page by
+page, 256 objects in each."""
+from support.bodies import BODIES
+from support.bodies import SHAPES
+from support.bodies import bytes_of
+from support.bodies import manifest_text
 from support.clients import table
 from support.formats import KINDS
 from support.messages import get
 from support.reports import report
-from support.sockets import response_to, serve
-from support.stage import Failed, Wanted
+from support.sockets import response_to
+from support.sockets import serve
+from support.stage import Failed
+from support.stage import Wanted
 from support.stores import run
 
 
@@ -13,7 +19,10 @@ def lines_of(table, row):
     """The lines of an object that has no child rows, by its parent row."""
     kind, _, fields = SHAPES[table]
     cells = row.split(',')
-    return [f'{kind},{cells[0]},{table},0,{name},{cell}' for name, cell in zip(fields, cells, strict=True)]
+    return [
+        f'{kind},{cells[0]},{table},0,{name},{cell}'
+        for name, cell in zip(fields, cells, strict=True)
+    ]
 
 
 def check_export(what, wanted, got):
@@ -36,10 +45,12 @@ def check_exports(stage, *bodies):
     stage.end(child)
     for kind in KINDS:
         # (The bodies have parent rows alone, and each key once.)
-        rows = [(row.partition(',')[0].encode(), lines_of(table, row)) for it in bodies for table, text in BODIES[it].contents.items()
-                if SHAPES[table][0] == kind for row in text.splitlines()]
+        rows = [(row.partition(',')[0].encode(), lines_of(table, row)) for it in bodies
+                for table, text in BODIES[it].contents.items() if SHAPES[table][0] == kind
+                for row in text.splitlines()]
         lines = [line for _, its in sorted(rows) for line in its]
-        check_export(f'$ restore export --store a.db {kind}', report('export', lines).encode(), run(stage, f'export --store a.db {kind}'))
+        check_export(f'$ restore export --store a.db {kind}',
+                     report('export', lines).encode(), run(stage, f'export --store a.db {kind}'))
         check_export(f'GET /export/{kind}', table('export', *lines), served[kind])
 
 

@@ -1,10 +1,20 @@
 """The words of manifests and envelopes: the moments of watermarks, places, types, kinds and ids."""
-from support.bundles import bundle_of, envelope_of, row_of, section
+from support.bundles import bundle_of
+from support.bundles import envelope_of
+from support.bundles import row_of
+from support.bundles import section
 from support.clients import new_desk
 from support.formats import KINDS
 from support.reports import report
-from support.stage import Wanted, case, compare, text_of
-from support.verdicts import F1, desk_over, reply_to, said_of, text_of_rows
+from support.stage import Wanted
+from support.stage import case
+from support.stage import compare
+from support.stage import text_of
+from support.verdicts import F1
+from support.verdicts import desk_over
+from support.verdicts import reply_to
+from support.verdicts import said_of
+from support.verdicts import text_of_rows
 
 # Texts, and the nanoseconds of their moments.
 MOMENTS = (
@@ -16,45 +26,91 @@ MOMENTS = (
     ('2024-03-03T00:00:00.100Z', 1_709_424_000_100_000_000),
 )
 NO_MOMENTS = (
-    '2023-02-29T00:00:00Z', '2100-02-29T00:00:00Z', '2024-04-31T00:00:00Z', '2024-13-01T00:00:00Z', '2024-00-01T00:00:00Z',
-    '2024-01-00T00:00:00Z', '2024-01-01T24:00:00Z', '2024-01-01T00:60:00Z', '2016-12-31T23:59:60Z', '1969-12-31T23:59:59Z',
-    '2262-01-01T00:00:00Z', '2024-03-03T00:00:00.Z', '2024-03-03T00:00:00.1234567890Z', '2024-03-03T00:00:00,5Z', '2024-03-03t00:00:00Z',
-    '2024-03-03T00:00:00z', '2024-03-03 00:00:00Z', '2024-03-03T00:00:00', '2024-03-03T00:00:00+00:00', '2024-03-03T00:00Z',
-    '2024-3-03T00:00:00Z', '02024-03-03T00:00:00Z', '+2024-03-03T00:00:00Z', ' 2024-03-03T00:00:00Z', '2024-03-03T00:00:00Z ',
-    '2024-03-03T00:00:00ZZ', '2024-03-03', '',
+    '2023-02-29T00:00:00Z',
+    '2100-02-29T00:00:00Z',
+    '2024-04-31T00:00:00Z',
+    '2024-13-01T00:00:00Z',
+    '2024-00-01T00:00:00Z',
+    '2024-01-00T00:00:00Z',
+    '2024-01-01T24:00:00Z',
+    '2024-01-01T00:60:00Z',
+    '2016-12-31T23:59:60Z',
+    '1969-12-31T23:59:59Z',
+    '2262-01-01T00:00:00Z',
+    '2024-03-03T00:00:00.Z',
+    '2024-03-03T00:00:00.1234567890Z',
+    '2024-03-03T00:00:00,5Z',
+    '2024-03-03t00:00:00Z',
+    '2024-03-03T00:00:00z',
+    '2024-03-03 00:00:00Z',
+    '2024-03-03T00:00:00',
+    '2024-03-03T00:00:00+00:00',
+    '2024-03-03T00:00Z',
+    '2024-3-03T00:00:00Z',
+    '02024-03-03T00:00:00Z',
+    '+2024-03-03T00:00:00Z',
+    ' 2024-03-03T00:00:00Z',
+    '2024-03-03T00:00:00Z ',
+    '2024-03-03T00:00:00ZZ',
+    '2024-03-03',
+    '',
 )
 # The fractions of moments: their nanoseconds and their texts, in order.
 FRACTIONS = (
-    (0, ''), (1, '.000000001'), (10, '.00000001'), (10_000_000, '.01'), (100_000_000, '.1'), (100_000_100, '.1000001'),
-    (120_000_000, '.12'), (123_000_000, '.123'), (123_400_000, '.1234'), (123_450_000, '.12345'), (123_456_000, '.123456'),
-    (123_456_700, '.1234567'), (123_456_780, '.12345678'), (123_456_789, '.123456789'),
+    (0, ''),
+    (1, '.000000001'),
+    (10, '.00000001'),
+    (10_000_000, '.01'),
+    (100_000_000, '.1'),
+    (100_000_100, '.1000001'),
+    (120_000_000, '.12'),
+    (123_000_000, '.123'),
+    (123_400_000, '.1234'),
+    (123_450_000, '.12345'),
+    (123_456_000, '.123456'),
+    (123_456_700, '.1234567'),
+    (123_456_780, '.12345678'),
+    (123_456_789, '.123456789'),
 )
 LAST = '2261-12-31T23:59:59.999999999Z'
 # Words of a program of which one has a byte that is no UTF-8, and what `clap` says of it.
-NO_TEXTS = (('restore', 'report --store a\udcff status'), ('restore', '\udcc3'), ('pack', 'manifest n1 \udcff'), ('pack', '\udc80bundle'))
-INVALID = "error: invalid UTF-8 was detected in one or more arguments\n\nFor more information, try '--help'.\n"
+NO_TEXTS = (('restore', 'report --store a\udcff status'), ('restore', '\udcc3'),
+            ('pack', 'manifest n1 \udcff'), ('pack', '\udc80bundle'))
+INVALID = ("error: invalid UTF-8 was detected in one or more arguments\n\nFor more information, "
+           "try '--help'.\n")
 # A moment, and the one after it.
 FIFTH, SIXTH = '1970-01-01T00:00:00.000000005Z', '1970-01-01T00:00:00.000000006Z'
 # Places, in their order.
 PLACES = ((FIFTH, 'DIFF'), (FIFTH, 'INCR'), (FIFTH, 'FULL'), (SIXTH, 'DIFF'))
 # Words for an id and for a type, and what is said of a manifest whose row has them.
 WORDS = (
-    ('F1', 'FULL', 'listed 1'), ('F1', 'INCR', 'listed 1'), ('F1', 'DIFF', 'listed 1'), ('F1', 'diff', 'M5 row 1'),
-    ('a.B_9-', 'FULL', 'listed 1'), ('a b', 'FULL', 'M4 row 1'), ('a' * 64, 'FULL', 'listed 1'), ('a' * 65, 'FULL', 'M4 row 1'),
+    ('F1', 'FULL', 'listed 1'),
+    ('F1', 'INCR', 'listed 1'),
+    ('F1', 'DIFF', 'listed 1'),
+    ('F1', 'diff', 'M5 row 1'),
+    ('a.B_9-', 'FULL', 'listed 1'),
+    ('a b', 'FULL', 'M4 row 1'),
+    ('a' * 64, 'FULL', 'listed 1'),
+    ('a' * 65, 'FULL', 'M4 row 1'),
 )
 
 
 def row_at(name, kind, watermark):
-    """What a row says of a deposit on another one that is not listed. A watermark may have a comma."""
-    return f'{name},{kind},"{watermark}",X9,' if ',' in watermark else f'{name},{kind},{watermark},X9,'
+    """What a row says of a deposit on another one that is not listed. A watermark may have a
+    comma."""
+    return f'{name},{kind},"{watermark}",X9,' if ',' in watermark else (f'{name},{kind},'
+                                                                        f'{watermark},X9,')
 
 
 def test_moments_that_are_read(stage):
     """Texts that are moments."""
-    stage.write('listed.csv', text_of_rows((row_at(f'F{at}', 'FULL', text), at) for at, (text, _) in enumerate(MOMENTS)))
+    stage.write(
+        'listed.csv',
+        text_of_rows((row_at(f'F{at}', 'FULL', text), at) for at, (text, _) in enumerate(MOMENTS)))
     with new_desk(stage) as desk:
         desk.check('close', '')
-        desk.check('query SELECT watermark FROM listed ORDER BY row', text_of(f'{moment}' for _, moment in MOMENTS))
+        desk.check('query SELECT watermark FROM listed ORDER BY row',
+                   text_of(f'{moment}' for _, moment in MOMENTS))
     stage.check('init --store a.db --manifest listed.csv', Wanted(0, f'listed {len(MOMENTS)}\n'))
     for text, _ in MOMENTS:
         stage.check(f'as-of --store a.db {text}', Wanted(0, 'end none\n'))
@@ -64,7 +120,8 @@ def test_texts_that_are_no_moments(stage):
     """Texts that are no moments: of a row, and of a command."""
     for text in NO_MOMENTS:
         with case(f'the text {text!r}'):
-            compare('what is said of its row', 'M6 row 1', said_of(stage, text_of_rows([(row_at('F1', 'FULL', text), 1)])))
+            compare('what is said of its row', 'M6 row 1',
+                    said_of(stage, text_of_rows([(row_at('F1', 'FULL', text), 1)])))
             wanted = Wanted(1, '', f'E3 {text or "(an empty moment)"}\n')
             stage.check(f'as-of --store a.db {text!r}', wanted, ['as-of', '--store', 'a.db', text])
 
@@ -81,7 +138,8 @@ def test_moments_that_are_printed(stage):
     """The texts of moments."""
     listed = [*(f'2024-03-03T00:00:00.{nanoseconds:09}Z' for nanoseconds, _ in FRACTIONS), LAST]
     printed = [*(f'2024-03-03T00:00:00{text}Z' for _, text in FRACTIONS), LAST]
-    check_gaps(stage, [row_at(f'F{at}', 'FULL', it) for at, it in enumerate(listed)], [(it, 'FULL') for it in printed])
+    check_gaps(stage, [row_at(f'F{at}', 'FULL', it) for at, it in enumerate(listed)],
+               [(it, 'FULL') for it in printed])
 
 
 def test_places_in_their_order(stage):
@@ -93,13 +151,15 @@ def test_places_in_their_order(stage):
 def test_types_and_ids(stage):
     """Words that are types and ids."""
     for name, kind, said in WORDS:
-        compare(f'what is said of {name} {kind}', said, said_of(stage, text_of_rows([(row_at(name, kind, FIFTH), 1)])))
+        compare(f'what is said of {name} {kind}', said,
+                said_of(stage, text_of_rows([(row_at(name, kind, FIFTH), 1)])))
 
 
 def test_kinds_in_their_order(stage):
     """The words of kinds, and their order."""
     files = {kind: (kind, 'parent', ('key',)) for kind in reversed(KINDS)}
-    body = bundle_of(envelope_of(files), b''.join(section(it, f'of-{it}\n'.encode()) for it in files))
+    body = bundle_of(envelope_of(files),
+                     b''.join(section(it, f'of-{it}\n'.encode()) for it in files))
     # (The table t0 is that of the last kind.)
     lines = [f'{kind} of-{kind}: t{5 - at} key=of-{kind}' for at, kind in enumerate(KINDS)]
     with desk_over(stage, [row_of(F1, body)]) as desk:

@@ -1,5 +1,7 @@
-"""What the test cases, the trials and the benchmarks share: the modules of this folder, where the programs are, and the words of scripts."""
-import argparse, os
+"""What the test cases, the trials and the benchmarks share: the modules of this folder, where the
+programs are, and the words of scripts."""
+import argparse
+import os
 
 TESTS = os.path.dirname(os.path.dirname(os.path.abspath(__file__)))
 TOP = os.path.dirname(TESTS)
@@ -19,11 +21,13 @@ def program(path):
 
 def arguments_of(doc):
     """The arguments of a script with this docstring, which is its help."""
-    return argparse.ArgumentParser(description=doc, formatter_class=argparse.RawDescriptionHelpFormatter)
+    return argparse.ArgumentParser(description=doc,
+                                   formatter_class=argparse.RawDescriptionHelpFormatter)
 
 
 def arguments_over_restore(doc):
-    """The same of a script that runs `restore`: the one that was built in this checkout, if no other is named."""
+    """The same of a script that runs `restore`: the one that was built in this checkout, if no
+    other is named."""
     arguments = arguments_of(doc)
     arguments.add_argument('--restore', type=program, default=built('restore'), metavar='PROGRAM')
     return arguments

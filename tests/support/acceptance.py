@@ -1,38 +1,88 @@
 """A plain model of `handover check`, by the words of docs/HANDOVER.md and docs/DEFINITIONS.md.
 
-It looks at what a store keeps (model.py), and says how each line begins. Nothing of the program is used."""
-import hashlib, unicodedata
+It looks at what a store keeps (model.py), and says how each line begins. Nothing of the program is
+used."""
+import hashlib
+import re
+import time
+import unicodedata
+from collections import Counter
 
 from support import formats
-from support.formats import KINDS, Deposit, Refused, counts_in, envelope_in, found_in, in_order, moment_text, place_text, read_record
+from support.formats import KINDS
+from support.formats import Deposit
+from support.formats import Refused
+from support.formats import counts_in
+from support.formats import envelope_in
+from support.formats import found_in
+from support.formats import in_order
+from support.formats import moment_text
+from support.formats import place_text
+from support.formats import read_record
 from support.model import made_by
 
-# The fields by which links, statuses and dates go: the kind of the objects, the child table, or none where the parent rows have it, and
-# the field.
+# The fields by which links, statuses and dates go: the kind of the objects, the child table, or
+# none where the parent rows have it, and the field.
 GUIDES = (
     ('registrar', None, 'crDate'),
-    ('contact', None, 'clID'), ('contact', None, 'crDate'), ('contact', 'contactStatuses', 'status'),
-    ('host', None, 'clID'), ('host', None, 'crDate'), ('host', 'hostStatuses', 'status'),
-    ('domain', None, 'clID'), ('domain', None, 'registrant'), ('domain', None, 'idnTableId'), ('domain', None, 'crDate'),
-    ('domain', None, 'exDate'), ('domain', 'domainContacts', 'contactId'), ('domain', 'domainNs', 'hostName'),
+    ('contact', None, 'clID'),
+    ('contact', None, 'crDate'),
+    ('contact', 'contactStatuses', 'status'),
+    ('host', None, 'clID'),
+    ('host', None, 'crDate'),
+    ('host', 'hostStatuses', 'status'),
+    ('domain', None, 'clID'),
+    ('domain', None, 'registrant'),
+    ('domain', None, 'idnTableId'),
+    ('domain', None, 'crDate'),
+    ('domain', None, 'exDate'),
+    ('domain', 'domainContacts', 'contactId'),
+    ('domain', 'domainNs', 'hostName'),
     ('domain', 'domainStatuses', 'status'),
     ('nndn', None, 'idnTableId'),
 )
 # The tests that are only told.
-TOLD_ALONE = ('gaps', 'moment', 'early', 'notes')
+TOLD_ALONE = ('gaps', 'moment', 'early', 'roids', 'required', 'outside', 'digests', 'notes')
+# How the line of a rule of RFC 9022, section 8, begins after the number of objects that break it.
+RULES = {
+    'registrars': "name a registrar that isn't there", 'nndns': "have a domain's name",
+    'roids': 'have a ROID that another of their kind has',
+    'required': 'lack what RFC 9022 requires of them', 'outside': 'are not below the TLD',
+    'digests': 'have a DS that is none'
+}
+# The fields of a parent row, by kind, and those of a postal address, that have a text (RFC 9022,
+# sections 5.1 to 5.4).
+REQUIRED = {
+    'registrar': ('id', 'name'), 'contact': ('id', 'roid'), 'host': ('name', 'roid'),
+    'domain': ('name', 'roid')
+}
+POSTAL = ('name', 'city', 'cc')
+# The parts of a DS, and how many hexadecimal digits a digest of these types has.
+DS_PARTS = ('keyTag', 'dsAlg', 'digestType', 'digest')
+DIGEST_DIGITS = {1: 40, 2: 64, 4: 96}
 # The kind that a link by a field leads to.
-TARGETS = {'clID': 'registrar', 'registrant': 'contact', 'contactId': 'contact', 'hostName': 'host', 'idnTableId': 'idn'}
+TARGETS = {
+    'clID': 'registrar', 'registrant': 'contact', 'contactId': 'contact', 'hostName': 'host',
+    'idnTableId': 'idn'
+}
 # What is accepted of each kind.
-HOST_STATUSES = {'clientDeleteProhibited', 'serverDeleteProhibited', 'clientUpdateProhibited', 'serverUpdateProhibited', 'linked', 'ok',
-                 'pendingCreate', 'pendingDelete', 'pendingTransfer', 'pendingUpdate'}
+HOST_STATUSES = {
+    'clientDeleteProhibited', 'serverDeleteProhibited', 'clientUpdateProhibited',
+    'serverUpdateProhibited', 'linked', 'ok', 'pendingCreate', 'pendingDelete', 'pendingTransfer',
+    'pendingUpdate'
+}
 CONTACT_STATUSES = HOST_STATUSES | {'clientTransferProhibited', 'serverTransferProhibited'}
-STATUSES = {'host': HOST_STATUSES, 'contact': CONTACT_STATUSES,
-            'domain': CONTACT_STATUSES - {'linked'} | {'clientHold', 'serverHold', 'clientRenewProhibited', 'serverRenewProhibited', 'inactive',
-                                                       'pendingRenew'}}
+STATUSES = {
+    'host': HOST_STATUSES, 'contact': CONTACT_STATUSES, 'domain': CONTACT_STATUSES - {'linked'} | {
+        'clientHold', 'serverHold', 'clientRenewProhibited', 'serverRenewProhibited', 'inactive',
+        'pendingRenew'
+    }
+}
 
 
 def cells_of(rows, table, field):
-    """The texts of a field in the rows of a child table, or in the parent row, which is the first one; without empty ones."""
+    """The texts of a field in the rows of a child table, or in the parent row, which is the first
+    one; without empty ones."""
     chosen = rows[:1] if table is None else [it for it in rows[1:] if it[0] == table]
     return [text for _, cells in chosen if (text := dict(reversed(cells)).get(field))]
 
@@ -47,7 +97,11 @@ def findings_of(kind, key, rows, objects, watermark):
     yield from ((3, kind, key, 'status', it) for it in found if it not in STATUSES[kind])
     if kind == 'domain' and 'ok' in found and set(found) != {'ok'}:
         yield 4, kind, key, 'status', 'ok'
-    texts = {field: text for of, _, field in GUIDES if of == kind and field.endswith('Date') for text in cells_of(rows, None, field)}
+    texts = {
+        field: text
+        for of, _, field in GUIDES if of == kind and field.endswith('Date')
+        for text in cells_of(rows, None, field)
+    }
     moments = {field: formats.moment(text) for field, text in texts.items()}
     yield from ((7, kind, key, field, texts[field]) for field in texts if moments[field] is None)
     created, expired = moments.get('crDate'), moments.get('exDate')
@@ -58,11 +112,14 @@ def findings_of(kind, key, rows, objects, watermark):
 
 
 def findings(objects, watermark, counts):
-    """The findings V1 to V7 in objects, which are records by kind and key: code, kind, key, field and value, in order."""
-    found = {(2, kind, '', 'count', f'{count}') for kind, count in counts.items() if count != count_of(objects, kind)}
+    """The findings V1 to V7 in objects, which are records by kind and key: code, kind, key, field
+    and value, in order."""
+    found = {(2, kind, '', 'count', f'{count}')
+             for kind, count in counts.items() if count != count_of(objects, kind)}
     for (kind, key), record in objects.items():
         found |= {*findings_of(kind, key.decode(), read_record(record), objects, watermark)}
-    return sorted(found, key=lambda it: (it[0], KINDS.index(it[1]), *(text.encode() for text in it[2:])))
+    return sorted(found, key=lambda it:
+                  (it[0], KINDS.index(it[1]), *(text.encode() for text in it[2:])))
 
 
 def count_of(objects, kind):
@@ -78,7 +135,8 @@ def bare(name):
 
 def looks_like(name, wanted):
     """Whether a name is another but for case and signs, and an f before it."""
-    return bare(name) == wanted.lower() or bare(name[:1]) == 'f' and bare(name[1:]) == wanted.lower()
+    return bare(name) == wanted.lower() or bare(name[:1]) == 'f' and bare(
+        name[1:]) == wanted.lower()
 
 
 def is_disguised(name, wanted):
@@ -88,7 +146,8 @@ def is_disguised(name, wanted):
 def is_table_of(guide, table):
     """Whether a declared table is the one that has the field of a guide."""
     kind, child, _ = guide
-    return table['kind'] == kind and (table['role'] == 'parent' if child is None else (table['role'], table['name']) == ('child', child))
+    return table['kind'] == kind and (table['role'] == 'parent' if child is None else
+                                      (table['role'], table['name']) == ('child', child))
 
 
 def is_under_other_name(guide, tables):
@@ -96,7 +155,8 @@ def is_under_other_name(guide, tables):
     children = [it for it in tables if (it['kind'], it['role']) == (kind, 'child')] if child else []
     fields = [name for it in tables if is_table_of(guide, it) for name in it['fields']]
     return any(is_disguised(it, field) for it in fields) or any(
-        is_disguised(it['name'], child) or child == 'domainNs' and looks_like(it['name'], 'domainNameServers') for it in children)
+        is_disguised(it['name'], child)
+        or child == 'domainNs' and looks_like(it['name'], 'domainNameServers') for it in children)
 
 
 def guide_text(guide):
@@ -112,7 +172,8 @@ def is_bundle(body):
 
 
 def has_guide(guide, kind, record):
-    """Whether an object has the field of a guide, if it is of the kind that does: in its parent row, or in each row of that child table."""
+    """Whether an object has the field of a guide, if it is of the kind that does: in its parent
+    row, or in each row of that child table."""
     rows = read_record(record)
     rows = rows[:1] if guide[1] is None else [it for it in rows[1:] if it[0] == guide[1]]
     return kind != guide[0] or all(guide[2] in dict(cells) for _, cells in rows)
@@ -120,13 +181,65 @@ def has_guide(guide, kind, record):
 
 def names_stranger(record, objects):
     """Whether a row of an object names a registrar that is not there."""
-    return any(text and ('registrar', text.encode()) not in objects for _, cells in read_record(record)
+    return any(text and ('registrar', text.encode()) not in objects
+               for _, cells in read_record(record)
                for text in map(dict(reversed(cells)).get, ('crRr', 'upRr', 'reRr', 'acRr')))
 
 
+def roid_of(record):
+    return ''.join(cells_of(read_record(record), None, 'roid'))
+
+
+def lacks_required(kind, record):
+    """Whether an object lacks what is required of its kind. That its parent row has a `clID` is
+    asked by another test."""
+    rows = read_record(record)
+    postal = [dict(reversed(cells)) for table, cells in rows[1:] if table == 'contactPostal']
+    return any((
+        any(not cells_of(rows, None, it) for it in REQUIRED.get(kind, ())),
+        kind in STATUSES and dict(reversed(rows[0][1])).get('clID') == '',
+        kind in STATUSES and not cells_of(rows, f'{kind}Statuses', 'status'),
+        kind == 'contact' and not any(all(map(row.get, POSTAL)) for row in postal)))
+
+
+def is_number(text, most):
+    return re.fullmatch('[0-9]{1,9}', text) is not None and int(text) <= most
+
+
+def is_wrong_ds(cells):
+    """Whether a row of secDNS has a part of a DS, and is none."""
+    tag, algorithm, kind, digest = (dict(reversed(cells)).get(it, '') for it in DS_PARTS)
+    if not (tag or algorithm or kind or digest):
+        return False
+    if not (is_number(tag, 65535) and is_number(algorithm, 255) and is_number(kind, 255)):
+        return True
+    wanted = DIGEST_DIGITS.get(int(kind))
+    is_long = len(digest) == wanted if wanted else len(digest) > 0 and len(digest) % 2 == 0
+    return not (is_long and re.fullmatch('[0-9A-Fa-f]*', digest))
+
+
+def flaws_of(objects, tld):
+    """The objects that break each rule, in order; tld is the one that is known, or None."""
+    keys = sorted(objects, key=lambda it: (KINDS.index(it[0]), it[1]))
+    roids = Counter((kind, roid) for (kind, _), it in objects.items() if (roid := roid_of(it)))
+    # Where no TLD is known, or several are, each name is within.
+    below = b'' if tld is None else f'.{tld}'.encode().lower()
+    breaks = {
+        'registrars': lambda kind, key: names_stranger(objects[kind, key], objects),
+        'nndns': lambda kind, key: kind == 'nndn' and ('domain', key.lower()) in objects,
+        'roids': lambda kind, key: roids[kind, roid_of(objects[kind, key])] > 1,
+        'required': lambda kind, key: lacks_required(kind, objects[kind, key]),
+        'outside': lambda kind, key: kind in ('domain', 'nndn') and not key.lower().endswith(below),
+        'digests': lambda kind, key: kind == 'domain' and any(
+            table == 'secDNS' and is_wrong_ds(cells)
+            for table, cells in read_record(objects[kind, key])[1:]),
+    }
+    return {rule: [it for it in keys if breaks[rule](*it)] for rule in RULES}
+
+
 class Seen:
-    """What is seen of a store where the body of the chain's last deposit is a bundle. (One that went bad may have rows of which no
-    deposit is read. It still declares tables.)"""
+    """What is seen of a store where the body of the chain's last deposit is a bundle. (One that
+    went bad may have rows of which no deposit is read. It still declares tables.)"""
 
     def __init__(self, desk):
         bodies = [desk.held[it] for it in desk.steps]
@@ -141,16 +254,24 @@ class Seen:
         self.objects = {kind: count_of(desk.objects, kind) for kind in KINDS}
         envelopes = [envelope_in(it) for it in filter(is_bundle, bodies)]
         self.tables = [it for envelope in envelopes for it in envelope.get('contents', [])]
-        named = [it['tld'] for it in (envelope_in(body) for _, body in sorted(desk.held.items()) if is_bundle(body)) if it.get('tld')]
-        self.tlds = [it for at, it in enumerate(named) if it.lower() not in map(str.lower, named[:at])]
-        self.notes = [control_spelled(it) for envelope in envelopes for it in envelope.get('notes', [])]
+        named = [
+            it['tld'] for it in (envelope_in(body) for _, body in sorted(desk.held.items())
+                                 if is_bundle(body)) if it.get('tld')
+        ]
+        self.tlds = [
+            it for at, it in enumerate(named) if it.lower() not in map(str.lower, named[:at])
+        ]
+        self.notes = [
+            control_spelled(it) for envelope in envelopes for it in envelope.get('notes', [])
+        ]
         self.orphans = sum(it.orphans for it in deposits)
-        self.spoiled = [at for at, body in sorted(desk.held.items()) if hashlib.sha256(body).hexdigest() != desk.listed[at][4]]
+        self.spoiled = [
+            at for at, body in sorted(desk.held.items())
+            if hashlib.sha256(body).hexdigest() != desk.listed[at][4]
+        ]
         self.are_read, self.made = deposits == read, made_by(deposits)
         self.is_rebuilt = self.are_read and self.made == desk.objects
-        keys = sorted(self.made, key=lambda it: (KINDS.index(it[0]), it[1]))
-        self.registrars = [it for it in keys if names_stranger(self.made[it], self.made)]
-        self.nndns = [it for it in keys if it[0] == 'nndn' and ('domain', it[1].lower()) in self.made]
+        self.flaws = flaws_of(self.made, self.tlds[0] if len(self.tlds) == 1 else None)
 
 
 # ---- the lines
@@ -168,52 +289,104 @@ def end_line(seen):
 
 
 def control_spelled(text):
-    """A text as it is shown: if it has control characters, these and its backslashes are escaped."""
+    """A text as it is shown: if it has control characters, these and its backslashes are
+    escaped."""
     controls = {it: f'\\u{{{ord(it):x}}}' for it in text if unicodedata.category(it) == 'Cc'}
     others = {'\t': '\\t', '\n': '\\n', '\r': '\\r', '\\': '\\\\'}
     return text.translate(str.maketrans(controls | others)) if controls else text
 
 
-def tests_of(seen):
-    """Each test in order: its name, whether it passes, and what its line then begins to say if it doesn't. Of the end this is said in any
-    case."""
-    def counted(found, words):
-        return f'{len(found)}{words(found[0])};' if found else ''
+def counted(found, words):
+    """How many there are, and these words of the first one."""
+    return f'{len(found)}{words(found[0])};' if found else ''
 
-    def named(found, words):
-        names = ', '.join(found)
-        return f'{names} {words}' if names else ''
+
+def named(found, words):
+    names = ', '.join(found)
+    return f'{names} {words}' if names else ''
+
+
+def undeclared(seen):
+    """The fields that a test needs and the deposits of the chain don't declare, or not for each
+    object."""
+    wanted = [it for it in GUIDES
+              if seen.objects[it[0]] and (it[2] != 'idnTableId' or seen.objects['idn'])]
+    declared = [it for it in wanted
+                if any(is_table_of(it, table) and it[2] in table['fields']
+                       for table in seen.tables)]
+    return [it for it in wanted
+            if it not in declared
+            or not all(has_guide(it, kind, of) for (kind, _), of in seen.made.items())]
+
+
+def wrong_gaps(seen):
+    """What is wrong with the chain and the places before its end, by the test."""
     outdated = [it for it in seen.gaps if it.state == 'chain' and it.awaited is not None]
-    passed = [it for it in seen.gaps if it.state in ('missing', 'blocked') and seen.end and in_order(it.place) < in_order(seen.end)]
-    fields = [it for it in GUIDES if seen.objects[it[0]] and (it[2] != 'idnTableId' or seen.objects['idn'])]
-    declared = [it for it in fields if any(is_table_of(it, table) and it[2] in table['fields'] for table in seen.tables)]
-    undeclared = [it for it in fields if it not in declared or not all(has_guide(it, kind, of) for (kind, _), of in seen.made.items())]
-    yield 'tld', len(seen.tlds) < 2, ', '.join(map(control_spelled, seen.tlds)) or 'no held deposit names one'
+    passed = [it for it in seen.gaps
+              if it.state in ('missing', 'blocked')
+              and seen.end and in_order(it.place) < in_order(seen.end)]
+    is_late = seen.end and seen.end[0] > time.time_ns()
+    return {
+        'future': f'{place_text(seen.end)} is later than now' if is_late else '',
+        'chain': '' if seen.is_latest else 'not the latest one',
+        'resends': counted(
+            outdated, lambda it: ' of the chain await a later resend, the first '
+            f'{place_text(it.place)} resend {it.awaited}'),
+        'gaps': counted(
+            passed, lambda it: ' before the end are missing or blocked, the first '
+            f'{place_text(it.place)} {it.state}'),
+        'moment': '' if seen.moment is None else f'{moment_text(seen.moment)} is set',
+        'parked': f'{seen.parked} are listed by no row' if seen.parked else '',
+        'early': f'{seen.early} arrivals of version 1' if seen.early else '',
+    }
+
+
+def finding_text(finding):
+    code, kind, key, more, *_ = finding
+    return ' '.join(filter(None, (f'V{code}', kind, control_spelled(key), more)))
+
+
+def wrong_objects(seen):
+    """What is wrong with the objects, by the test."""
+    broken = {rule: f'{len(seen.flaws[rule])} {words}' if seen.flaws[rule] else ''
+              for rule, words in RULES.items()}
+    other_names = (guide_text(it) for it in GUIDES if is_under_other_name(it, seen.tables))
+    return {
+        'findings': counted(seen.findings, lambda it: f', the first {finding_text(it)}'),
+        **broken,
+        'orphans': f'{seen.orphans} child rows' if seen.orphans else '',
+        'counts': named([it for it in KINDS if it not in seen.counts], 'not declared'),
+        'fields': named(map(guide_text, undeclared(seen)),
+                        'declared by no deposit of the chain, or not for each object'),
+        'names': named(other_names, 'under another name'),
+    }
+
+
+def wrong_bodies(seen):
+    """What is wrong with the bodies that are held, by the test."""
+    spoiled = counted(seen.spoiled, lambda it: ' held are gone or have another SHA-256 than '
+                      f'listed, the first of row {it + 1}')
+    unread = '' if seen.are_read else 'one of the chain is gone or is no deposit'
+    return {
+        'bodies': spoiled or unread,
+        'tables': '' if seen.is_rebuilt else 'not those',
+        'notes': f'{len(seen.notes)} in the chain' if seen.notes else '',
+    }
+
+
+def tests_of(seen):
+    """Each test in order: its name, whether it passes, and what its line then begins to say if it
+    doesn't. Of the end this is said in any case."""
+    tlds = ', '.join(map(control_spelled, seen.tlds)) or 'no held deposit names one'
+    yield 'tld', len(seen.tlds) < 2, tlds
     yield 'end', *end_line(seen)
-    for name, wrong in {
-            'chain': '' if seen.is_latest else 'not the latest one',
-            'resends': counted(outdated, lambda it: f' of the chain await a later resend, the first {place_text(it.place)} resend {it.awaited}'),
-            'gaps': counted(passed, lambda it: f' before the end are missing or blocked, the first {place_text(it.place)} {it.state}'),
-            'moment': '' if seen.moment is None else f'{moment_text(seen.moment)} is set',
-            'parked': f'{seen.parked} are listed by no row' if seen.parked else '',
-            'early': f'{seen.early} arrivals of version 1' if seen.early else '',
-            'findings': counted(seen.findings, lambda it: ', the first ' + ' '.join(
-                filter(None, (f'V{it[0]}', it[1], control_spelled(it[2]), it[3])))),
-            'registrars': f"{len(seen.registrars)} name a registrar that isn't there" if seen.registrars else '',
-            'nndns': f"{len(seen.nndns)} have a domain's name" if seen.nndns else '',
-            'orphans': f'{seen.orphans} child rows' if seen.orphans else '',
-            'counts': named([it for it in KINDS if it not in seen.counts], 'not declared'),
-            'fields': named(map(guide_text, undeclared), 'declared by no deposit of the chain, or not for each object'),
-            'names': named((guide_text(it) for it in GUIDES if is_under_other_name(it, seen.tables)), 'under another name'),
-            'bodies': counted(seen.spoiled, lambda it: f' held are gone or have another SHA-256 than listed, the first of row {it + 1}')
-                      or ('' if seen.are_read else 'one of the chain is gone or is no deposit'),
-            'tables': '' if seen.is_rebuilt else 'not those',
-            'notes': f'{len(seen.notes)} in the chain' if seen.notes else ''}.items():
+    for name, wrong in {**wrong_gaps(seen), **wrong_objects(seen), **wrong_bodies(seen)}.items():
         yield name, not wrong, wrong
 
 
 def is_accepted(tests):
-    """Whether the registry may be taken over: each test passes, but for those that are told alone."""
+    """Whether the registry may be taken over: each test passes, but for those that are told
+    alone."""
     return all(passes or name in TOLD_ALONE for name, passes, _ in tests)
 
 

@@ -1,10 +1,17 @@
 """The worked bodies, and the manifests that list them.
 
-`bytes_of(name)` gives the bytes of a body, and `manifest_text(names, more)` a manifest that lists bodies, and then further rows."""
+`bytes_of(name)` gives the bytes of a body, and `manifest_text(names, more)` a manifest that lists
+bodies, and then further rows."""
 import functools
-from dataclasses import dataclass, field
+from dataclasses import dataclass
+from dataclasses import field
 
-from support.bundles import HEADING, SAMPLE, Header, Table, deposit, row_of
+from support.bundles import HEADING
+from support.bundles import SAMPLE
+from support.bundles import Header
+from support.bundles import Table
+from support.bundles import deposit
+from support.bundles import row_of
 
 # The kind, the role and the fields of each table. The first field is the key.
 SHAPES = {
@@ -22,7 +29,8 @@ F5 = Header('F5', 'FULL', '2024-03-10T00:00:00Z')
 
 @dataclass(frozen=True)
 class Body:
-    """What a manifest says of a body, and its bytes, or the rows of its tables and the objects of each kind that it says the registry has."""
+    """What a manifest says of a body, and its bytes, or the rows of its tables and the objects of
+    each kind that it says the registry has."""
     listed: Header
     contents: dict = field(default_factory=dict)
     deletes: dict = field(default_factory=dict)
@@ -34,7 +42,10 @@ class Body:
             return self.raw
         contents = [Table(it, *SHAPES[it], rows.encode()) for it, rows in self.contents.items()]
         # (A delete table has keys alone.)
-        deletes = [Table(it, *SHAPES[it][:2], SHAPES[it][2][:1], rows.encode()) for it, rows in self.deletes.items()]
+        deletes = [
+            Table(it, *SHAPES[it][:2], SHAPES[it][2][:1], rows.encode())
+            for it, rows in self.deletes.items()
+        ]
         return deposit(self.listed, contents, deletes, self.counts)
 
 
@@ -48,20 +59,35 @@ BODIES = {
     'F1': Body(F1, FIRST),
     'D2': Body(D2, {'domain': 'b.example,R1,C1\n'}),
     'D2Resent': Body(D2._replace(resend=1), {'domain': 'b.example,R1,C1\nc.example,R1,C1\n'}),
-    'D3': Body(Header('D3', 'DIFF', '2024-03-05T00:00:00Z', 'D2'), deletes={'domain': 'a.example\n'}),
+    'D3': Body(Header('D3', 'DIFF', '2024-03-05T00:00:00Z', 'D2'),
+               deletes={'domain': 'a.example\n'}),
     # D3 at resend 1, with a previous id that is not listed.
-    'D3Unlisted': Body(Header('D3', 'DIFF', '2024-03-05T00:00:00Z', 'X9', 1), deletes={'domain': 'a.example\n'}),
+    'D3Unlisted': Body(Header('D3', 'DIFF', '2024-03-05T00:00:00Z', 'X9', 1),
+                       deletes={'domain': 'a.example\n'}),
     'I4': Body(Header('I4', 'INCR', '2024-03-06T00:00:00Z', 'D3'), {'domain': 'd.example,R1,C1\n'}),
-    'F5': Body(F5, {'registrar': 'R1\n', 'contact': 'C1,R1\n', 'host': 'ns1.e.example,R1\n', 'domain': 'e.example,R1,C1\n',
-                    'domainNs': 'e.example,ns1.e.example\n'}),
-    'D6': Body(Header('D6', 'DIFF', '2024-03-11T00:00:00Z', 'F5'), {'domain': 'f.example,R1,C9\n'}, {'host': 'ns1.e.example\n'},
-               counts={'registrar': 1, 'contact': 1, 'host': 0, 'domain': 3}),
-    # Incrementals on other Fulls, of which one is of the same moment, a Full before I4, and an Incremental after F5 that says D3.
+    'F5': Body(
+        F5, {
+            'registrar': 'R1\n',
+            'contact': 'C1,R1\n',
+            'host': 'ns1.e.example,R1\n',
+            'domain': 'e.example,R1,C1\n',
+            'domainNs': 'e.example,ns1.e.example\n'
+        }),
+    'D6': Body(Header('D6', 'DIFF', '2024-03-11T00:00:00Z', 'F5'), {'domain': 'f.example,R1,C9\n'},
+               {'host': 'ns1.e.example\n'}, counts={
+                   'registrar': 1,
+                   'contact': 1,
+                   'host': 0,
+                   'domain': 3
+               }),
+    # Incrementals on other Fulls, of which one is of the same moment, a Full before I4, and an
+    # Incremental after F5 that says D3.
     'I0': Body(Header('I0', 'INCR', '2024-03-02T00:00:00Z', 'F1')),
     'I2': Body(Header('I2', 'INCR', '2024-03-04T00:00:00Z', 'F2')),
     'F4': Body(Header('F4', 'FULL', '2024-03-05T00:00:00Z')),
     'I7': Body(Header('I7', 'INCR', '2024-03-12T00:00:00Z', 'D3')),
-    # A deposit for each kind of blocker: no earlier Full, one that isn't held, and a base that isn't listed.
+    # A deposit for each kind of blocker: no earlier Full, one that isn't held, and a base that
+    # isn't listed.
     'EarlyI0': Body(Header('I0', 'INCR', '2024-02-28T00:00:00Z')),
     'EarlyF1': Body(Header('F1', 'FULL', '2024-03-01T00:00:00Z')),
     'EarlyD2': Body(Header('D2', 'DIFF', '2024-03-02T00:00:00Z', 'F1')),
@@ -69,9 +95,13 @@ BODIES = {
     # D2 that deletes the domain a.example, in other letters, and has it with clID R2.
     'Both': Body(D2, {'domain': 'a.example,R2,C1\n'}, {'domain': 'A.EXAMPLE\n'}),
     # A Full at the watermark of D2.
-    'F2': Body(Header('F2', 'FULL', '2024-03-04T00:00:00Z'), FIRST | {'domain': 'z.example,R1,C1\n'}),
+    'F2': Body(Header('F2', 'FULL', '2024-03-04T00:00:00Z'),
+               FIRST | {'domain': 'z.example,R1,C1\n'}),
     # F1 with a name server of a domain that it doesn't have.
-    'Orphan': Body(F1, {'contact': 'C1,R1\n', 'domainNs': 'a.example,ns1.a.example\n'}),
+    'Orphan': Body(F1, {
+        'contact': 'C1,R1\n',
+        'domainNs': 'a.example,ns1.a.example\n'
+    }),
     # F1 that says resend 1, where the manifest says 0.
     'Unequal': Body(F1, raw=Body(F1._replace(resend=1), FIRST).bytes()),
     'Empty': Body(Header('E0', 'FULL', '2024-03-01T00:00:00Z'), raw=b''),
@@ -82,12 +112,19 @@ BODIES = {
     # Three bytes.
     'Abc': Body(F5, raw=b'abc'),
     # A Full of a contact, 256 hosts and 600 domains.
-    'Many': Body(Header('M1', 'FULL', '2024-03-03T00:00:00Z'),
-                 {'contact': 'C1,R1\n', 'host': numbered(256), 'domain': numbered(600, ',C1')}),
+    'Many': Body(Header('M1', 'FULL', '2024-03-03T00:00:00Z'), {
+        'contact': 'C1,R1\n',
+        'host': numbered(256),
+        'domain': numbered(600, ',C1')
+    }),
     # A Full of a contact and 60,000 hosts.
-    'Hosts': Body(Header('M2', 'FULL', '2024-03-03T00:00:00Z'), {'contact': 'C1,R1\n', 'host': numbered(60_000)}),
+    'Hosts': Body(Header('M2', 'FULL', '2024-03-03T00:00:00Z'), {
+        'contact': 'C1,R1\n',
+        'host': numbered(60_000)
+    }),
     # A Differential on `Hosts` of 60,000 domains.
-    'Domains': Body(Header('M3', 'DIFF', '2024-03-04T00:00:00Z', 'M2'), {'domain': numbered(60_000, ',C1')}),
+    'Domains': Body(Header('M3', 'DIFF', '2024-03-04T00:00:00Z', 'M2'),
+                    {'domain': numbered(60_000, ',C1')}),
 }
 
 

@@ -1,20 +1,23 @@
-"""Deposits: the bundle of each, put together of its tables, or of an envelope and sections; the manifests that list them; and the
-worked bundle of one contact."""
-import hashlib, json
+"""Deposits: the bundle of each, put together of its tables, or of an envelope and sections; the
+manifests that list them; and the worked bundle of one contact."""
+import hashlib
+import json
 from typing import NamedTuple
 
 # The first lines of a bundle and of a manifest.
 FIRST_LINE, HEADING = b'escrow-bundle 1\n', 'id,type,watermark,prevId,resend,sha256\n'
 # The worked bundle of one contact: its envelope, and its second section and its end.
-ENVELOPE = (b'{"id":"F1","type":"FULL","watermark":"2024-03-03T00:00:00Z","contents":[{"name":"contact",'
-            b'"kind":"contact","role":"parent","key":"id","fields":["id","clID"],"file":"c.csv"}]}')
+ENVELOPE = (
+    b'{"id":"F1","type":"FULL","watermark":"2024-03-03T00:00:00Z","contents":[{"name":"contact",'
+    b'"kind":"contact","role":"parent","key":"id","fields":["id","clID"],"file":"c.csv"}]}')
 BACK = b'c.csv 6\nC1,R1\n\nend\n'
 FRONT = FIRST_LINE + b'envelope.json 174\n' + ENVELOPE + b'\n'
 SAMPLE = FRONT + BACK
 
 CHILD = ('contact', 'child', ('id',))
-# The table that each section is the file of: its kind, its role and its fields, of which the first is the key. A kind has one parent
-# table, and of child rows without a parent row their number alone is seen: so each section is the file of a parent table here or below.
+# The table that each section is the file of: its kind, its role and its fields, of which the first
+# is the key. A kind has one parent table, and of child rows without a parent row their number alone
+# is seen: so each section is the file of a parent table here or below.
 FILES = {
     'a': ('registrar', 'parent', ('id',)),
     'b.csv': ('contact', 'parent', ('id',)),
@@ -41,7 +44,8 @@ def compact(envelope):
 
 
 def sealed(envelope, files):
-    """The bundle of an envelope, a value or its text, and of files: the name and the content of each."""
+    """The bundle of an envelope, a value or its text, and of files: the name and the content of
+    each."""
     text = envelope if isinstance(envelope, bytes) else compact(envelope)
     return bundle_of(text, b''.join(section(*it) for it in files))
 
@@ -59,7 +63,8 @@ class Header(NamedTuple):
 
 
 class Table(NamedTuple):
-    """A table's declaration, and the text of its rows. Its key is the first field, if no other one is named."""
+    """A table's declaration, and the text of its rows. Its key is the first field, if no other one
+    is named."""
     name: str
     kind: str
     role: str
@@ -68,15 +73,29 @@ class Table(NamedTuple):
     key: str | None = None
 
     def declared(self, file):
-        return {'name': self.name, 'kind': self.kind, 'role': self.role, 'key': self.key or self.fields[0], 'fields': list(self.fields),
-                'file': file}
+        return {
+            'name': self.name,
+            'kind': self.kind,
+            'role': self.role,
+            'key': self.key or self.fields[0],
+            'fields': list(self.fields),
+            'file': file
+        }
 
 
 def deposit(header, contents=(), deletes=(), counts=None, **besides):
-    """The bundle of a deposit with these tables, which says how many objects of some kinds there are, and has these members besides.
-    The header may be its text."""
+    """The bundle of a deposit with these tables, which says how many objects of some kinds there
+    are, and has these members besides. The header may be its text."""
     name, kind, watermark, prev, resend = str(header).split(',')
-    told = {'id': name, 'type': kind, 'watermark': watermark, 'prevId': prev, 'resend': int(resend or 0), 'counts': counts or {}, **besides}
+    told = {
+        'id': name,
+        'type': kind,
+        'watermark': watermark,
+        'prevId': prev,
+        'resend': int(resend or 0),
+        'counts': counts or {},
+        **besides
+    }
     files = []
     for member, tables in (('deletes', deletes), ('contents', contents)):
         named = [(f'{member[0]}{at}', it) for at, it in enumerate(tables)]
@@ -87,8 +106,12 @@ def deposit(header, contents=(), deletes=(), counts=None, **besides):
 
 def envelope_of(files):
     """The envelope of a Full whose tables are t0, t1 .., each with its file."""
-    tables = [Table(f't{at}', *declared).declared(file) for at, (file, declared) in enumerate(files.items())]
-    return compact({'id': 'F1', 'type': 'FULL', 'watermark': '2024-03-03T00:00:00Z', 'contents': tables})
+    tables = [
+        Table(f't{at}', *declared).declared(file)
+        for at, (file, declared) in enumerate(files.items())
+    ]
+    return compact(
+        {'id': 'F1', 'type': 'FULL', 'watermark': '2024-03-03T00:00:00Z', 'contents': tables})
 
 
 def row_of(header, body):

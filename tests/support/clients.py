@@ -1,27 +1,40 @@
-"""Clients that send requests to the desk of a harness over memory, and the responses that they must get."""
-import contextlib, json
+"""Clients that send requests to the desk of a harness over memory, and the responses that they must
+get."""
+import contextlib
+import json
 from dataclasses import dataclass
 
 from support.bundles import SAMPLE as CONTACT
-from support.events import check, compare_any
+from support.events import check
+from support.events import compare_any
 from support.harness import Harness
-from support.messages import put, response
+from support.messages import put
+from support.messages import response
 from support.reports import report
 from support.steps import Copy
 
 # More bytes than a request or a response has.
 AMPLE = 10_000_000
-# What comes of a request: its response goes out whole, a read fails, or else a write or the flush does.
+# What comes of a request: its response goes out whole, a read fails, or else a write or the flush
+# does.
 SERVED, READ_FAULT, WRITE_FAULT = 'served', 'read fault', 'write fault'
 
 
 def replied(row):
     """The response to an arrival, by its row in the report of receipts."""
     receipt, number, verdict, fault, name, resend, copy, orphans = row.split(',')
-    told = {'copy': copy or None, 'fault': fault or None, 'id': name or None, 'number': number,
-            'orphans': int(orphans) if orphans else None, 'receipt': int(receipt), 'resend': int(resend) if resend else None,
-            'verdict': verdict}
-    return response({'A1': 200, 'A5': 202}.get(verdict, 422), json.dumps(told, separators=(',', ':')), 'application/json')
+    told = {
+        'copy': copy or None,
+        'fault': fault or None,
+        'id': name or None,
+        'number': number,
+        'orphans': int(orphans) if orphans else None,
+        'receipt': int(receipt),
+        'resend': int(resend) if resend else None,
+        'verdict': verdict
+    }
+    return response({'A1': 200, 'A5': 202}.get(verdict, 422),
+                    json.dumps(told, separators=(',', ':')), 'application/json')
 
 
 def table(name, *rows):
@@ -32,7 +45,8 @@ BAD_REQUEST, NOT_FOUND = response(400, 'bad request\n'), response(404, 'not foun
 LENGTH_REQUIRED, TOO_LARGE = response(411, 'length required\n'), response(413, 'too large\n')
 PUT_ONLY, GET_ONLY = (response(405, 'method not allowed\n', allow=it) for it in ('PUT', 'GET'))
 
-# An arrival of a body that the manifest with-contact.csv lists; and one of a body that it doesn't, with one more byte after it.
+# An arrival of a body that the manifest with-contact.csv lists; and one of a body that it doesn't,
+# with one more byte after it.
 SAMPLE = b'PUT /arrivals/n1 HTTP/1.1\r\nHost: desk\r\ncontent-LENGTH: 000228\r\n\r\n' + CONTACT
 OTHER = put('n2', b'abcd', 3)
 # Their receipts, where they come in this order, and the response to the sample.
@@ -46,9 +60,10 @@ def list_sample(stage):
 
 @dataclass(frozen=True)
 class Wire:
-    """How a request comes, and how its response goes: a read and a write move at most `piece` bytes, the client is waited for so many
-    milliseconds before each read, so many bytes are read before a read fails, so many are written before a write does, and nothing can be
-    handed on where it is stuck."""
+    """How a request comes, and how its response goes: a read and a write move at most `piece`
+    bytes, the client is waited for so many milliseconds before each read, so many bytes are read
+    before a read fails, so many are written before a write does, and nothing can be handed on where
+    it is stuck."""
     request: bytes
     piece: int = AMPLE
     pause: int = 0
@@ -80,10 +95,11 @@ class RequestDesk(Harness):
         return answer
 
     def check_served(self, wire, *responses, came=SERVED, time=0):
-        """Sends a request, and compares what comes of it, and after how many milliseconds. Its response must be one of these: gives
-        whether it is the first one."""
+        """Sends a request, and compares what comes of it, and after how many milliseconds. Its
+        response must be one of these: gives whether it is the first one."""
         wanted = [f'{came} after {time} milliseconds\n{shown(it)}' for it in responses]
-        return compare_any(f'{wire.line()}\n{wire.request!r:.400}', self.serve(wire), *wanted) == wanted[0]
+        return compare_any(f'{wire.line()}\n{wire.request!r:.400}', self.serve(wire),
+                           *wanted) == wanted[0]
 
     def check_receipts(self, *receipts):
         check(self, 'receipts', report('receipts', receipts))

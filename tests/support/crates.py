@@ -1,12 +1,14 @@
 """The crates of this checkout, by crates.txt: of each the libraries that it uses."""
-import functools, pathlib
+import functools
+import pathlib
 
 from support import TOP
 
 
 @functools.cache
 def listed():
-    lines = (it.partition(':') for it in pathlib.Path(TOP, 'crates.txt').read_text().splitlines() if it and not it.startswith('#'))
+    lines = (it.partition(':') for it in pathlib.Path(TOP, 'crates.txt').read_text().splitlines()
+             if it and not it.startswith('#'))
     return {name.strip(): uses.split() for name, _, uses in lines}
 
 

@@ -1,4 +1,5 @@
-"""Registry objects at random, as documents.py writes them into escrow deposits, and as they are read from a folder."""
+"""Registry objects at random, as documents.py writes them into escrow deposits, and as they are
+read from a folder."""
 import csv
 import json
 import os
@@ -11,7 +12,10 @@ LETTERS = string.ascii_letters + 'éßЖ漢\U0001f600'
 ODD = ' \t\n\r,;|"\'<>&-]\\#\u2028\ufeff'
 DOMAIN_STATUSES = ('ok', 'clientHold', 'serverHold', 'inactive', 'pendingDelete')
 OTHER_STATUSES = ('ok', 'linked', 'clientDeleteProhibited')
-DISCLOSED = [f'disclose{it}' for it in ('NameInt', 'NameLoc', 'OrgInt', 'OrgLoc', 'AddrInt', 'AddrLoc', 'Voice', 'Fax', 'Email')]
+DISCLOSED = [
+    f'disclose{it}' for it in ('NameInt', 'NameLoc', 'OrgInt', 'OrgLoc', 'AddrInt', 'AddrLoc',
+                               'Voice', 'Fax', 'Email')
+]
 RGP_STATUSES = ('redemptionPeriod', 'pendingDelete', 'pendingRestore')
 
 
@@ -32,11 +36,14 @@ class Maker:
         return pick(LETTERS) + inner + pick(LETTERS)
 
     def token(self):
-        return ''.join(self.random.choice(string.ascii_letters + string.digits) for _ in range(self.random.randint(1, 8)))
+        return ''.join(
+            self.random.choice(string.ascii_letters + string.digits)
+            for _ in range(self.random.randint(1, 8)))
 
     def moment(self):
         pick = self.random.randint
-        return f'{pick(1999, 2030)}-{pick(1, 12):02}-{pick(1, 28):02}T{pick(0, 23):02}:{pick(0, 59):02}:{pick(0, 59):02}.0Z'
+        day = f'{pick(1999, 2030)}-{pick(1, 12):02}-{pick(1, 28):02}'
+        return f'{day}T{pick(0, 23):02}:{pick(0, 59):02}:{pick(0, 59):02}.0Z'
 
     def some(self, **makers):
         """Each of these fields, or not."""
@@ -48,15 +55,29 @@ class Maker:
     def history(self, *more):
         who = self.some(crRr=self.token, upRr=self.token)
         who.update({f'{it[:2]}ID': self.token() for it in list(who) if self.random.random() < 0.5})
-        return {'clID': self.token(), **who, **self.some(**dict.fromkeys(('crDate', 'upDate', 'trDate', *more), self.moment))}
+        return {
+            'clID': self.token(),
+            **who,
+            **self.some(**dict.fromkeys(('crDate', 'upDate', 'trDate', *more), self.moment))
+        }
 
     def address(self, front=''):
         streets = {f'{front}street.{at}': self.text() for at in range(self.random.randint(0, 3))}
-        return {**streets, f'{front}city': self.text(), **self.some(**{f'{front}sp': self.text, f'{front}pc': self.token}), f'{front}cc': 'FR'}
+        return {
+            **streets, f'{front}city': self.text(),
+            **self.some(**{
+                f'{front}sp': self.text,
+                f'{front}pc': self.token
+            }), f'{front}cc': 'FR'
+        }
 
     def phones(self):
         phones = self.some(voice=self.token, fax=self.token)
-        return {**phones, **{f'{it}Ext': self.token() for it in list(phones) if self.random.random() < 0.5}}
+        return {
+            **phones,
+            **{f'{it}Ext': self.token()
+               for it in list(phones) if self.random.random() < 0.5}
+        }
 
     def statuses(self, values):
         return [{'status': it, **self.some(statusDescription=self.text, lang=lambda: 'en')}
@@ -65,12 +86,24 @@ class Maker:
     def transfers(self, **more):
         if self.random.random() < 0.7:
             return []
-        return [{'trStatus': 'pending', 'reRr': self.token(), 'reDate': self.moment(), 'acRr': self.token(), 'acDate': self.moment(),
-                 **self.some(reID=self.token, acID=self.token, **more)}]
+        return [{
+            'trStatus': 'pending',
+            'reRr': self.token(),
+            'reDate': self.moment(),
+            'acRr': self.token(),
+            'acDate': self.moment(),
+            **self.some(reID=self.token, acID=self.token, **more)
+        }]
 
     def registrar(self):
-        cells = {'id': self.id('R'), 'name': self.text(), **self.some(gurid=lambda: self.id('9'), status=lambda: 'ok'), **self.phones(),
-                 **self.some(email=self.token, url=self.text, whoisUrl=self.text, crDate=self.moment, upDate=self.moment)}
+        cells = {
+            'id': self.id('R'),
+            'name': self.text(),
+            **self.some(gurid=lambda: self.id('9'), status=lambda: 'ok'),
+            **self.phones(),
+            **self.some(email=self.token, url=self.text, whoisUrl=self.text, crDate=self.moment,
+                        upDate=self.moment)
+        }
         for front in ('', 'loc.'):
             if self.random.random() < 0.5:
                 cells.update(self.address(front))
@@ -80,17 +113,32 @@ class Maker:
         return [('idn', {'idnTableId': self.id('L'), 'url': self.text()})]
 
     def contact(self):
-        cells = {'id': self.id('C'), 'roid': self.id('CR'), 'email': self.token(), **self.phones(), **self.history()}
-        postal = [{'postalType': form, 'name': self.text(), **self.some(org=self.text), **self.address()} for form in ('int', 'loc')]
-        return [('contact', cells), *(('contactStatuses', it) for it in self.statuses(OTHER_STATUSES)),
-                *(('contactPostal', it) for it in postal[:self.random.randint(1, 2)]), *(('contactTransfer', it) for it in self.transfers()),
-                *([('contactDisclose', {'discloseFlag': '0', **self.some(**dict.fromkeys(DISCLOSED, lambda: '1'))})]
-                  if self.random.random() < 0.4 else [])]
+        cells = {
+            'id': self.id('C'),
+            'roid': self.id('CR'),
+            'email': self.token(),
+            **self.phones(),
+            **self.history()
+        }
+        postal = [{
+            'postalType': form,
+            'name': self.text(),
+            **self.some(org=self.text),
+            **self.address()
+        } for form in ('int', 'loc')]
+        return [('contact', cells), *(('contactStatuses', it)
+                                      for it in self.statuses(OTHER_STATUSES)),
+                *(('contactPostal', it) for it in postal[:self.random.randint(1, 2)]),
+                *(('contactTransfer', it) for it in self.transfers()), *([
+                    ('contactDisclose',
+                     {'discloseFlag': '0', **self.some(**dict.fromkeys(DISCLOSED, lambda: '1'))})
+                ] if self.random.random() < 0.4 else [])]
 
     def host(self):
         cells = {'name': f'{self.id("Ns")}.example', 'roid': self.id('HR'), **self.history()}
         return [('host', cells), *(('hostStatuses', it) for it in self.statuses(OTHER_STATUSES)),
-                *(('hostAddresses', {'addr': self.token(), 'addrVersion': 'v4'}) for _ in range(self.random.randint(0, 3)))]
+                *(('hostAddresses', {'addr': self.token(), 'addrVersion': 'v4'})
+                  for _ in range(self.random.randint(0, 3)))]
 
     def key_data(self):
         return {it: self.token() for it in ('flags', 'protocol', 'keyAlg', 'pubKey')}
@@ -99,27 +147,49 @@ class Maker:
         if self.random.random() < 0.6:
             return []
         life = self.some(maxSigLife=self.token)
-        ds = [{it: self.token() for it in ('keyTag', 'dsAlg', 'digestType', 'digest')} for _ in range(self.random.randint(1, 2))]
-        rows = [{**it, **(self.key_data() if self.random.random() < 0.3 else {})} for it in ds] if self.random.random() < 0.5 else [self.key_data()]
+        ds = [{it: self.token()
+               for it in ('keyTag', 'dsAlg', 'digestType', 'digest')}
+              for _ in range(self.random.randint(1, 2))]
+        rows = [{**it, **(self.key_data() if self.random.random() < 0.3 else {})}
+                for it in ds] if self.random.random() < 0.5 else [self.key_data()]
         return [{**life, **it} for it in rows]
 
     def served(self, hosts):
         if self.random.random() < 0.7:
-            return [('domainNs', {'hostName': it}) for it in self.random.sample(hosts, self.random.randint(0, min(3, len(hosts))))]
-        return [('domainHostAttr', {'hostName': f'{self.id("ns")}.example', **({'addr': self.token(), 'addrVersion': 'v6'} if it else {})})
-                for it in self.many(lambda: self.random.random() < 0.5)]
+            return [('domainNs', {'hostName': it})
+                    for it in self.random.sample(hosts, self.random.randint(0, min(3, len(hosts))))]
+        return [('domainHostAttr', {
+            'hostName': f'{self.id("ns")}.example',
+            **({
+                'addr': self.token(),
+                'addrVersion': 'v6'
+            } if it else {})
+        }) for it in self.many(lambda: self.random.random() < 0.5)]
 
     def domain(self, hosts):
-        cells = {'name': f'{self.id("Dom")}.example', 'roid': self.id('DR'), **self.history('exDate'),
-                 **self.some(uName=self.text, idnTableId=self.token, originalName=self.token, registrant=self.token)}
-        rgp = [{'rgpStatus': it, **self.some(statusDescription=self.text, lang=lambda: 'en')} for it in RGP_STATUSES if self.random.random() < 0.2]
-        return [('domain', cells), *(('domainStatuses', it) for it in [*self.statuses(DOMAIN_STATUSES), *rgp]),
-                *(('domainContacts', it) for it in self.many(lambda: {'contactId': self.token(), 'contactType': 'admin'})), *self.served(hosts),
-                *(('secDNS', it) for it in self.secured()), *(('domainTransfer', it) for it in self.transfers(exDate=self.moment))]
+        cells = {
+            'name': f'{self.id("Dom")}.example',
+            'roid': self.id('DR'),
+            **self.history('exDate'),
+            **self.some(uName=self.text, idnTableId=self.token, originalName=self.token,
+                        registrant=self.token)
+        }
+        rgp = [{'rgpStatus': it, **self.some(statusDescription=self.text, lang=lambda: 'en')}
+               for it in RGP_STATUSES if self.random.random() < 0.2]
+        return [('domain', cells), *(('domainStatuses', it)
+                                     for it in [*self.statuses(DOMAIN_STATUSES), *rgp]),
+                *(('domainContacts', it)
+                  for it in self.many(lambda: {'contactId': self.token(), 'contactType': 'admin'})),
+                *self.served(hosts), *(('secDNS', it) for it in self.secured()),
+                *(('domainTransfer', it) for it in self.transfers(exDate=self.moment))]
 
     def nndn(self):
-        cells = {'aName': f'{self.id("n")}.example', 'nameState': 'mirrored',
-                 **self.some(uName=self.text, idnTableId=self.token, originalName=self.token, mirroringNS=lambda: 'false', crDate=self.moment)}
+        cells = {
+            'aName': f'{self.id("n")}.example',
+            'nameState': 'mirrored',
+            **self.some(uName=self.text, idnTableId=self.token, originalName=self.token,
+                        mirroringNS=lambda: 'false', crDate=self.moment)
+        }
         return [('nndn', cells)]
 
 
@@ -127,13 +197,17 @@ def some_objects(random, most=6):
     maker = Maker(random)
     hosts = maker.many(maker.host, most)
     names = [it[0][1]['name'] for it in hosts]
-    return [*maker.many(maker.registrar, most), *maker.many(maker.idn, most), *maker.many(maker.contact, most), *hosts,
-            *maker.many(lambda: maker.domain(names), most), *maker.many(maker.nndn, most)]
+    return [
+        *maker.many(maker.registrar, most), *maker.many(maker.idn, most),
+        *maker.many(maker.contact, most), *hosts, *maker.many(lambda: maker.domain(names), most),
+        *maker.many(maker.nndn, most)
+    ]
 
 
 def told(rows):
     """The rows of an object, in an order of their own, each with the cells that aren't empty."""
-    return sorted((table, sorted((name, value) for name, value in cells.items() if value)) for table, cells in rows)
+    return sorted((table, sorted((name, value) for name, value in cells.items() if value))
+                  for table, cells in rows)
 
 
 def as_written(objects):
@@ -161,16 +235,21 @@ def description_in(folder):
 
 
 def folders_in(folder):
-    """The folders for `pack bundle` in one that was written: itself, or those of its parts in their order."""
+    """The folders for `pack bundle` in one that was written: itself, or those of its parts in their
+    order."""
     parts = sorted(it for it in os.listdir(folder) if it.startswith('part-'))
     return [os.path.join(folder, it) for it in parts] or [folder]
 
 
 def objects_in(folder):
-    """The objects that a folder for `pack bundle` has, by kind and key, and the keys of its deletes by kind."""
+    """The objects that a folder for `pack bundle` has, by kind and key, and the keys of its deletes
+    by kind."""
     described, found = description_in(folder), {}
     for table in described['contents']:
         for row in rows_in(folder, table):
             found.setdefault((table['kind'], row[table['key']]), []).append((table['name'], row))
-    deleted = {table['kind']: [row[table['key']] for row in rows_in(folder, table)] for table in described['deletes']}
+    deleted = {
+        table['kind']: [row[table['key']] for row in rows_in(folder, table)]
+        for table in described['deletes']
+    }
     return {key: told(rows) for key, rows in found.items()}, deleted

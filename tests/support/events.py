@@ -1,11 +1,23 @@
-"""What desks over files that fail are told, and what they must answer: for the modules whose files fail, and those that ask over HTTP."""
+"""What desks over files that fail are told, and what they must answer: for the modules whose files
+fail, and those that ask over HTTP."""
 import re
 
-from support.stage import Failed, case, difference
-from support.steps import Bodies, FirstScript, Manifest
+from support.stage import Failed
+from support.stage import case
+from support.stage import difference
+from support.steps import Bodies
+from support.steps import FirstScript
+from support.steps import Manifest
 
 # By what the rows are in order of each table that stores of both versions have.
-FIRST_TABLES = {'listed': 'row', 'receipt': 'receipt', 'held': 'row', 'step': 'pos', 'object': 'kind, key', 'undo': 'pos, kind, key'}
+FIRST_TABLES = {
+    'listed': 'row',
+    'receipt': 'receipt',
+    'held': 'row',
+    'step': 'pos',
+    'object': 'kind, key',
+    'undo': 'pos, kind, key'
+}
 # Those and the others that a store of this version has.
 TABLES = {'info': 'id'} | FIRST_TABLES | {'parked': 'digest', 'moment': 'id'}
 NOON = '2024-03-04T12:00:00Z'
@@ -16,15 +28,16 @@ MOST_CALLS = 5_000
 
 
 def put_files(stage, **listed):
-    """The bodies that arrive, each in a file of its name, and manifests, each with the bodies that it lists."""
+    """The bodies that arrive, each in a file of its name, and manifests, each with the bodies that
+    it lists."""
     Bodies(('F1', 'D2', 'D2Resent', 'D3', 'F5', 'Abc', 'Empty')).do(stage)
     for name, names in listed.items():
         Manifest(f'{name}.csv', names).do(stage)
 
 
 def put_first_store(stage, lost):
-    """The statements that make a store of version 1, which lists F1, took it as number 1, and then gave A2 to bodies, each under its
-    number."""
+    """The statements that make a store of version 1, which lists F1, took it as number 1, and then
+    gave A2 to bodies, each under its number."""
     Manifest('early.csv', ('F1',)).do(stage)
     FirstScript('first.sql', 'early.csv', (('1', 'F1'), *lost)).do(stage)
 
@@ -37,7 +50,10 @@ def query(table):
 def compare_any(line, got, *wanted):
     """What came of a line, which must be one of these."""
     if got not in wanted:
-        found = [it for at, one in enumerate(wanted) for it in difference('or' if at else 'answer', one, got.encode())]
+        found = [
+            it for at, one in enumerate(wanted)
+            for it in difference('or' if at else 'answer', one, got.encode())
+        ]
         raise Failed('\n'.join([f'> {line}', *found]))
     return got
 
@@ -53,7 +69,8 @@ def is_answered(desk, line, wanted):
 
 
 def is_open(desk, make='create listed.csv', made='created\n'):
-    """Opens a store, which is made or migrated where there is none of this version. Whether it is open: `S1` alone refuses it."""
+    """Opens a store, which is made or migrated where there is none of this version. Whether it is
+    open: `S1` alone refuses it."""
     answer = check(desk, 'open', 'opened\n', 'S1\n', 'S3\n')
     if answer == 'S3\n':
         answer = check(desk, make, made, 'S1\n')
@@ -61,7 +78,8 @@ def is_open(desk, make='create listed.csv', made='created\n'):
 
 
 def over_calls(file, play):
-    """Plays with the next call of a file, one after the other, which fails, up to a time that there is none: then `play` is false."""
+    """Plays with the next call of a file, one after the other, which fails, up to a time that there
+    is none: then `play` is false."""
     for calls in range(MOST_CALLS):
         with case(f'the {FILES[file]} fails after {calls} calls'):
             if not play(calls):

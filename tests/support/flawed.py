@@ -1,34 +1,53 @@
-"""Small releases at random, with flaws: what an agent may leave out or get wrong, and what it may name otherwise. Their deposits may be
-series, which `unpack_rde --described` makes of them."""
+"""Small releases at random, with flaws: what an agent may leave out or get wrong, and what it may
+name otherwise. Their deposits may be series, which `unpack_rde --described` makes of them."""
 import random
 import tempfile
 
 from support.acceptance import GUIDES
-from support.bundles import Header, manifest
-from support.formats import KINDS, envelope_in, sections
-from support.registries import TABLES, Registry, deposit
-from support.releases import Release, numbered
+from support.bundles import Header
+from support.bundles import manifest
+from support.formats import KINDS
+from support.formats import envelope_in
+from support.formats import sections
+from support.registries import TABLES
+from support.registries import Registry
+from support.registries import deposit
+from support.releases import Release
+from support.releases import numbered
 from support.unpacking import Described
 
 # How many objects of each kind there are at first.
 FIRST = {'registrar': 2, 'idn': 1, 'contact': 3, 'host': 3, 'domain': 4, 'nndn': 1}
 # What may be wrong with a release, beside its names.
-FLAWS = ('uncounted', 'miscounted', 'orphans', 'cells', 'lost', 'unlisted', 'damaged', 'awaited', 'revised', 'unknown base', 'same day')
+FLAWS = ('uncounted', 'miscounted', 'orphans', 'cells', 'lost', 'unlisted', 'damaged', 'awaited',
+         'revised', 'unknown base', 'same day')
 # Other names for a table or a field: some look like it, the last ones don't.
-TABLE_NAMES = (str.upper, lambda it: f'f{it[0].upper()}{it[1:]}', lambda it: f'{it[:2]}_{it[2:]}', lambda it: f'F_{it}', lambda it: f'{it}s',
-               lambda it: f'ff{it}')
+TABLE_NAMES = (str.upper, lambda it: f'f{it[0].upper()}{it[1:]}', lambda it: f'{it[:2]}_{it[2:]}',
+               lambda it: f'F_{it}', lambda it: f'{it}s', lambda it: f'ff{it}')
 FIELD_NAMES = (lambda it: f'{it[:2]}-{it[2:]}.', *TABLE_NAMES)
 # Texts by which a link leads to no object, a status is none, or a date is too early or too late.
-OTHER_TEXTS = {'clID': 'GONE', 'registrant': 'GONE', 'contactId': 'GONE', 'hostName': 'ns.gone.example', 'idnTableId': 'GONE',
-               'status': 'unheardOf', 'crDate': '2031-01-01T00:00:00Z', 'exDate': '2009-12-31T00:00:00Z'}
+OTHER_TEXTS = {
+    'clID': 'GONE',
+    'registrant': 'GONE',
+    'contactId': 'GONE',
+    'hostName': 'ns.gone.example',
+    'idnTableId': 'GONE',
+    'status': 'unheardOf',
+    'crDate': '2031-01-01T00:00:00Z',
+    'exDate': '2009-12-31T00:00:00Z'
+}
 NO_DATE = 'never'
 
 
 class Contents:
-    """The tables of a deposit: of each its kind, its role, and its fields with the rows below them."""
+    """The tables of a deposit: of each its kind, its role, and its fields with the rows below
+    them."""
 
     def __init__(self, registry, objects):
-        self.tables = {name: (kind, role, [[*fields]]) for name, (kind, role, fields) in TABLES.items()}
+        self.tables = {
+            name: (kind, role, [[*fields]])
+            for name, (kind, role, fields) in TABLES.items()
+        }
         for kind, key in objects:
             for name, row in registry.objects[kind][key]:
                 self.tables[name][2].append([*row])
@@ -66,10 +85,22 @@ class Contents:
             lines[1][at] = text
 
     def body(self, header, deletes, counts):
-        tables = {name: it for name, it in self.tables.items() if len(it[2]) > 1 or header.type == 'FULL'}
-        told = {'id': header.id, 'type': header.type, 'watermark': header.watermark, 'prevId': header.prev, 'resend': header.resend}
-        return deposit(told, {name: lines[1:] for name, (*_, lines) in tables.items()}, {'domain': deletes}, counts,
-                       {name: (kind, role, lines[0]) for name, (kind, role, lines) in tables.items()})
+        tables = {
+            name: it
+            for name, it in self.tables.items() if len(it[2]) > 1 or header.type == 'FULL'
+        }
+        told = {
+            'id': header.id,
+            'type': header.type,
+            'watermark': header.watermark,
+            'prevId': header.prev,
+            'resend': header.resend
+        }
+        return deposit(
+            told, {name: lines[1:]
+                   for name, (*_, lines) in tables.items()}, {'domain': deletes}, counts,
+            {name: (kind, role, lines[0])
+             for name, (kind, role, lines) in tables.items()})
 
 
 def day_text(day, hour=0):
@@ -94,9 +125,11 @@ class Agent:
         return flaw in self.flaws and self.random.random() < share
 
     def change(self):
-        """Some domains go, and others come. Gives the objects that a Differential has, and those that it deletes."""
+        """Some domains go, and others come. Gives the objects that a Differential has, and those
+        that it deletes."""
         keys = self.registry.keys
-        gone = self.random.sample(keys['domain'], self.random.randint(0, min(2, len(keys['domain']))))
+        gone = self.random.sample(keys['domain'], self.random.randint(0,
+                                                                      min(2, len(keys['domain']))))
         keys['domain'] = [it for it in keys['domain'] if it not in gone]
         self.deleted += gone
         made = [(kind, self.registry.add(kind)) for kind in ('contact', 'domain')]
@@ -111,7 +144,9 @@ class Agent:
     def spoil(self, contents):
         if self.has('cells', 0.7):
             for guide in self.random.sample(GUIDES, 4):
-                contents.spoil_cell(guide, NO_DATE if guide[2].endswith('Date') and self.random.random() < 0.5 else OTHER_TEXTS[guide[2]])
+                contents.spoil_cell(
+                    guide, NO_DATE if guide[2].endswith('Date') and self.random.random() < 0.5 else
+                    OTHER_TEXTS[guide[2]])
         if self.has('orphans', 0.7):
             contents.tables['domainNs'][2].append(['nobody.example', self.registry.some('host')])
         name = self.guide[1] or self.guide[0]
@@ -154,7 +189,8 @@ class Agent:
             self.bodies.append(body)
 
     def add(self, kind, day, objects, deletes):
-        """A deposit of this day, and sometimes a later revision of it, for which the desk may have to wait."""
+        """A deposit of this day, and sometimes a later revision of it, for which the desk may have
+        to wait."""
         header = header_of(kind, day)
         if kind == 'DIFF':
             header = header._replace(prev='X9' if self.has('unknown base', 0.3) else self.last_id)
@@ -196,7 +232,8 @@ class AgentOfSeries(Agent):
 
     def limits(self):
         pick = self.random.randint
-        return ['--part-rows', f'{pick(9, 30)}'] if pick(0, 1) else ['--part-bytes', f'{pick(900, 2000)}']
+        return ['--part-rows', f'{pick(9, 30)}'] if pick(
+            0, 1) else ['--part-bytes', f'{pick(900, 2000)}']
 
     def bundles(self, header, body):
         (_, envelope), *files = sections(body)
@@ -219,12 +256,14 @@ def header_in(body):
 
 def draw_flaws(chance, flaws):
     """Of some there are none, of most a few, and half of them have wrong names."""
-    names = [chance.choice(('left out', 'doubled', 'renamed', 'renamed table'))] if chance.random() < 0.5 else []
+    names = [chance.choice(
+        ('left out', 'doubled', 'renamed', 'renamed table'))] if chance.random() < 0.5 else []
     return names + chance.sample(flaws, chance.randint(0, 6))
 
 
 def draw_series(seed):
-    """The release of a seed whose deposits are series. (The last bundle of a Full would be a Differential of the same day.)"""
+    """The release of a seed whose deposits are series. (The last bundle of a Full would be a
+    Differential of the same day.)"""
     chance = random.Random(f'series {seed}')
     return AgentOfSeries(seed, draw_flaws(chance, [it for it in FLAWS if it != 'same day'])).make()
 
@@ -251,7 +290,10 @@ def empty(contents, kind, *guides):
 
 def add_elsewhere(contents):
     """Adds names that look like those of guides to tables of other kinds."""
-    contents.tables |= {'domain_ns': ('host', 'child', [['name']]), 'fContactStatuses': ('domain', 'child', [['domainName']])}
+    contents.tables |= {
+        'domain_ns': ('host', 'child', [['name']]),
+        'fContactStatuses': ('domain', 'child', [['domainName']])
+    }
     for guide in (('host', None, 'clID'), ('domain', 'domainNs', 'hostName')):
         contents.double(guide, lambda _: 'fRegistrant')
 
@@ -275,7 +317,8 @@ def renamed_tables(names, other_name):
 
 
 def misnamed_releases():
-    """Releases of one Full each, with what is changed in it: fields of all guides are left out, or have other names, or tables have."""
+    """Releases of one Full each, with what is changed in it: fields of all guides are left out, or
+    have other names, or tables have."""
     children = sorted({it[1] for it in GUIDES if it[1]})
     yield 'nothing', full_release(lambda _: None)
     yield 'left out', full_release(each(Contents.leave_out))
@@ -283,12 +326,16 @@ def misnamed_releases():
         yield f'fields as {other_name("clID")}', full_release(each(Contents.rename, other_name))
         yield f'fields as {other_name("clID")} too', full_release(each(Contents.double, other_name))
     for other_name in TABLE_NAMES:
-        yield f'tables as {other_name("domainNs")}', full_release(renamed_tables(children, other_name))
+        yield f'tables as {other_name("domainNs")}', full_release(
+            renamed_tables(children, other_name))
     for other in ('domainNameServers', 'fdomain_nameservers', 'domainNameServer'):
-        yield f'hosts in {other}', full_release(renamed_tables(['domainNs'], lambda _, other=other: other))
+        yield f'hosts in {other}', full_release(
+            renamed_tables(['domainNs'], lambda _, other=other: other))
     # A parent table may have any name.
     yield 'parent tables', full_release(renamed_tables(KINDS, lambda it: f'my_{it}'))
     yield 'names in tables of other kinds', full_release(add_elsewhere)
     # What no object has, or leads to, needs no field.
-    yield 'no NNDN objects', full_release(lambda it: empty(it, 'nndn', ('nndn', None, 'idnTableId')))
-    yield 'no IDN tables', full_release(lambda it: empty(it, 'idn', ('nndn', None, 'idnTableId'), ('domain', None, 'idnTableId')))
+    yield 'no NNDN objects', full_release(lambda it: empty(it, 'nndn',
+                                                           ('nndn', None, 'idnTableId')))
+    yield 'no IDN tables', full_release(lambda it: empty(it, 'idn', ('nndn', None, 'idnTableId'),
+                                                         ('domain', None, 'idnTableId')))

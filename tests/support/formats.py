@@ -1,13 +1,33 @@
-"""What a bundle, an object's record and a manifest are, read in plain Python by the words of docs/DEFINITIONS.md, and where a body is no
-deposit, by those of docs/PACK.md.
+"""What a bundle, an object's record and a manifest are, read in plain Python by the words of
+docs/DEFINITIONS.md, and where a body is no deposit, by those of docs/PACK.md.
 
-Nothing of the program is used: tests and trials expect of the program what this says. Each part is the definition's words and is slow."""
-import csv, functools, io, json, math, re, struct
-from datetime import datetime, timedelta
+Nothing of the program is used: tests and trials expect of the program what this says. Each part is
+the definition's words and is slow."""
+import csv
+import functools
+import io
+import json
+import math
+import re
+import struct
+from datetime import datetime
+from datetime import timedelta
+
+from support.limits import MOST_BYTES
+from support.limits import MOST_COUNT
+from support.limits import MOST_FIELDS
+from support.limits import MOST_ID
+from support.limits import MOST_KEY
+from support.limits import MOST_LISTED
+from support.limits import MOST_MANIFEST
+from support.limits import MOST_RESEND
+from support.limits import MOST_ROWS
+from support.limits import MOST_SECTION
+from support.limits import MOST_SECTIONS
+from support.limits import MOST_TABLE
 
 KINDS = ('registrar', 'contact', 'host', 'domain', 'idn', 'nndn')
 TYPES = ('DIFF', 'INCR', 'FULL')
-MOST_BYTES, MOST_ROWS = 16_777_216, 100_000
 csv.field_size_limit(MOST_BYTES)
 FIRST_LINE = b'escrow-bundle 1\n'
 EPOCH, SECONDS = datetime(1970, 1, 1), '%Y-%m-%dT%H:%M:%S'
@@ -33,7 +53,7 @@ def need(holds, code, where):
 
 
 def is_id(text):
-    return re.fullmatch('[A-Za-z0-9._-]{1,64}', text) is not None
+    return re.fullmatch(f'[A-Za-z0-9._-]{{1,{MOST_ID}}}', text) is not None
 
 
 def is_utf8(text):
@@ -45,7 +65,8 @@ def is_utf8(text):
 
 def moment(text):
     """The nanoseconds of a watermark, or None."""
-    found = re.fullmatch(r'([0-9]{4}-[0-9]{2}-[0-9]{2}T[0-9]{2}:[0-9]{2}:[0-9]{2})(?:\.([0-9]{1,9}))?Z', text)
+    found = re.fullmatch(
+        r'([0-9]{4}-[0-9]{2}-[0-9]{2}T[0-9]{2}:[0-9]{2}:[0-9]{2})(?:\.([0-9]{1,9}))?Z', text)
     try:
         at = datetime.strptime(found[1], SECONDS) if found else None
     except ValueError:
@@ -81,7 +102,7 @@ def records(text):
 
 def sections(body):
     """The sections of a bundle, the name and the bytes of each. U1 to U4."""
-    need(len(body) <= MOST_BYTES, 4, 'more than 16,777,216 bytes')
+    need(len(body) <= MOST_BYTES, 4, f'more than {MOST_BYTES:,} bytes')
     need(body.startswith(FIRST_LINE), 1, 'the first line is not "escrow-bundle 1"')
     found, at = [], len(FIRST_LINE)
     while not body.startswith(b'end\n', at):
@@ -99,11 +120,14 @@ def section(body, at, before):
     line = re.compile(rb'([^\n ]*) (0|[1-9][0-9]*)\n').match(body, at)
     need(line, 1, f'section {number}: no line with a name and a length')
     name = line[1].decode(errors='replace')
-    need(re.fullmatch('[a-z0-9._-]{1,32}', name), 2, f'section {number}: a name that is not 1 to 32 of a-z 0-9 . _ -')
+    need(re.fullmatch(f'[a-z0-9._-]{{1,{MOST_SECTION}}}', name), 2,
+         f'section {number}: a name that is not 1 to {MOST_SECTION} of a-z 0-9 . _ -')
     here = f'section {number} {name}'
     need(name not in before, 3, f'{here}: the name of an earlier section')
-    need(number <= 64, 4, f'{here}: more than 64 sections')
-    need(len(line[2]) <= 8 and int(line[2]) <= MOST_BYTES, 4, f'{here}: more than 16,777,216 bytes')
+    need(number <= MOST_SECTIONS, 4, f'{here}: more than {MOST_SECTIONS} sections')
+    need(
+        len(line[2]) <= 8 and int(line[2]) <= MOST_BYTES, 4,
+        f'{here}: more than {MOST_BYTES:,} bytes')
     need(before or name == 'envelope.json', 1, f'{here}: not envelope.json')
     end = line.end() + int(line[2])
     need(end <= len(body), 1, f'{here}: fewer bytes than its line says')
@@ -124,16 +148,17 @@ class Number:
 
     def whole(self):
         """Its value if it is digits alone, up to 18446744073709551615."""
-        is_whole = re.fullmatch('[0-9]{1,20}', self.text) and int(self.text) < 2**64
+        is_whole = re.fullmatch('[0-9]{1,20}', self.text) and int(self.text) <= MOST_COUNT
         return int(self.text) if is_whole else None
 
 
-def is_whole(value, most=2**64 - 1):
+def is_whole(value, most=MOST_COUNT):
     return isinstance(value, Number) and value.whole() is not None and value.whole() <= most
 
 
 def check_texts(value):
-    """A text with half a surrogate pair is no text. (A value has no such text where one can write it.)"""
+    """A text with half a surrogate pair is no text. (A value has no such text where one can write
+    it.)"""
     json.dumps(value, ensure_ascii=False, default=lambda number: number.text).encode()
 
 
@@ -147,8 +172,8 @@ def no_constant(text):
 
 
 def json_of(text):
-    """The value of a JSON text. U5 where it is none, nests deeper than 127 or has a number that no float is near. (Where in the text it is
-    wrong isn't known here.)"""
+    """The value of a JSON text. U5 where it is none, nests deeper than 127 or has a number that no
+    float is near. (Where in the text it is wrong isn't known here.)"""
     try:
         text = text.decode()
         deep = deepest = 0
@@ -157,7 +182,8 @@ def json_of(text):
             deepest = max(deep, deepest)
         if deepest > 127:
             raise ValueError('too deep')
-        value = json.loads(text, parse_int=Number, parse_float=Number, parse_constant=no_constant, object_pairs_hook=members)
+        value = json.loads(text, parse_int=Number, parse_float=Number, parse_constant=no_constant,
+                           object_pairs_hook=members)
         check_texts(value)
         return value
     except ValueError:
@@ -173,7 +199,8 @@ def counts_in(envelope):
 
 
 def header_of(value):
-    """The header of an envelope: id, watermark and type, prevId, resend. U6, for the first of these members that is wrong."""
+    """The header of an envelope: id, watermark and type, prevId, resend. U6, for the first of these
+    members that is wrong."""
     told = value if isinstance(value, dict) else {}
     name, watermark, prev, resend = map(told.get, ('id', 'watermark', 'prevId', 'resend'))
     counts = told.get('counts', {})
@@ -182,8 +209,9 @@ def header_of(value):
         'type': told.get('type') in TYPES,
         'watermark': isinstance(watermark, str) and moment(watermark) is not None,
         'prevId': prev in (None, '') or isinstance(prev, str) and is_id(prev),
-        'resend': resend is None or is_whole(resend, 999_999),
-        'counts': isinstance(counts, dict) and all(is_whole(counts[it]) for it in KINDS if it in counts),
+        'resend': resend is None or is_whole(resend, MOST_RESEND),
+        'counts': isinstance(counts, dict)
+        and all(is_whole(counts[it]) for it in KINDS if it in counts),
         'contents': isinstance(told.get('contents', []), list),
         'deletes': isinstance(told.get('deletes', []), list),
     }
@@ -193,26 +221,35 @@ def header_of(value):
 
 
 def tables_of(value, member, roles):
-    """The tables of what is, or of what was deleted, whose roles are these. U7, for the first table and the first member that is wrong."""
+    """The tables of what is, or of what was deleted, whose roles are these. U7, for the first table
+    and the first member that is wrong."""
     before = []
     for number, table in enumerate(value.get(member, []), 1):
-        here, told = f'{ENVELOPE}, {member} table {number}', table if isinstance(table, dict) else {}
-        texts = {name: told[name] for name in ('name', 'kind', 'role', 'key', 'file') if isinstance(told.get(name), str)}
+        here, told = f'{ENVELOPE}, {member} table {number}', table if isinstance(table,
+                                                                                 dict) else {}
+        texts = {
+            name: told[name]
+            for name in ('name', 'kind', 'role', 'key', 'file') if isinstance(told.get(name), str)
+        }
         fields = told.get('fields')
-        are_fields = isinstance(fields, list) and all(isinstance(it, str) and is_id(it) for it in fields)
+        are_fields = isinstance(fields, list) and all(
+            isinstance(it, str) and is_id(it) for it in fields)
         right = {
-            'name': re.fullmatch('[A-Za-z0-9_]{1,64}', texts.get('name', '')),
+            'name': re.fullmatch(f'[A-Za-z0-9_]{{1,{MOST_TABLE}}}', texts.get('name', '')),
             'kind': texts.get('kind') in KINDS,
             'role': texts.get('role') in roles,
-            'fields': are_fields and 1 <= len(fields) <= 64 and len(set(fields)) == len(fields),
+            'fields': are_fields and 1 <= len(fields) <= MOST_FIELDS
+            and len(set(fields)) == len(fields),
             'key': are_fields and texts.get('key') in fields,
             'file': 'file' in texts,
         }
         for it, is_right in right.items():
             need(is_right, 7, f'{here}, {it}: {FORM}')
-        need(table['name'] not in [it['name'] for it in before], 7, f'{here}, name: that of an earlier table')
+        need(table['name'] not in [it['name'] for it in before], 7,
+             f'{here}, name: that of an earlier table')
         parents = [it['kind'] for it in before if it['role'] == 'parent' and member == 'contents']
-        need(table['role'] == 'child' or table['kind'] not in parents, 7, f'{here}, kind: that of an earlier parent table')
+        need(table['role'] == 'child' or table['kind'] not in parents, 7,
+             f'{here}, kind: that of an earlier parent table')
         before.append(table)
     return before
 
@@ -221,8 +258,8 @@ def tables_of(value, member, roles):
 
 
 class Deposit:
-    """What a bundle is that reads: its header, how many objects it says there are, its tables of what is and of what was deleted, and the
-    records of each file."""
+    """What a bundle is that reads: its header, how many objects it says there are, its tables of
+    what is and of what was deleted, and the records of each file."""
 
     def __init__(self, header, counts, contents, deletes, files):
         self.name, self.place, self.prev, self.resend = header
@@ -237,21 +274,27 @@ class Deposit:
         """How many child rows have no parent row."""
         rows = self.rows(self.contents)
         parents = {key(table, row) for table, row in rows if table['role'] == 'parent'}
-        return sum(key(table, row) not in parents for table, row in rows if table['role'] == 'child')
+        return sum(
+            key(table, row) not in parents for table, row in rows if table['role'] == 'child')
 
     @functools.cached_property
     def says(self):
-        """Of each key that it mentions the record of the object, or None for one that there is no more."""
+        """Of each key that it mentions the record of the object, or None for one that there is no
+        more."""
         said = {} if self.place[1] == 'FULL' else {key(*it): None for it in self.rows(self.deletes)}
         objects, children = {}, {}
         for table, row in self.rows(self.contents):
-            made = table['name'].encode(), [(field.encode(), cell) for field, cell in zip(table['fields'], row)]
+            made = table['name'].encode(), [(field.encode(), cell)
+                                            for field, cell in zip(table['fields'], row)]
             if table['role'] == 'parent':
                 objects[key(table, row)] = made
             else:
                 children.setdefault(key(table, row), []).append(made)
         # Child rows by table name, and in a table as in its file (the sort keeps their order).
-        return said | {it: record([made, *sorted(children.get(it, []), key=lambda row: row[0])]) for it, made in objects.items()}
+        return said | {
+            it: record([made, *sorted(children.get(it, []), key=lambda row: row[0])])
+            for it, made in objects.items()
+        }
 
 
 def key(table, row):
@@ -264,12 +307,14 @@ def deposit(body):
     (_, text), *files = sections(body)
     value = json_of(text)
     header = header_of(value)
-    contents, deletes = tables_of(value, 'contents', ('parent', 'child')), tables_of(value, 'deletes', ('parent',))
+    contents, deletes = tables_of(value, 'contents',
+                                  ('parent', 'child')), tables_of(value, 'deletes', ('parent',))
     # The files of tables are sections, and each section is the file of one table. U8.
     names, named = [name for name, _ in files], [table['file'] for table in [*contents, *deletes]]
     for member, tables in (('contents', contents), ('deletes', deletes)):
         for number, table in enumerate(tables, 1):
-            need(table['file'] in names, 8, f'{ENVELOPE}, {member} table {number}, file: no section "{table["file"]}"')
+            need(table['file'] in names, 8,
+                 f'{ENVELOPE}, {member} table {number}, file: no section "{table["file"]}"')
     for number, name in enumerate(names, 2):
         need(name in named, 8, f'section {number} {name}: the file of no table')
         need(named.count(name) == 1, 8, f'section {number} {name}: the file of two tables')
@@ -281,18 +326,22 @@ def deposit(body):
 def check_rows(tables, files):
     """The rows of files, each the file of a table. U9 to U11."""
     rows = [(f'section {number} {name}, row {row}', tables[name], fields)
-            for number, (name, its) in enumerate(files.items(), 2) for row, fields in enumerate(its, 1)]
+            for number, (name, its) in enumerate(files.items(), 2)
+            for row, fields in enumerate(its, 1)]
     for here, table, fields in rows:
         declared = len(table['fields'])
-        need(len(fields) == declared, 9, f'{here}: the number of fields is {len(fields)}, declared {declared}')
+        need(
+            len(fields) == declared, 9,
+            f'{here}: the number of fields is {len(fields)}, declared {declared}')
         for name, field in zip(table['fields'], fields):
             need(is_utf8(field), 9, f'{here}, column {name}: no UTF-8')
     for here, table, fields in rows:
         _, text = key(table, fields)
         need(text, 10, f'{here}, column {table["key"]}: an empty key')
-        need(len(text) <= 255, 10, f'{here}, column {table["key"]}: a key of more than 255 bytes')
+        need(len(text) <= MOST_KEY, 10,
+             f'{here}, column {table["key"]}: a key of more than {MOST_KEY} bytes')
     if len(rows) > MOST_ROWS:
-        raise Refused(11, f'{rows[MOST_ROWS][0]}: more than 100,000 rows')
+        raise Refused(11, f'{rows[MOST_ROWS][0]}: more than {MOST_ROWS:,} rows')
 
 
 @functools.lru_cache(32)
@@ -309,7 +358,8 @@ def verdict(body, row):
     found = found_in(body)
     if isinstance(found, Refused):
         return 'A3', f'U{found.code}'
-    is_other = (found.name, found.place, found.resend) != (row[0], row[1], row[3]) or found.place[1] == 'DIFF' and found.prev != row[2]
+    is_other = (found.name, found.place, found.resend) != (
+        row[0], row[1], row[3]) or found.place[1] == 'DIFF' and found.prev != row[2]
     return 'A4' if is_other else 'A1', ''
 
 
@@ -351,14 +401,18 @@ def read_record(bytes_):
 
 
 def row_of(record):
-    """A manifest's row by its record: id, place, prevId, resend, digest, with None for what is not of its form."""
-    name, kind, watermark, prev, resend, digest = (field.decode() if is_utf8(field) else '\ufffd' for field in record)
-    listed = int(resend or 0) if re.fullmatch('[0-9]{0,6}', resend) else None
+    """A manifest's row by its record: id, place, prevId, resend, digest, with None for what is not
+    of its form."""
+    name, kind, watermark, prev, resend, digest = (field.decode() if is_utf8(field) else '\ufffd'
+                                                   for field in record)
+    listed = int(resend or 0) if re.fullmatch(f'[0-9]{{0,{len(str(MOST_RESEND))}}}',
+                                              resend) else None
     return name, (moment(watermark), kind), prev or None, listed, digest.lower()
 
 
 FORMS = (
-    (4, lambda name, place, prev, resend, digest: not is_id(name) or prev is not None and not is_id(prev)),
+    (4, lambda name, place, prev, resend, digest: not is_id(name) or prev is not None and not is_id(
+        prev)),
     (5, lambda name, place, prev, resend, digest: place[1] not in TYPES),
     (6, lambda name, place, prev, resend, digest: place[0] is None),
     (7, lambda name, place, prev, resend, digest: place[1] == 'DIFF' and prev is None),
@@ -370,7 +424,7 @@ FORMS = (
 def manifest(text):
     """The rows of a manifest. M1 to M13."""
     found = records(text)
-    need(len(text) <= 4_194_304 and len(found) <= 4097, 1, 0)
+    need(len(text) <= MOST_MANIFEST and len(found) <= 1 + MOST_LISTED, 1, 0)
     for index, record in enumerate(found):
         need(len(record) == 6, 2, index)
     need(found and found[0] == HEADING, 3, 0)
@@ -384,7 +438,8 @@ def manifest(text):
 
 
 def fault_among(rows):
-    """The least fault of rows of the right forms against each other, M10 to M13, and its row; or None."""
+    """The least fault of rows of the right forms against each other, M10 to M13, and its row; or
+    None."""
     places, revisions, digests, faults = {}, set(), set(), []
     for index, (name, place, prev, resend, digest) in enumerate(rows, 1):
         faults += [(10, index)] if (place, resend) in revisions else []
@@ -393,6 +448,7 @@ def fault_among(rows):
         revisions.add((place, resend))
         digests.add(digest)
     for index, (_, place, prev, _, _) in enumerate(rows, 1):
-        if place[1] == 'DIFF' and any(other[0] == prev and other[1][0] >= place[0] for other in rows):
+        if place[1] == 'DIFF' and any(other[0] == prev and other[1][0] >= place[0]
+                                      for other in rows):
             faults.append((12, index))
     return min(faults, default=None)

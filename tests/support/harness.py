@@ -1,11 +1,16 @@
-"""A desk that is told what to do, line by line: the program desk_harness (crates/desk_harness says which lines there are)."""
+"""A desk that is told what to do, line by line: the program desk_harness (crates/desk_harness says
+which lines there are)."""
 import subprocess
 
-from support.stage import Failed, Got, difference, pieces_of
+from support.stage import Failed
+from support.stage import Got
+from support.stage import difference
+from support.stage import pieces_of
 
 
 class Harness:
-    """The program in the folder of a stage. It is there in a `with` statement, and has to end with status 0."""
+    """The program in the folder of a stage. It is there in a `with` statement, and has to end with
+    status 0."""
 
     def __init__(self, stage):
         self.stage, self.child = stage, stage.begin([], 'desk_harness', stdin=subprocess.PIPE)
@@ -33,7 +38,10 @@ class Harness:
         while not (self.rest == b'.\n' or self.rest.endswith(b'\n.\n')):
             piece = next(self.pieces, None)
             if piece is None:
-                raise Failed(f'> {self.told}\ndesk_harness ended after {self.rest!r}: {self.child.stderr.read()!r}')
+                raise Failed(
+                    f'> {self.told}\ndesk_harness ended after {self.rest!r}: '
+                    f'{self.child.stderr.read()!r}'
+                )
             self.rest += piece
         answer, self.rest = self.rest.decode().removesuffix('.\n'), b''
         return answer

@@ -1,14 +1,30 @@
-"""Requests and responses of the desk over HTTP: made, and read in plain Python by the words of docs/DEFINITIONS.md."""
+"""Requests and responses of the desk over HTTP: made, and read in plain Python by the words of
+docs/DEFINITIONS.md."""
 import re
 
-from support.formats import KINDS, MOST_BYTES, is_id, is_utf8
+from support.formats import KINDS
+from support.formats import is_id
+from support.formats import is_utf8
+from support.limits import MOST_BYTES
+from support.limits import MOST_HEAD
+from support.limits import MOST_LINES
 
 TOKEN = rb"[A-Za-z0-9!#$%&'*+\-.^_`|~]+"
-HEAD = re.compile(rb'(?:\r?\n)*(' + TOKEN + rb') ([\x21-\x7e\x80-\xff]+) HTTP/1\.[01]\r?\n((?:' + TOKEN
-                  + rb':[\t\x20-\x7e\x80-\xff]*\r?\n)*)\r?\n')
-REASONS = {200: 'OK', 202: 'Accepted', 400: 'Bad Request', 404: 'Not Found', 405: 'Method Not Allowed', 411: 'Length Required',
-           413: 'Content Too Large', 422: 'Unprocessable Content', 503: 'Service Unavailable'}
-PATHS = ('/status', '/gaps', '/links', '/receipts', '/parked', *(f'/export/{kind}' for kind in KINDS))
+HEAD = re.compile(rb'(?:\r?\n)*(' + TOKEN + rb') ([\x21-\x7e\x80-\xff]+) HTTP/1\.[01]\r?\n((?:' +
+                  TOKEN + rb':[\t\x20-\x7e\x80-\xff]*\r?\n)*)\r?\n')
+REASONS = {
+    200: 'OK',
+    202: 'Accepted',
+    400: 'Bad Request',
+    404: 'Not Found',
+    405: 'Method Not Allowed',
+    411: 'Length Required',
+    413: 'Content Too Large',
+    422: 'Unprocessable Content',
+    503: 'Service Unavailable'
+}
+PATHS = ('/status', '/gaps', '/links', '/receipts', '/parked', *(f'/export/{kind}'
+                                                                 for kind in KINDS))
 
 
 def get(path, fields=''):
@@ -17,21 +33,26 @@ def get(path, fields=''):
 
 def put(number, body, length=None):
     """An arrival, which may say another length than it has."""
-    return f'PUT /arrivals/{number} HTTP/1.1\r\nContent-Length: {len(body) if length is None else length}\r\n\r\n'.encode() + body
+    said = len(body) if length is None else length
+    return f'PUT /arrivals/{number} HTTP/1.1\r\nContent-Length: {said}\r\n\r\n'.encode() + body
 
 
 def response(status, text, type='text/plain', allow=None):
     body = text if isinstance(text, bytes) else text.encode()
-    lines = [f'HTTP/1.1 {status} {REASONS[status]}', f'Content-Type: {type}', f'Content-Length: {len(body)}', 'Connection: close']
+    lines = [
+        f'HTTP/1.1 {status} {REASONS[status]}', f'Content-Type: {type}',
+        f'Content-Length: {len(body)}', 'Connection: close'
+    ]
     lines += [f'Allow: {allow}'] if allow else []
     return ''.join(f'{line}\r\n' for line in [*lines, '']).encode() + body
 
 
 def asked(text):
-    """What an input asks for: (`PUT`, number, body), (`GET`, path), or the status, the text and the allowed method of its refusal."""
+    """What an input asks for: (`PUT`, number, body), (`GET`, path), or the status, the text and the
+    allowed method of its refusal."""
     head = HEAD.match(text)
     lines = [line.partition(b':') for line in head[3].splitlines()] if head else []
-    if not head or head.end() > 8192 or len(lines) > 32 or not is_utf8(head[2]):
+    if not head or head.end() > MOST_HEAD or len(lines) > MOST_LINES or not is_utf8(head[2]):
         return 400, 'bad request\n', None
     path = head[2].partition(b'?')[0].decode()
     arrival = re.fullmatch('/arrivals/([^/]+)', path, flags=re.S)
@@ -53,7 +74,7 @@ def arrival_in(number, lines, rest):
     if len(lengths) > 1 or not re.fullmatch(b'[0-9]+', lengths[0]):
         return 400, 'bad request\n', None
     length = lengths[0].lstrip(b'0') or b'0'
-    if len(length) > 8 or int(length) > MOST_BYTES:
+    if len(length) > len(str(MOST_BYTES)) or int(length) > MOST_BYTES:
         return 413, 'too large\n', None
     if len(rest) < int(length):
         return 400, 'bad request\n', None

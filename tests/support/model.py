@@ -1,16 +1,23 @@
 """A plain model of a desk, by the words of docs/DEFINITIONS.md alone (formats.py reads the bytes).
 
-It keeps the rows that are listed and all bodies that came, and makes anew of them what is held, the chain and the objects."""
+It keeps the rows that are listed and all bodies that came, and makes anew of them what is held, the
+chain and the objects."""
 import hashlib
 from typing import NamedTuple
 
 from support import formats
-from support.formats import Refused, found_in, in_order, moment_text, place_text, verdict
+from support.formats import Refused
+from support.formats import found_in
+from support.formats import in_order
+from support.formats import moment_text
+from support.formats import place_text
+from support.formats import verdict
 
 
 class Receipt(NamedTuple):
-    """What is answered to an arrival: the receipt's number, the verdict and fault, and the row that lists the body, or None; for A1 alone
-    whether that row has such a receipt before, and the orphans."""
+    """What is answered to an arrival: the receipt's number, the verdict and fault, and the row that
+    lists the body, or None; for A1 alone whether that row has such a receipt before, and the
+    orphans."""
     receipt: int
     number: str
     digest: str
@@ -22,7 +29,8 @@ class Receipt(NamedTuple):
 
 
 class Gap(NamedTuple):
-    """The line of a listed place: its state, the resend that is held, what blocks it, and the resend that is awaited."""
+    """The line of a listed place: its state, the resend that is held, what blocks it, and the
+    resend that is awaited."""
     place: tuple
     state: str
     resend: int | None
@@ -31,9 +39,9 @@ class Gap(NamedTuple):
 
 
 class Desk:
-    """What a desk keeps of manifests, of arrivals and of a moment, in nanoseconds; early ones are those that version 1 took, which kept
-    no body that no row listed, and answered A2. What it holds, its chain and its objects may be changed, as those of a file that goes
-    bad."""
+    """What a desk keeps of manifests, of arrivals and of a moment, in nanoseconds; early ones are
+    those that version 1 took, which kept no body that no row listed, and answered A2. What it
+    holds, its chain and its objects may be changed, as those of a file that goes bad."""
 
     def __init__(self, manifest, arrivals=(), moment=None, early=()):
         self.listed, self.moment = formats.manifest(manifest), moment
@@ -45,14 +53,17 @@ class Desk:
         self.settle()
 
     def arrive(self, number, body, is_early=False):
-        """The receipt of an arrival, which is that of the first one like it. What is held then is left to `settle`."""
+        """The receipt of an arrival, which is that of the first one like it. What is held then is
+        left to `settle`."""
         digest = hashlib.sha256(body).hexdigest()
         row = next((at for at, it in enumerate(self.listed) if it[4] == digest), None)
         if row is not None or not is_early:
             self.kept[digest] = body
         if (number, digest) not in self.receipts:
             told = len(self.receipts) + 1, number, digest
-            self.receipts[number, digest] = Receipt(*told, 'A2' if is_early else 'A5') if row is None else self.receipt(told, row, body)
+            self.receipts[number, digest] = Receipt(
+                *told, 'A2' if is_early else 'A5') if row is None else self.receipt(
+                    told, row, body)
         return self.receipts[number, digest]
 
     def receipt(self, told, row, body):
@@ -64,8 +75,8 @@ class Desk:
         return Receipt(*told, found, '', row, again, found_in(body).orphans)
 
     def amend(self, manifest):
-        """Lists the rows of a manifest that are not listed yet. It is refused for a fault of its own, or for one against a row that is
-        listed: then by its least row with that."""
+        """Lists the rows of a manifest that are not listed yet. It is refused for a fault of its
+        own, or for one against a row that is listed: then by its least row with that."""
         more = formats.manifest(manifest)
         new = [it for it in more if it not in self.listed]
         if fault := formats.fault_among([*self.listed, *new]):
@@ -93,7 +104,8 @@ class Desk:
 
     def used(self, place):
         """The held row of a place with the greatest resend."""
-        return max((at for at in self.held if self.place(at) == place), key=lambda at: self.listed[at][3], default=None)
+        return max((at for at in self.held if self.place(at) == place),
+                   key=lambda at: self.listed[at][3], default=None)
 
     def base(self, row):
         """The place that a row builds on: none for a Full, or where none is listed."""
@@ -116,7 +128,8 @@ class Desk:
     def latest_chain(self):
         """The chain whose end is the greatest place, of those up to the moment."""
         for place in sorted({self.place(at) for at in self.held}, key=in_order, reverse=True):
-            if (self.moment is None or place[0] <= self.moment) and (chain := self.chain_to(self.used(place))):
+            if (self.moment is None or place[0] <= self.moment) and (chain := self.chain_to(
+                    self.used(place))):
                 return chain
         return []
 
@@ -128,7 +141,9 @@ class Desk:
     def gap(self, place):
         used = self.used(place)
         held = None if used is None else self.listed[used][3]
-        resends = [it[3] for at, it in enumerate(self.listed) if it[1] == place and at not in self.held]
+        resends = [
+            it[3] for at, it in enumerate(self.listed) if it[1] == place and at not in self.held
+        ]
         awaited = max((it for it in resends if held is None or it > held), default=None)
         if used is None:
             return Gap(place, 'missing', None, None, awaited)
@@ -140,7 +155,8 @@ class Desk:
         """What blocks a row: the first base on the way back that isn't held or isn't listed."""
         base = self.base(row)
         if base is None:
-            return 'no earlier FULL' if self.place(row)[1] == 'INCR' else f'unlisted {self.listed[row][2]}'
+            return 'no earlier FULL' if self.place(
+                row)[1] == 'INCR' else f'unlisted {self.listed[row][2]}'
         used = self.used(base)
         return place_text(base) if used is None else self.blocker(used)
 

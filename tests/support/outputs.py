@@ -1,7 +1,18 @@
-"""What a child may do before it becomes a program, and standard outputs that are full at some point."""
-import fcntl, os, resource, signal, struct, tempfile, termios, time
+"""What a child may do before it becomes a program, and standard outputs that are full at some
+point."""
+import fcntl
+import os
+import resource
+import signal
+import struct
+import tempfile
+import termios
+import time
 
-from support.stage import SECONDS, Failed, Got, pieces_of
+from support.stage import SECONDS
+from support.stage import Failed
+from support.stage import Got
+from support.stage import pieces_of
 
 # The most bytes of a file, where a file is standard output. No store here is so long.
 MOST_BYTES = 2**26
@@ -41,8 +52,8 @@ def check_narrow(stage, line, room, wanted):
 
 
 def run_held_up(stage, line, room, meanwhile, program='restore', prepare=None):
-    """Runs a program where standard output is a pipe that has room for so many bytes until something was done, and is read
-    then; or is closed where that gives `False`."""
+    """Runs a program where standard output is a pipe that has room for so many bytes until
+    something was done, and is read then; or is closed where that gives `False`."""
     reader, writer = os.pipe()
     with open(reader, 'rb', buffering=0) as reader:
         size = fcntl.fcntl(writer, fcntl.F_SETPIPE_SZ, os.sysconf('SC_PAGE_SIZE'))
@@ -51,7 +62,8 @@ def run_held_up(stage, line, room, meanwhile, program='restore', prepare=None):
         os.close(writer)
         # The pipe is waited for until it is full, or the child that fills it has ended.
         latest = time.monotonic() + SECONDS
-        while struct.unpack('i', fcntl.ioctl(reader, termios.FIONREAD, bytes(4)))[0] < size and child.poll() is None:
+        while struct.unpack('i', fcntl.ioctl(reader, termios.FIONREAD,
+                                             bytes(4)))[0] < size and child.poll() is None:
             if time.monotonic() > latest:
                 raise Failed('the pipe is not filled')
             time.sleep(0.01)

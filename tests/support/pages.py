@@ -1,5 +1,7 @@
-"""Pages of HTML as a browser reads them: their elements, which have to be balanced, and what stands in them."""
-from dataclasses import dataclass, field
+"""Pages of HTML as a browser reads them: their elements, which have to be balanced, and what stands
+in them."""
+from dataclasses import dataclass
+from dataclasses import field
 from html.parser import HTMLParser
 
 from support.stage import Failed
@@ -8,10 +10,13 @@ from support.stage import Failed
 VOID = ('meta',)
 # What a page may be made of. None of it loads or runs anything.
 HEAD = 'html head meta title style body'.split()
-ELEMENTS = HEAD + ('header main footer section h1 h2 h3 p div span strong ul li table caption thead tbody tr th td'
-                   ' svg defs path circle line rect text use title').split()
-ATTRIBUTES = ('lang charset name content http-equiv id class scope role aria-label aria-hidden tabindex width height x y x1 y1 x2 y2 r d'
-              ' href').split()
+ELEMENTS = HEAD + (
+    'header main footer section h1 h2 h3 p div span strong ul li table caption thead tbody tr th td'
+    ' svg defs path circle line rect text use title').split()
+ATTRIBUTES = (
+    'lang charset name content http-equiv id class scope role aria-label aria-hidden tabindex '
+    'width height x y x1 y1 x2 y2 r d'
+    ' href').split()
 SIGNS = {'&': '&amp;', '<': '&lt;', '>': '&gt;', '"': '&quot;', "'": '&#39;'}
 
 
@@ -41,11 +46,14 @@ class Element:
         return ''.join(it if isinstance(it, str) else it.text() for it in self.inside)
 
     def written(self):
-        """Its text, where an attribute's value is in double quotes and each of five signs is escaped."""
-        front = self.name + ''.join(f' {name}="{escaped(value)}"' for name, value in self.attributes.items())
+        """Its text, where an attribute's value is in double quotes and each of five signs is
+        escaped."""
+        front = self.name + ''.join(f' {name}="{escaped(value)}"'
+                                    for name, value in self.attributes.items())
         if self.name in VOID:
             return f'<{front}>'
-        return f'<{front}>{"".join(escaped(it) if isinstance(it, str) else it.written() for it in self.inside)}</{self.name}>'
+        inside = (escaped(it) if isinstance(it, str) else it.written() for it in self.inside)
+        return f'<{front}>{"".join(inside)}</{self.name}>'
 
 
 def escaped(text):
@@ -64,7 +72,8 @@ class Reader(HTMLParser):
 
     def handle_starttag(self, tag, attrs):
         made = Element(tag, dict(attrs))
-        if len(made.attributes) != len(attrs) or tag not in ELEMENTS or set(made.attributes) - set(ATTRIBUTES):
+        if len(made.attributes) != len(attrs) or tag not in ELEMENTS or set(
+                made.attributes) - set(ATTRIBUTES):
             raise Failed(f'{tag} with {attrs}')
         self.open[-1].inside.append(made)
         if tag not in VOID:
@@ -89,27 +98,46 @@ class Reader(HTMLParser):
 
 
 def read_page(body):
-    """The element html of a page, which has to be written as `written` does, and to have what every page must."""
+    """The element html of a page, which has to be written as `written` does, and to have what every
+    page must."""
     text = body.decode()
     page = Reader(text).root.one('html')
     # (The signs in the policy and in the style are as they are.)
     start = text.index('<body>')
     if text[start:] != f'{page.one("body").written()}</html>\n':
         raise Failed('the body is written in another way')
+    for check in (check_links, check_safety, check_headings, check_tables, check_pictures):
+        check(page)
+    return page
+
+
+def check_links(page):
     ids = [it.attributes['id'] for it in page.all(*ELEMENTS) if 'id' in it.attributes]
     links = {it.attributes['href'] for it in page.all(*ELEMENTS) if 'href' in it.attributes}
     if len(set(ids)) != len(ids) or links - {f'#{it}' for it in ids}:
         raise Failed(f'ids {ids}, links {links}')
+
+
+def check_safety(page):
+    """A page loads and runs nothing."""
     style = page.one('style').text()
     if any(it in style for it in ('url(', '@import', 'expression', '<', '>', '&', '"', "'")):
         raise Failed('the style has what it may not')
-    policy = [it.attributes['content'] for it in page.all('meta') if it.attributes.get('http-equiv') == 'Content-Security-Policy']
+    policy = [it.attributes['content'] for it in page.all('meta')
+              if it.attributes.get('http-equiv') == 'Content-Security-Policy']
     if policy != ["default-src 'none'; style-src 'unsafe-inline'"]:
         raise Failed(f'policy {policy}')
-    # It can be listened to: one first heading, none left out between, headings in tables, and words for pictures.
+
+
+def check_headings(page):
+    """A page can be listened to: one first heading, and none is left out between."""
     levels = [int(it.name[1]) for it in page.all('h1', 'h2', 'h3')]
-    if levels.count(1) != 1 or levels[0] != 1 or any(later > level + 1 for level, later in zip(levels, levels[1:])):
+    skips = any(later > level + 1 for level, later in zip(levels, levels[1:]))
+    if levels.count(1) != 1 or levels[0] != 1 or skips:
         raise Failed(f'headings {levels}')
+
+
+def check_tables(page):
     for it in page.all('th'):
         if it.attributes.get('scope') not in ('col', 'row'):
             raise Failed(f'a heading of a table without a scope: {it.text()}')
@@ -118,10 +146,15 @@ def read_page(body):
         heads = len(it.one('thead').one('tr').elements())
         if any(len(row.elements()) != heads for row in it.one('tbody').all('tr')):
             raise Failed(f'rows of {it.one("caption").text()}')
+
+
+def check_pictures(page):
+    """A picture has words, or is left out where a page is listened to."""
     for it in page.all('svg'):
-        if not (it.attributes.get('aria-hidden') == 'true' or it.attributes.get('role') == 'img' and it.attributes.get('aria-label')):
+        is_hidden = it.attributes.get('aria-hidden') == 'true'
+        has_words = it.attributes.get('role') == 'img' and it.attributes.get('aria-label')
+        if not is_hidden and not has_words:
             raise Failed('a picture without words')
-    return page
 
 
 def section(page, name):

@@ -181,7 +181,7 @@ class Expected:
         }
 
     def host(self, key: str) -> Json:
-        (roid, ), = self.ask('SELECT roid FROM host WHERE key = ?', key)
+        (roid,), = self.ask('SELECT roid FROM host WHERE key = ?', key)
         texts = self.ask('SELECT addr FROM hostAddresses WHERE key = ? ORDER BY rowid', key)
         return {
             'objectClassName': 'nameserver', 'handle': roid, 'ldhName': key,

@@ -1,17 +1,25 @@
-"""Deposits of registries that look real (samples/registry.py): Fulls, and Differentials or Incrementals on these."""
+"""Deposits of registries that look real (samples/registry.py): Fulls, and Differentials or
+Incrementals on these."""
 import sys
 
 from support import TOP
 
 sys.path.append(f'{TOP}/samples')
-from registry import NUMBERS, TABLES, Registry, csv_text, deposit
+from registry import NUMBERS
+from registry import TABLES
+from registry import Registry
+from registry import csv_text
+from registry import deposit
 
+# What others have of the samples by this module, and its own.
+__all__ = ('NUMBERS', 'TABLES', 'Registry', 'csv_text', 'delta', 'deposit', 'full')
 # How many rows a registry of the usual numbers has.
 ROWS = 95_500
 
 
 def full(seed, rows, id, watermark, flat=False, words=0):
-    """A registry of a seed, and a Full of its objects with so many rows, or a few less. Where it is flat each row is an object."""
+    """A registry of a seed, and a Full of its objects with so many rows, or a few less. Where it is
+    flat each row is an object."""
     objects = sum(NUMBERS.values())
     share = rows / (objects if flat else ROWS)
     numbers = {kind: max(2, int(count * share)) for kind, count in NUMBERS.items()}

@@ -1,4 +1,5 @@
-"""Releases, the stores that `restore` rebuilds from them, and what the plain model keeps of them."""
+"""Releases, the stores that `restore` rebuilds from them, and what the plain model keeps of
+them."""
 import os
 from typing import NamedTuple
 
@@ -10,7 +11,8 @@ from support.stores import run
 
 
 class Release(NamedTuple):
-    """A manifest, the bodies that arrive with their numbers, of which not each may be held, and the moment that is set, or none."""
+    """A manifest, the bodies that arrive with their numbers, of which not each may be held, and the
+    moment that is set, or none."""
     manifest: bytes
     arrivals: list
     moment: str | None = None
@@ -40,7 +42,8 @@ def sample(path):
 
 def folder(path):
     """The files of a sample's folder, by their names."""
-    return [(name, sample(f'{path}/{name}')) for name in sorted(os.listdir(f'{TOP}/samples/{path}'))]
+    return [(name, sample(f'{path}/{name}'))
+            for name in sorted(os.listdir(f'{TOP}/samples/{path}'))]
 
 
 DEPOSITS, MISSING = folder('release/deposits'), folder('release/missing')

@@ -1,7 +1,10 @@
 """Desks on sockets of this machine, and what comes over a connection to one."""
-import socket, struct
+import socket
+import struct
 
-from support.stage import SECONDS, Failed, pieces_of
+from support.stage import SECONDS
+from support.stage import Failed
+from support.stage import pieces_of
 
 HOST = '127.0.0.1'
 # How many ports are tried.
@@ -20,13 +23,15 @@ def serving(store, port, count):
 
 
 def is_taken(port, got):
-    """Whether a desk has ended because it couldn't listen on the port. (Where its standard error is no pipe, nothing is seen of that.)"""
+    """Whether a desk has ended because it couldn't listen on the port. (Where its standard error is
+    no pipe, nothing is seen of that.)"""
     return got.status == 3 and not got.out and got.err in (b'', f'E1 {HOST}:{port}\n'.encode())
 
 
 def serve(stage, store, count, **streams):
-    """A desk that serves so many connections: the run, which has printed that it listens, and its port. Cases are played side by side:
-    where another one took the port before the desk listened on it, it is another port."""
+    """A desk that serves so many connections: the run, which has printed that it listens, and its
+    port. Cases are played side by side: where another one took the port before the desk listened on
+    it, it is another port."""
     for _ in range(PORTS):
         port = free_port()
         child = stage.begin(serving(store, port, count).split(), **streams)

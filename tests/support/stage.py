@@ -1,5 +1,10 @@
 """Where a case plays: an empty folder, the programs that run in it, and what a run must give."""
-import contextlib, difflib, os, select, subprocess, tempfile
+import contextlib
+import difflib
+import os
+import select
+import subprocess
+import tempfile
 from dataclasses import dataclass
 
 from support.files import write
@@ -25,7 +30,8 @@ def case(name):
 
 @dataclass(frozen=True)
 class Wanted:
-    """The status of a run, its standard output, or a part of that, and its standard error, or None: some text, whatever it says."""
+    """The status of a run, its standard output, or a part of that, and its standard error, or None:
+    some text, whatever it says."""
     status: int = 0
     out: str = ''
     err: str | None = ''
@@ -44,9 +50,14 @@ def difference(what, wanted, got):
     if got == wanted.encode():
         return []
     came = got.decode(errors='backslashreplace')
-    lines = list(difflib.unified_diff(wanted.splitlines(), came.splitlines(), 'wanted', 'got', n=1, lineterm=''))
+    lines = list(
+        difflib.unified_diff(wanted.splitlines(), came.splitlines(), 'wanted', 'got', n=1,
+                             lineterm=''))
     # (Texts of the same lines differ in the ends of these.)
-    return [f'{what}:', *(f'  {it}' for it in lines[:SHOWN] or [f'wanted {wanted!r:.400}', f'got    {came!r:.400}'])]
+    return [
+        f'{what}:',
+        *(f'  {it}' for it in lines[:SHOWN] or [f'wanted {wanted!r:.400}', f'got    {came!r:.400}'])
+    ]
 
 
 def compare(what, wanted, got):
@@ -66,7 +77,9 @@ def compare_all(what, wanted, got):
 
 def faults(wanted, got):
     """What is wrong with a run, in lines."""
-    found = [] if got.status == wanted.status else [f'status: wanted {wanted.status}, got {got.status}']
+    found = [] if got.status == wanted.status else [
+        f'status: wanted {wanted.status}, got {got.status}'
+    ]
     if wanted.part is None:
         found += difference('standard output', wanted.out, got.out)
     elif wanted.part.encode() not in got.out:
@@ -88,10 +101,12 @@ def pieces_of(pipe):
 
 
 class Stage:
-    """An empty folder, which is there in a `with` statement, and where the programs are that were built, by their names."""
+    """An empty folder, which is there in a `with` statement, and where the programs are that were
+    built, by their names."""
 
     def __init__(self, programs):
-        self.programs, self.room, self.children = programs, tempfile.TemporaryDirectory(prefix='case-'), []
+        self.programs, self.room, self.children = programs, tempfile.TemporaryDirectory(
+            prefix='case-'), []
 
     def __enter__(self):
         return self
@@ -109,10 +124,13 @@ class Stage:
         """Writes a file, or writes it anew, and its folder where there is none."""
         write(self.at(path), content)
 
-    def begin(self, words, program='restore', out=subprocess.PIPE, err=subprocess.PIPE, prepare=None, stdin=subprocess.DEVNULL):
-        """Starts `restore`, or another program. The child becomes the program after it has prepared itself."""
-        self.children.append(subprocess.Popen([self.programs[program], *words], cwd=self.room.name, stdin=stdin,
-                                              stdout=out, stderr=err, bufsize=0, preexec_fn=prepare))
+    def begin(self, words, program='restore', out=subprocess.PIPE, err=subprocess.PIPE,
+              prepare=None, stdin=subprocess.DEVNULL):
+        """Starts `restore`, or another program. The child becomes the program after it has prepared
+        itself."""
+        self.children.append(
+            subprocess.Popen([self.programs[program], *words], cwd=self.room.name, stdin=stdin,
+                             stdout=out, stderr=err, bufsize=0, preexec_fn=prepare))
         return self.children[-1]
 
     def end(self, child):
@@ -130,4 +148,7 @@ class Stage:
 
     def check(self, line, wanted, words=None, program='restore', **streams):
         """Runs a program on the words of a line, and compares what it gives."""
-        self.compare(line, wanted, self.end(self.begin(line.split() if words is None else words, program, **streams)), program)
+        self.compare(
+            line, wanted,
+            self.end(self.begin(line.split() if words is None else words, program, **streams)),
+            program)

@@ -1,11 +1,20 @@
 """What a transcript does beside running the programs: the files that it makes and changes."""
-import contextlib, hashlib, inspect, os, shutil, sqlite3
-from dataclasses import field, make_dataclass
+import contextlib
+import hashlib
+import inspect
+import os
+import shutil
+import sqlite3
+from dataclasses import field
+from dataclasses import make_dataclass
 
 from support import TESTS
-from support.bodies import bytes_of, manifest_text
+from support.bodies import bytes_of
+from support.bodies import manifest_text
 from support.files import read
-from support.first_store import first_rows, first_script, write_store
+from support.first_store import first_rows
+from support.first_store import first_script
+from support.first_store import write_store
 
 FILES = f'{TESTS}/files'
 
@@ -13,9 +22,13 @@ FILES = f'{TESTS}/files'
 def step(play):
     """A kind of step, by what it does on a stage with its values: `Folder('a').do(stage)`."""
     _, *values = inspect.signature(play).parameters.values()
-    fields = [(it.name, object, field() if it.default is it.empty else field(default=it.default)) for it in values]
-    return make_dataclass(play.__name__, fields, frozen=True, namespace={
-        '__doc__': play.__doc__, 'do': lambda self, stage: play(stage, *(getattr(self, it.name) for it in values))})
+    fields = [(it.name, object, field() if it.default is it.empty else field(default=it.default))
+              for it in values]
+    return make_dataclass(
+        play.__name__, fields, frozen=True, namespace={
+            '__doc__': play.__doc__,
+            'do': lambda self, stage: play(stage, *(getattr(self, it.name) for it in values))
+        })
 
 
 @step
@@ -56,7 +69,10 @@ def Statements(stage, path, text):
 @step
 def FirstStore(stage, path, manifest, bodies):
     """A store of version 1 that was made of a manifest and took bodies, each under its number."""
-    write_store(stage.at(path), first_rows(read(f'{FILES}/{manifest}'), [(number, read(f'{FILES}/{name}')) for number, name in bodies]))
+    write_store(
+        stage.at(path),
+        first_rows(read(f'{FILES}/{manifest}'),
+                   [(number, read(f'{FILES}/{name}')) for number, name in bodies]))
 
 
 @step
@@ -74,22 +90,26 @@ def Manifest(stage, path, names, more=''):
 
 @step
 def FirstScript(stage, path, manifest, bodies):
-    """The statements that make a store of version 1, which was made of a manifest and took worked bodies, each under its number. The
-    manifest is a file in the folder."""
-    rows = first_rows(read(stage.at(manifest)), [(number, bytes_of(name)) for number, name in bodies])
+    """The statements that make a store of version 1, which was made of a manifest and took worked
+    bodies, each under its number. The manifest is a file in the folder."""
+    rows = first_rows(read(stage.at(manifest)),
+                      [(number, bytes_of(name)) for number, name in bodies])
     write_new(stage, path, first_script(rows).encode())
 
 
 @step
 def Parked(stage, path, count):
-    """Parks the bodies 0001, 0002 .. in a store, each under its text, with receipts after those that are there, as their arrivals would."""
+    """Parks the bodies 0001, 0002 .. in a store, each under its text, with receipts after those
+    that are there, as their arrivals would."""
     with contextlib.closing(sqlite3.connect(stage.at(path))) as database, database:
         last, = database.execute('SELECT coalesce(max(receipt), 0) FROM receipt').fetchone()
         for at in range(1, count + 1):
             body = f'{at:04}'.encode()
             digest = hashlib.sha256(body).digest()
             receipt = last + at, body.decode(), digest
-            database.execute('INSERT INTO receipt (receipt, number, digest, verdict) VALUES (?, ?, ?, 5)', receipt)
+            database.execute(
+                'INSERT INTO receipt (receipt, number, digest, verdict) VALUES (?, ?, ?, 5)',
+                receipt)
             database.execute('INSERT INTO parked (digest, body) VALUES (?, ?)', (digest, body))
 
 

@@ -1,5 +1,9 @@
-"""Stores in files: rebuilt by `restore` from a release, changed behind its back, and read by the C library."""
-import contextlib, os, shutil, sqlite3
+"""Stores in files: rebuilt by `restore` from a release, changed behind its back, and read by the C
+library."""
+import contextlib
+import os
+import shutil
+import sqlite3
 
 from support.files import read
 from support.formats import KINDS
@@ -14,7 +18,8 @@ READINGS = [*(('report', it) for it in REPORTS), *(('export', it) for it in KIND
 
 
 def copy(old, new):
-    """A store's two files under another name, in place of those that are there; without an old one they are removed alone."""
+    """A store's two files under another name, in place of those that are there; without an old one
+    they are removed alone."""
     for end in ENDS:
         if os.path.lexists(new + end):
             os.remove(new + end)
@@ -35,14 +40,22 @@ def opened(store):
 def is_whole(store):
     """Whether the C library's checks of a store pass."""
     with opened(store) as database:
-        return [database.execute(f'pragma {it}').fetchall() for it in ('integrity_check', 'foreign_key_check')] == [[('ok',)], []]
+        return [
+            database.execute(f'pragma {it}').fetchall()
+            for it in ('integrity_check', 'foreign_key_check')
+        ] == [[('ok',)], []]
 
 
 def rows(store):
     """The rows of each table, as the C library reads them."""
     with opened(store) as database:
-        tables = [it for it, in database.execute("select name from sqlite_master where type = 'table'")]
-        return {table: sorted(database.execute(f'select * from {table}').fetchall(), key=repr) for table in tables}
+        tables = [
+            it for it, in database.execute("select name from sqlite_master where type = 'table'")
+        ]
+        return {
+            table: sorted(database.execute(f'select * from {table}').fetchall(), key=repr)
+            for table in tables
+        }
 
 
 def readings(run, store):
@@ -51,7 +64,8 @@ def readings(run, store):
 
 
 def run(stage, line, program='restore', statuses=(0,)):
-    """Runs a program, which must end with one of these statuses and say nothing on standard error. Gives its standard output."""
+    """Runs a program, which must end with one of these statuses and say nothing on standard error.
+    Gives its standard output."""
     got = stage.end(stage.begin(line.split(), program))
     if got.status not in statuses or got.err:
         raise Failed(f'$ {program} {line}\nstatus {got.status}: {got.err!r}')

@@ -2,13 +2,21 @@
 from typing import NamedTuple
 
 from support.files import read
-from support.formats import KINDS, Refused, found_in, moment, moment_text, place_text, read_record
-from support.reports import report, status
+from support.formats import KINDS
+from support.formats import Refused
+from support.formats import found_in
+from support.formats import moment
+from support.formats import moment_text
+from support.formats import place_text
+from support.formats import read_record
+from support.reports import report
+from support.reports import status
 from support.stage import text_of
 
 
 class Answer(NamedTuple):
-    """An answer, and what it cost: whether all is cleared, how many steps are undone and applied, and the writes."""
+    """An answer, and what it cost: whether all is cleared, how many steps are undone and applied,
+    and the writes."""
     text: str
     cost: str = ''
     writes: int = 0
@@ -18,7 +26,8 @@ class Answer(NamedTuple):
 
 
 def answer(stage, model, line):
-    """The answer to a line, whose file is in the folder: a body that comes, a manifest that amends, or a moment."""
+    """The answer to a line, whose file is in the folder: a body that comes, a manifest that amends,
+    or a moment."""
     old, held = model.steps, model.held
     try:
         match line.split():
@@ -34,15 +43,23 @@ def answer(stage, model, line):
     model.settle()
     front = max(count for count in range(len(old) + 1) if old[:count] == model.steps[:count])
     cleared = front == 0 and old != []
-    undone, applied = [] if cleared else [held[it] for it in old[front:]], [model.held[it] for it in model.steps[front:]]
+    undone = [] if cleared else [held[it] for it in old[front:]]
+    applied = [model.held[it] for it in model.steps[front:]]
     writes = sum(len(found_in(it).says) for it in undone + applied)
-    cost = f'; cleared {str(cleared).lower()}, {len(undone)} undone, {len(applied)} applied, {writes} written, {writes} counted'
+    cost = (f'; cleared {str(cleared).lower()}, {len(undone)} undone, {len(applied)} applied, '
+            f'{writes} written, {writes} counted')
     return Answer(text, cost, writes)
 
 
 def object_text(kind, key, record):
-    rows = [' '.join([table, *(f'{field}={text}' for field, text in cells)]) for table, cells in read_record(record)]
+    rows = [' '.join([table, *(f'{field}={text}' for field, text in cells)])
+            for table, cells in read_record(record)]
     return f'{kind} {key.decode()}: ' + '; '.join(rows)
+
+
+def end_lines(end):
+    counts = (f'{it} {end.counts[it]}' for it in KINDS if it in end.counts)
+    return [moment_text(end.place[0]), *counts]
 
 
 def state(model):
@@ -52,9 +69,10 @@ def state(model):
     objects = sorted(model.objects.items(), key=lambda it: (KINDS.index(it[0][0]), it[0][1]))
     kinds = [kind for (kind, _), _ in objects]
     return {
-        'status': status(len(model.listed), len(model.held), len(model.receipts), len(places), places[-1] if places else 'none',
+        'status': status(len(model.listed), len(model.held), len(model.receipts), len(places),
+                         places[-1] if places else 'none',
                          **{it: kinds.count(it) for it in KINDS}),
-        'end': text_of([moment_text(end.place[0]), *(f'{it} {end.counts[it]}' for it in KINDS if it in end.counts)] if end else ['none']),
+        'end': text_of(end_lines(end) if end else ['none']),
         'moment': text_of(['latest' if model.moment is None else moment_text(model.moment)]),
         'parked': report('parked', model.parked_rows()),
         'receipts': report('receipts', model.receipt_rows()),

@@ -1,4 +1,5 @@
-"""Transcripts: test cases as plain text. Each plays in an empty folder, where nothing of another one is.
+"""Transcripts: test cases as plain text. Each plays in an empty folder, where nothing of another
+one is.
 
     == TITLE                        a case begins
     # TEXT                          a comment
@@ -8,36 +9,60 @@
     zeros PATH = COUNT              .. with this many zero bytes
     link PATH -> TARGET             makes a link
     sql PATH = "STATEMENTS"         changes a database, or makes it
-    store-1 PATH = NAME N:NAME ..   makes a store of version 1: of a manifest, with bodies that it took under their numbers
+    store-1 PATH = NAME N:NAME ..   makes a store of version 1: of a manifest, with bodies that it
+    took under their numbers
     parked PATH = COUNT             parks the bodies 0001, 0002 .. in a store
-    bodies BODY ..                  makes files of these names: worked bodies (tests/support/bodies.py)
-    manifest PATH = BODY .. "ROWS"  makes a manifest that lists worked bodies, and has further rows if there is such a text
+    bodies BODY ..                  makes files of these names: worked bodies
+    (tests/support/bodies.py)
+    manifest PATH = BODY .. "ROWS"  makes a manifest that lists worked bodies, and has further rows
+    if there is such a text
     first-store PATH = FILE N:BODY ..
-                                    writes the statements that make a store of version 1: of a manifest that is in the folder, with
+                                    writes the statements that make a store of version 1: of a
+                                    manifest that is in the folder, with
                                     worked bodies that it took under their numbers
     $ restore WORDS, $ pack WORDS, $ handover WORDS
-                                    runs that program. Up to an empty line there follow the lines of standard output, and
+                                    runs that program. Up to an empty line there follow the lines of
+                                    standard output, and
     ~ TEXT                          .. in their place: what standard output must have somewhere
     ! TEXT                          .. a line of standard error; `! ...` is any text, but some
     ? STATUS                        .. the status, if it isn't 0
     $ desk_harness                  runs desk_harness. Up to an empty line there follow
-    > LINE                          .. what it is told, with the lines of its answer below. Below `run N` are N lines that it is told, and
+    > LINE                          .. what it is told, with the lines of its answer below. Below
+    `run N` are N lines that it is told, and
                                     then the lines of the one answer
 
-A word or a text in quotes is a JSON string: the empty word is "". A line of standard output or of an answer that is empty, or begins
-like a line of another kind, has a backslash before it; so has a line of standard error after its mark."""
-import json, os, re
-from dataclasses import dataclass, field
+A word or a text in quotes is a JSON string: the empty word is "". A line of standard output or of
+an answer that is empty, or begins like a line of another kind, has a backslash before it; so has a
+line of standard error after its mark."""
+import json
+import os
+import re
+from dataclasses import dataclass
+from dataclasses import field
 
 from support.bodies import BODIES
 from support.harness import Harness
-from support.stage import Wanted, case
-from support.steps import FILES, Bodies, Copy, FirstScript, FirstStore, Folder, Link, Manifest, Parked, Statements, Text, Zeros, step
+from support.stage import Wanted
+from support.stage import case
+from support.steps import FILES
+from support.steps import Bodies
+from support.steps import Copy
+from support.steps import FirstScript
+from support.steps import FirstStore
+from support.steps import Folder
+from support.steps import Link
+from support.steps import Manifest
+from support.steps import Parked
+from support.steps import Statements
+from support.steps import Text
+from support.steps import Zeros
+from support.steps import step
 
 WORD = re.compile(r' *("(?:[^"\\]|\\.)*"|[^\s"]\S*)(?= |$)')
 # The programs that are run on words, and the marks below a run of them.
 RUN, MARKS = ('restore', 'pack', 'handover'), '~!?'
-# The mark below a run of desk_harness, and what stands before a text that begins with a character of the format.
+# The mark below a run of desk_harness, and what stands before a text that begins with a character
+# of the format.
 TOLD, ESCAPE = '> ', '\\'
 
 
@@ -54,7 +79,8 @@ def Command(stage, place, program, line, words, wanted):
 
 @dataclass
 class Exchange:
-    """A line that a desk is told, with the events that it says follow, and the lines of the answer."""
+    """A line that a desk is told, with the events that it says follow, and the lines of the
+    answer."""
     place: str
     told: list
     answer: list = field(default_factory=list)
@@ -145,7 +171,8 @@ def step_of(line):
         case ['sql', path, '=', text] if text.startswith('"'):
             return Statements(plain(path), plain(text))
         case ['store-1', path, '=', manifest, *bodies]:
-            return FirstStore(plain(path), named(manifest), tuple(body_of(it, named) for it in bodies))
+            return FirstStore(plain(path), named(manifest),
+                              tuple(body_of(it, named) for it in bodies))
         case ['parked', path, '=', count]:
             return Parked(plain(path), count_of(count))
         case ['bodies', *names]:
@@ -155,7 +182,8 @@ def step_of(line):
         case ['manifest', path, '=', *names]:
             return Manifest(plain(path), tuple(map(worked, names)))
         case ['first-store', path, '=', manifest, *bodies]:
-            return FirstScript(plain(path), plain(manifest), tuple(body_of(it, worked) for it in bodies))
+            return FirstScript(plain(path), plain(manifest),
+                               tuple(body_of(it, worked) for it in bodies))
     raise Misread(f'this is no line of a transcript: {line}')
 
 
@@ -174,7 +202,8 @@ def wanted_of(lines):
         raise Misread('a run has one status, and one part of standard output or its lines')
     if '...' in errors and errors != ['...']:
         raise Misread('`! ...` stands alone')
-    return Wanted(count_of(statuses[0]) if statuses else 0, text_of(out), None if '...' in errors else text_of(errors), *parts)
+    told = None if '...' in errors else text_of(errors)
+    return Wanted(count_of(statuses[0]) if statuses else 0, text_of(out), told, *parts)
 
 
 def exchanges_of(below):
@@ -203,11 +232,13 @@ def run_of(lines):
     program, _, words = line.removeprefix('$ ').partition(' ')
     if not line.startswith('$ ') or program not in RUN:
         raise Misread(f'this is no run of a program: {line}')
-    return Command(place, program, words, list(map(plain, words_of(words))), wanted_of([it for _, it in below]))
+    return Command(place, program, words, list(map(plain, words_of(words))),
+                   wanted_of([it for _, it in below]))
 
 
 def blocks_of(lines):
-    """Lines, each with its place: those that stand alone, and a run of a program with those below it up to an empty one."""
+    """Lines, each with its place: those that stand alone, and a run of a program with those below
+    it up to an empty one."""
     run = []
     for place, line in lines:
         if run and (not line or line.startswith(('$', '=='))):
@@ -222,7 +253,8 @@ def blocks_of(lines):
 def read_transcripts(path):
     name, cases = os.path.basename(path), []
     with open(path, encoding='utf-8', newline='\n') as file:
-        lines = [(f'{name}:{at}', it) for at, it in enumerate([*file.read().split('\n'), ''], 1) if not it.startswith('#')]
+        numbered = enumerate([*file.read().split('\n'), ''], 1)
+        lines = [(f'{name}:{at}', it) for at, it in numbered if not it.startswith('#')]
     for block in blocks_of(lines):
         place, line = block[0]
         try:
@@ -234,7 +266,8 @@ def read_transcripts(path):
                 raise Misread('it belongs to no case')
         except Misread as error:
             raise Misread(f'{place}: {error}') from None
-    idle = [it.title for it in cases if not any(isinstance(done, (Command, Talk)) for done in it.steps)]
+    idle = [it.title for it in cases
+            if not any(isinstance(done, (Command, Talk)) for done in it.steps)]
     if idle or not cases:
         raise Misread(f'{name}: nothing is run: {", ".join(idle)}')
     return cases

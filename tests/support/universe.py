@@ -1,8 +1,12 @@
-"""A tiny universe: bodies, rows that list them, and events, drawn by a seed. An event is the line by which a desk is told of it."""
+"""A tiny universe: bodies, rows that list them, and events, drawn by a seed. An event is the line
+by which a desk is told of it."""
 import random
+from collections.abc import Callable
 from typing import NamedTuple
 
-from support.bundles import Table, deposit, manifest
+from support.bundles import Table
+from support.bundles import deposit
+from support.bundles import manifest
 from support.formats import TYPES
 
 # The keys of objects, in their order, and names of some that are the same keys.
@@ -17,7 +21,8 @@ NO_ID = 999
 
 
 class Header(NamedTuple):
-    """What a deposit says of itself, or a row of a deposit: ids are numbers, and the place is a day of March 2024 and a type."""
+    """What a deposit says of itself, or a row of a deposit: ids are numbers, and the place is a day
+    of March 2024 and a type."""
     id: int
     day: int
     type: str
@@ -30,7 +35,8 @@ class Header(NamedTuple):
 
 
 class Body(NamedTuple):
-    """A body, its name, and what it says of itself, also if no deposit reads from it. No two are the same."""
+    """A body, its name, and what it says of itself, also if no deposit reads from it. No two are
+    the same."""
     name: str
     header: Header
     bytes: bytes
@@ -43,8 +49,9 @@ class Row(NamedTuple):
 
 
 class History:
-    """What happens to a desk: the rows that are listed first, arrivals that version 1 answered, and the events then, with the files that
-    they name. The store of a history with any such arrival is of version 1, and is migrated after them."""
+    """What happens to a desk: the rows that are listed first, arrivals that version 1 answered, and
+    the events then, with the files that they name. The store of a history with any such arrival is
+    of version 1, and is migrated after them."""
 
     def __init__(self, bodies, first):
         self.files = {it.name: it.bytes for it in bodies} | {'first.csv': manifest_text(first)}
@@ -53,7 +60,9 @@ class History:
     def shown(self):
         """The lines, and the manifests among them."""
         lines = ['create first.csv', *self.early, 'and then', *self.events]
-        return ''.join(f'- {it}\n' + (self.files[it.split()[1]].decode() if it.endswith('.csv') else '') for it in lines)
+        return ''.join(f'- {it}\n' +
+                       (self.files[it.split()[1]].decode() if it.endswith('.csv') else '')
+                       for it in lines)
 
 
 def moment_text(half):
@@ -65,12 +74,19 @@ def manifest_text(rows):
     return manifest((it.header, it.body.bytes) for it in rows)
 
 
-class Chance(random.Random):
-    """Numbers that a seed determines."""
+class Chance:
+    """What is drawn, from numbers that a seed determines, or that another source of them gives."""
 
-    def below(self, count):
+    def __init__(self, number_below: Callable[[int], int]) -> None:
+        self.number_below = number_below
+
+    @classmethod
+    def of_seed(cls, seed: int) -> 'Chance':
+        return cls(random.Random(seed).randrange)
+
+    def below(self, count: int) -> int:
         """A number below a count, or 0."""
-        return self.randrange(count) if count else 0
+        return self.number_below(count) if count else 0
 
     def low_below(self, count):
         """A number below a count, or 0: low ones more often."""
@@ -103,11 +119,12 @@ def draw_full(chance):
 
 
 def draw_beside(chance, before):
-    """A deposit after another one, another revision of it, which may have another previous id, or a Full: as it is before its resend is
-    drawn, and its id anew."""
+    """A deposit after another one, another revision of it, which may have another previous id, or a
+    Full: as it is before its resend is drawn, and its id anew."""
     type = ('FULL', 'INCR', 'INCR', *['DIFF'] * 5)[chance.below(8)]
     if chance.is_one_in(4):
-        return before._replace(prev=NO_ID) if chance.is_one_in(6) and before.prev is not None else before
+        return before._replace(
+            prev=NO_ID) if chance.is_one_in(6) and before.prev is not None else before
     if type == 'FULL':
         return draw_full(chance)
     # Mostly it is one or two days later, else on any day.
@@ -123,8 +140,10 @@ def draw_header(chance, drawn):
     header = draw_beside(chance, before.header)
     # Mostly a resend that no other body has at the place, and sometimes a second id of the place.
     if not chance.is_one_in(12):
-        header = header._replace(resend=sum((it.header.day, it.header.type) == (header.day, header.type) for it in drawn))
-    return header._replace(id=id_of(header.day, header.type) + 100) if chance.is_one_in(8) else header
+        header = header._replace(resend=sum(
+            (it.header.day, it.header.type) == (header.day, header.type) for it in drawn))
+    return header._replace(id=id_of(header.day, header.type) +
+                           100) if chance.is_one_in(8) else header
 
 
 def rows_of(lines, keys, word):
@@ -133,7 +152,8 @@ def rows_of(lines, keys, word):
 
 
 def draw_body(chance, drawn):
-    """A body, from which sometimes no deposit reads. What it counts is its index, so that no two bodies are the same."""
+    """A body, from which sometimes no deposit reads. What it counts is its index, so that no two
+    bodies are the same."""
     index, header = len(drawn), draw_header(chance, drawn)
     deletes = [chance.one_of(KEYS) for _ in range(chance.below(3))]
     # Keys, each with a number that no other row has.
@@ -142,40 +162,51 @@ def draw_body(chance, drawn):
     fault = {0: 1, 1: 5, 2: 9, 3: 10}.get(chance.below(50))
     # (The rows of U9 and of U10 have one field, and an empty key.)
     faulty = {9: 'C1\n', 10: ',r\n'}.get(fault, '')
-    contents = (Table('contact', 'contact', 'parent', ('id', 'clID'), (faulty + rows_of(parents, CONTACTS, 'r')).encode()),
-                Table('domain', 'domain', 'parent', ('name', 'clID'), rows_of(parents, DOMAINS, 'r').encode()),
-                Table('domainNs', 'domain', 'child', ('domainName', 'hostName'), rows_of(children, DOMAINS, 'ns').encode()))
-    gone = [Table(kind, kind, 'parent', fields, ''.join(f'{OTHER_NAMES.get(it, it)}\n' for it in deletes if it in keys).encode())
-            for kind, fields, keys in (('contact', ('id',), CONTACTS), ('domain', ('name',), DOMAINS))]
+    contents = (Table('contact', 'contact', 'parent', ('id', 'clID'),
+                      (faulty + rows_of(parents, CONTACTS, 'r')).encode()),
+                Table('domain', 'domain', 'parent', ('name', 'clID'),
+                      rows_of(parents, DOMAINS, 'r').encode()),
+                Table('domainNs', 'domain', 'child', ('domainName', 'hostName'),
+                      rows_of(children, DOMAINS, 'ns').encode()))
+    gone = [
+        Table(kind, kind, 'parent', fields, ''.join(f'{OTHER_NAMES.get(it, it)}\n' for it in deletes
+                                                    if it in keys).encode())
+        for kind, fields, keys in (('contact', ('id',), CONTACTS), ('domain', ('name',), DOMAINS))
+    ]
     made = deposit(header, contents, gone, {'domain': index})
-    return Body(f'body{index}', header, made[:-1] if fault == 1 else made.replace(b'{"id"', b'["id"', 1) if fault == 5 else made)
+    return Body(
+        f'body{index}', header,
+        made[:-1] if fault == 1 else made.replace(b'{"id"', b'["id"', 1) if fault == 5 else made)
 
 
-def drawn(seed):
-    """The chance of a seed, the bodies that there are, and the rows: those that say of each body what it is, and then some with one of their
-    values changed."""
-    chance, bodies = Chance(seed), []
+def drawn(chance):
+    """The bodies that there are, and the rows: those that say of each body
+    what it is, and then some with one of their values changed."""
+    bodies = []
     for _ in range(BODIES):
         bodies.append(draw_body(chance, bodies))
     rows, wrong = [Row(it.header, it) for it in bodies], []
     for _ in range(WRONG_ROWS):
         it, body = chance.one_of(rows)
-        changes = ({'id': it.id + 200}, {'day': it.day + 1}, {'type': 'FULL'}, {'resend': it.resend + 1}, {'prev': NO_ID}, {'prev': it.id - 10})
+        changes = ({'id': it.id + 200}, {'day': it.day + 1}, {'type': 'FULL'},
+                   {'resend': it.resend + 1}, {'prev': NO_ID}, {'prev': it.id - 10})
         wrong.append(Row(it._replace(**changes[chance.below(6)]), body))
-    return chance, bodies, rows + wrong
+    return bodies, rows + wrong
 
 
 def draw_first(chance, rows):
-    """The row that is listed first: that of a Full, since a row that contradicts itself makes no store."""
+    """The row that is listed first: that of a Full, since a row that contradicts itself makes no
+    store."""
     row = rows[chance.low_below(BODIES)]
     return row if row.header.type == 'FULL' else rows[0]
 
 
 def draw_arrival(chance, bodies, events):
-    """An arrival: any body under any number, or as often the one whose turn it is; or one of those that came, under the same number or
-    another one; or another body under its number."""
+    """An arrival: any body under any number, or as often the one whose turn it is; or one of those
+    that came, under the same number or another one; or another body under its number."""
     number = f'n{chance.below(7) + 1}'
-    body = (chance.low_one_of(bodies) if chance.is_one_in(2) else bodies[sum(it.startswith('comes') for it in events) % BODIES]).name
+    body = (chance.low_one_of(bodies) if chance.is_one_in(2) else
+            bodies[sum(it.startswith('comes') for it in events) % BODIES]).name
     before = (chance.one_of(events) or '').split()
     case = chance.below(9)
     if case < 3 and before[:1] == ['comes']:
@@ -193,14 +224,15 @@ def draw_event(chance, bodies, rows, history, closes):
         return f'as-of {moment_text(None if chance.is_one_in(2) else chance.below(20) + 4)}'
     if case <= 5:
         name = f'rows{len(history.files)}.csv'
-        history.files[name] = manifest_text(dict.fromkeys(chance.low_one_of(rows) for _ in range(chance.below(7) + 1)))
+        history.files[name] = manifest_text(
+            dict.fromkeys(chance.low_one_of(rows) for _ in range(chance.below(7) + 1)))
         return f'amend {name}'
     return draw_arrival(chance, bodies, history.early + history.events)
 
 
-def draw_history(seed, count, closes):
-    """The history of a seed, with so many events, and whether the store is closed now and then."""
-    chance, bodies, rows = drawn(seed)
+def draw_history(chance, count, closes):
+    """A history with so many events, and whether the store is closed now and then."""
+    bodies, rows = drawn(chance)
     history = History(bodies, [draw_first(chance, rows)])
     for _ in range(count):
         history.events.append(draw_event(chance, bodies, rows, history, closes))

@@ -1,14 +1,19 @@
-"""What a desk says of bodies that its manifest lists: those that are refused, in one store, and those that are held, each in a new one."""
-from support.bundles import HEADING, row_of
+"""What a desk says of bodies that its manifest lists: those that are refused, in one store, and
+those that are held, each in a new one."""
+from support.bundles import HEADING
+from support.bundles import row_of
 from support.clients import new_desk
 from support.harness import Harness
-from support.stage import case, compare, text_of
+from support.stage import case
+from support.stage import compare
+from support.stage import text_of
 
 # What a row says of a Full, without the digest of its body.
 F1 = 'F1,FULL,2024-03-03T00:00:00Z,,0'
 # How a desk tells objects.
 R1, C1 = 'registrar R1: registrar id=R1', 'contact C1: contact id=C1 clID=R1'
-DOMAIN_A, DOMAIN_B = (f'domain {it}.example: domain name={it}.example clID=R1 registrant=C1' for it in 'ab')
+DOMAIN_A, DOMAIN_B = (f'domain {it}.example: domain name={it}.example clID=R1 registrant=C1'
+                      for it in 'ab')
 
 
 def desk_over(stage, rows):
@@ -24,7 +29,8 @@ def reply_to(stage, desk, number, body):
 
 
 def check_faults(stage, cases):
-    """Compares the faults of bodies, which one store lists, each at a watermark of its own. A case is a name, a body and a fault."""
+    """Compares the faults of bodies, which one store lists, each at a watermark of its own. A case
+    is a name, a body and a fault."""
     said = [f'B{at},FULL,2024-03-03T00:00:00.{at:09}Z,,0' for at in range(len(cases))]
     with desk_over(stage, [row_of(it, body) for it, (_, body, _) in zip(said, cases)]) as desk:
         for at, (name, body, fault) in enumerate(cases):
@@ -32,8 +38,8 @@ def check_faults(stage, cases):
 
 
 def check_held(stage, name, body, tables, said=F1, orphans=0, counts=()):
-    """Compares what a new store says of a body that is the deposit of its row: the reply, the objects, and the watermark and the counts of
-    its envelope."""
+    """Compares what a new store says of a body that is the deposit of its row: the reply, the
+    objects, and the watermark and the counts of its envelope."""
     listed, _, watermark, _, resend = said.split(',')
     with case(name), desk_over(stage, [row_of(said, body)]) as desk:
         compare('reply', f'A1,,{listed},{resend},new,{orphans}', reply_to(stage, desk, 1, body))
@@ -42,8 +48,10 @@ def check_held(stage, name, body, tables, said=F1, orphans=0, counts=()):
 
 
 def text_of_rows(rows):
-    """A manifest of rows: what comes before the digest of each, and that as a number, or `-` where there is none."""
-    return (HEADING + ''.join(f'{said}\n' if digest == '-' else f'{said},{digest:0>64}\n' for said, digest in rows)).encode()
+    """A manifest of rows: what comes before the digest of each, and that as a number, or `-` where
+    there is none."""
+    return (HEADING + ''.join(f'{said}\n' if digest == '-' else f'{said},{digest:0>64}\n'
+                              for said, digest in rows)).encode()
 
 
 def said_of(stage, text):

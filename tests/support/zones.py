@@ -18,11 +18,12 @@ from typing import NamedTuple
 from support.acceptance import control_spelled
 from support.acceptance import looks_like
 from support.documents import KEYS
+from support.limits import MOST_BYTES
 from support.tables import LETTERS
 from support.tables import Row
 from support.tables import key_of
 
-csv.field_size_limit(1 << 24)
+csv.field_size_limit(MOST_BYTES)
 LABEL = re.compile('[a-z0-9]([a-z0-9-]{0,61}[a-z0-9])?')
 STATUSES = ('clientDeleteProhibited', 'clientHold', 'clientRenewProhibited',
             'clientTransferProhibited', 'clientUpdateProhibited', 'inactive', 'ok',

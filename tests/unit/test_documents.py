@@ -1,10 +1,14 @@
 """The documents: links that lead somewhere, lines that fit, and how many words there are."""
-import pathlib, re, unittest
+import pathlib
+import re
+import unittest
 
 from support.crates import listed
 
 TOP = pathlib.Path(__file__).resolve().parents[2]
-DOCUMENTS = [TOP / 'README.md', TOP / 'CONTRIBUTING.md', TOP / 'CHANGELOG.md', *sorted(TOP.glob('docs/*.md'))]
+DOCUMENTS = [
+    TOP / 'README.md', TOP / 'CONTRIBUTING.md', TOP / 'CHANGELOG.md', *sorted(TOP.glob('docs/*.md'))
+]
 
 # How many codes there are of each letter, and which of them FORMATS.md has in tables.
 CODES = {'E': 3, 'N': 1, 'M': 13, 'A': 5, 'U': 11, 'S': 5, 'V': 7}
@@ -23,8 +27,8 @@ CODE_SPAN = re.compile(r'(?<!`)(`+)(?!`)(?:(?!\n\s*\n).)+?(?<!`)\1(?!`)', re.S)
 LINK = re.compile(r'\[(?:[^\[\]]|\[[^\[\]]*\])*\]\(<?([^\s()<>]+)>?\)|^\[[^\[\]]+\]: *(\S+)', re.M)
 SCHEME = re.compile(r'[a-z][a-z0-9+.-]*:', re.I)
 
-# The crates that a page names, and the files of this checkout: `tests/run.py`. A name in capitals, or a star, stands for others; what is
-# built is not there yet.
+# The crates that a page names, and the files of this checkout: `tests/run.py`. A name in capitals,
+# or a star, stands for others; what is built is not there yet.
 CRATE = re.compile(r'\b(?:esc_\w+|(?:core|desk|store)_(?:tests|lines|harness))\b')
 FILE = re.compile(r'`((?:crates|tests|trials|bench|samples|packaging|docs)/[a-z0-9_./-]+)')
 
@@ -43,8 +47,8 @@ def prose(text):
 
 
 def anchors(text):
-    """The anchors of a document's headings, as GitHub makes them: in lower case, without punctuation, dashes for spaces, and a number after
-    one that was there before."""
+    """The anchors of a document's headings, as GitHub makes them: in lower case, without
+    punctuation, dashes for spaces, and a number after one that was there before."""
     found = {}
     for heading in filter(None, map(HEADING.match, prose(text))):
         title = re.sub(r'\[([^\]]*)\]\([^)]*\)', r'\1', heading[1])
@@ -79,13 +83,18 @@ class Documents(unittest.TestCase):
     maxDiff = None
 
     def test_links_lead_somewhere(self):
-        self.assertEqual([], [f'{document.name}:{number}: {target}: {fault}' for document in DOCUMENTS
-                              for number, target in links(document.read_text('utf-8')) if (fault := fault_of(document, target))])
+        self.assertEqual([], [
+            f'{document.name}:{number}: {target}: {fault}' for document in DOCUMENTS
+            for number, target in links(document.read_text('utf-8'))
+            if (fault := fault_of(document, target))
+        ])
 
     def test_readme_fits(self):
         lines = prose((TOP / 'README.md').read_text('utf-8'))
-        self.assertEqual([], [f'{number}: {len(line)} columns' for number, line in enumerate(lines, 1)
-                              if not line.startswith('|') and len(line) > MOST_COLUMNS])
+        self.assertEqual([], [
+            f'{number}: {len(line)} columns' for number, line in enumerate(lines, 1)
+            if not line.startswith('|') and len(line) > MOST_COLUMNS
+        ])
 
     def test_each_code_has_its_place(self):
         operating = (TOP / 'docs/OPERATING.md').read_text('utf-8').splitlines()
@@ -94,18 +103,26 @@ class Documents(unittest.TestCase):
             for code in (f'{letter}{number}' for number in range(1, most + 1)):
                 with self.subTest(code=code):
                     self.assertEqual(operating.count(f'### {code}'), 1, code)
-                    self.assertEqual(sum(it.startswith(f'| {code} |') for it in formats), int(letter in LISTED), code)
+                    self.assertEqual(sum(it.startswith(f'| {code} |') for it in formats),
+                                     int(letter in LISTED), code)
 
     def test_crates_are_there(self):
-        named = {(it.name, crate) for it in DOCUMENTS for crate in CRATE.findall(it.read_text('utf-8'))}
+        named = {(it.name, crate)
+                 for it in DOCUMENTS for crate in CRATE.findall(it.read_text('utf-8'))}
         self.assertEqual({it for it in named if it[1] not in listed()}, set())
 
     def test_files_are_there(self):
-        named = {(it.name, file) for it in DOCUMENTS for file in FILE.findall(it.read_text('utf-8'))}
-        self.assertEqual({it for it in named if '/out' not in it[1] and not (TOP / it[1]).exists()}, set())
+        named = {(it.name, file)
+                 for it in DOCUMENTS for file in FILE.findall(it.read_text('utf-8'))}
+        self.assertEqual({it
+                          for it in named if '/out' not in it[1] and not (TOP / it[1]).exists()},
+                         set())
 
     def test_words(self):
-        counts = {it.name: len(WORD.findall('\n'.join(prose(it.read_text('utf-8'))))) for it in DOCUMENTS}
+        counts = {
+            it.name: len(WORD.findall('\n'.join(prose(it.read_text('utf-8')))))
+            for it in DOCUMENTS
+        }
         listed = ', '.join(f'{name} {count}' for name, count in counts.items())
         self.assertLessEqual(sum(counts.values()), MOST_WORDS, listed)
 
@@ -114,14 +131,17 @@ class Reading(unittest.TestCase):
     """What the tests above read in a document."""
 
     TEXT = '\n'.join([
-        '# What to do, when', '## `S1` and [S2](#a)', '## Twice', '## Twice', '```sh', '# no heading', '[no](link.md)', '```',
-        'A [link](a.md#b), `[no](code.md)`, [two', '`words`](<c.md>) and [out](https://example.org).', '[word]: d.md'])
+        '# What to do, when', '## `S1` and [S2](#a)', '## Twice', '## Twice', '```sh',
+        '# no heading', '[no](link.md)', '```', 'A [link](a.md#b), `[no](code.md)`, [two',
+        '`words`](<c.md>) and [out](https://example.org).', '[word]: d.md'
+    ])
 
     def test_anchors(self):
         self.assertEqual(anchors(self.TEXT), {'what-to-do-when', 's1-and-s2', 'twice', 'twice-1'})
 
     def test_links(self):
-        self.assertEqual(list(links(self.TEXT)), [(2, '#a'), (9, 'a.md#b'), (10, 'c.md'), (11, 'd.md')])
+        self.assertEqual(list(links(self.TEXT)), [(2, '#a'), (9, 'a.md#b'), (10, 'c.md'),
+                                                  (11, 'd.md')])
 
     def test_faults(self):
         readme = TOP / 'README.md'

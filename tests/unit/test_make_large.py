@@ -45,7 +45,7 @@ class Thick(unittest.TestCase):
             tests = list(tests_of(Seen(desk)))
             self.assertTrue(is_accepted(tests), tests)
         with tempfile.TemporaryDirectory() as folder:
-            (document, ) = os.listdir(made(folder, '--domains', '150', '--xml'))
+            (document,) = os.listdir(made(folder, '--domains', '150', '--xml'))
             found = Unpacked(folder, read(f'{folder}/made/{document}'))
             self.assertEqual((found.status, found.lines), (0, []))
             objects, _ = objects_in(found.out)
@@ -55,7 +55,7 @@ class Thick(unittest.TestCase):
 
     def test_links_lead_to_objects(self):
         with tempfile.TemporaryDirectory() as folder:
-            (document, ) = os.listdir(made(folder, '--domains', '40', '--xml'))
+            (document,) = os.listdir(made(folder, '--domains', '40', '--xml'))
             found = Unpacked(folder, read(f'{folder}/made/{document}'))
             rows = {}
             for name in ('registrar', 'contact', 'host', 'domain', 'domainContacts', 'domainNs'):

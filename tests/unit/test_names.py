@@ -1,10 +1,16 @@
-"""The names of the contracts: what specs/ define publicly is defined in one file, so that a name has one meaning in all crates."""
-import collections, pathlib, re, unittest
+"""The names of the contracts: what specs/ define publicly is defined in one file, so that a name
+has one meaning in all crates."""
+import collections
+import pathlib
+import re
+import unittest
 
 from support import TOP
 
-# `pub use` and `pub mod` define nothing. An operator may stand for what is done in order in one type and in another.
-DEFINITION = re.compile(r'^(?:abbrev |unfoldable )?pub (?!use |mod )(?:record |data )?([^\s(:{\[◌]+) ', re.M)
+# `pub use` and `pub mod` define nothing. An operator may stand for what is done in order in one
+# type and in another.
+DEFINITION = re.compile(
+    r'^(?:abbrev |unfoldable )?pub (?!use |mod )(?:record |data )?([^\s(:{\[◌]+) ', re.M)
 
 
 class Names(unittest.TestCase):

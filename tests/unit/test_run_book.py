@@ -1,5 +1,12 @@
-"""Tests of samples/run_book: which blocks of a page it runs, and that it tells what a page has else than is printed."""
-import contextlib, io, pathlib, runpy, subprocess, tempfile, unittest
+"""Tests of samples/run_book: which blocks of a page it runs, and that it tells what a page has else
+than is printed."""
+import contextlib
+import io
+import pathlib
+import runpy
+import subprocess
+import tempfile
+import unittest
 
 from support import TOP
 
@@ -31,7 +38,8 @@ $$ no command
 
 
 def run_page(text):
-    """Whether a page has what is printed, how many of its blocks are run, and how many are for hands; and what is told."""
+    """Whether a page has what is printed, how many of its blocks are run, and how many are for
+    hands; and what is told."""
     with tempfile.TemporaryDirectory() as folder, contextlib.redirect_stdout(io.StringIO()) as told:
         path = pathlib.Path(folder, 'PAGE.md')
         path.write_text(text)
@@ -43,8 +51,9 @@ class Pages(unittest.TestCase):
         self.assertEqual(run_page(PAGE)[0], (True, 3, 1))
 
     def test_another_output_is_told(self):
-        for text in (PAGE.replace('\ntwo', '\nthree'), PAGE.replace('\n4\n', '\n5\n'), PAGE.replace('touch made', 'touch no/folder'),
-                     PAGE.replace('print', 'raise ')):
+        for text in (PAGE.replace('\ntwo', '\nthree'), PAGE.replace('\n4\n', '\n5\n'),
+                     PAGE.replace('touch made', 'touch no/folder'), PAGE.replace('print',
+                                                                                 'raise ')):
             with self.subTest(text):
                 ends, told = run_page(text)
                 self.assertEqual(ends[0], False)
@@ -54,7 +63,9 @@ class Pages(unittest.TestCase):
         with tempfile.TemporaryDirectory() as folder:
             text, sent = pathlib.Path(folder, 'text'), pathlib.Path(folder, 'sent')
             text.write_text('sent\n')
-            for words, printed in ((('--quick-generate-key', 'KEY', 'default', 'default', 'never'), ''),
-                                   (('--output', sent, '--encrypt', text), ''), (('--decrypt', sent), 'sent\n')):
-                gpg = subprocess.run(['sh', '-c', RUN_BOOK['NO_GPG'], 'gpg', '--batch', *words], check=True, capture_output=True, text=True)
+            for words, printed in ((('--quick-generate-key', 'KEY', 'default', 'default', 'never'),
+                                    ''), (('--output', sent, '--encrypt', text), ''),
+                                   (('--decrypt', sent), 'sent\n')):
+                gpg = subprocess.run(['sh', '-c', RUN_BOOK['NO_GPG'], 'gpg', '--batch', *words],
+                                     check=True, capture_output=True, text=True)
                 self.assertEqual(gpg.stdout, printed)

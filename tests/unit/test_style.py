@@ -1,7 +1,7 @@
 """The style of the Python files, as pyproject.toml has it: columns, imports, and what a linter
-finds. Files that are older than this style are named there."""
+finds; and that functions are short."""
 import ast
-import fnmatch
+import functools
 import importlib.util
 import pathlib
 import re
@@ -16,10 +16,7 @@ from support import TOP
 FOLDERS = ('packaging', 'samples', 'trials', 'tests', 'bench')
 CONFIGURATION = pathlib.Path(TOP, 'pyproject.toml').read_text('utf-8')
 MOST_COLUMNS = int(re.search(r'^line-length = (\d+)$', CONFIGURATION, re.M)[1])
-# The codes of rules that files of these names are not held against.
-IGNORED = {name: re.findall(r'"(\w+)"', codes)
-           for name, codes in re.findall(r'^"(\S+)" = \[(.*)\]$', CONFIGURATION, re.M)}
-COLUMNS, IMPORTS, LINTER = 'E501', 'E401', 'F'
+MOST_LINES = 40  # of a function
 
 
 def is_python(path: pathlib.Path) -> bool:
@@ -34,19 +31,19 @@ def files() -> list[str]:
     return [str(it.relative_to(TOP)) for it in found if it.is_file() and is_python(it)]
 
 
-def held(rule: str) -> list[str]:
-    """The files that are held against a rule."""
-    ignoring = [name for name, codes in IGNORED.items() if any(it.startswith(rule) for it in codes)]
-    return [it for it in files() if not any(fnmatch.fnmatch(it, name) for name in ignoring)]
-
-
 def text_of(path: str) -> str:
     return pathlib.Path(TOP, path).read_text('utf-8')
 
 
-def joined_imports(text: str) -> Iterator[int]:
+@functools.cache
+def nodes_of(path: str) -> list[ast.AST]:
+    """What a file is made of."""
+    return list(ast.walk(ast.parse(text_of(path))))
+
+
+def joined_imports(path: str) -> Iterator[int]:
     """The lines that import several names."""
-    for it in ast.walk(ast.parse(text)):
+    for it in nodes_of(path):
         if isinstance(it, (ast.Import, ast.ImportFrom)) and len(it.names) > 1:
             yield it.lineno
 
@@ -56,24 +53,30 @@ def linter() -> list[str] | None:
     if shutil.which('ruff'):
         return ['ruff', 'check', '--quiet', '--no-cache', '.']
     if importlib.util.find_spec('pyflakes'):
-        return [sys.executable, '-m', 'pyflakes', *held(LINTER)]
-    return ['pyflakes3', *held(LINTER)] if shutil.which('pyflakes3') else None
+        return [sys.executable, '-m', 'pyflakes', *files()]
+    return ['pyflakes3', *files()] if shutil.which('pyflakes3') else None
 
 
 class Style(unittest.TestCase):
     def test_lines_have_their_columns(self):
-        wide = [f'{it}:{number}' for it in held(COLUMNS)
+        wide = [f'{it}:{number}' for it in files()
                 for number, line in enumerate(text_of(it).split('\n'), 1)
                 if len(line) > MOST_COLUMNS]
         self.assertEqual(wide, [])
 
     def test_there_is_one_import_a_line(self):
-        joined = [f'{it}:{line}' for it in held(IMPORTS) for line in joined_imports(text_of(it))]
+        joined = [f'{it}:{line}' for it in files() for line in joined_imports(it)]
         self.assertEqual(joined, [])
 
-    def test_the_files_that_are_older_are_there(self):
-        unknown = [it for it in IGNORED if not fnmatch.filter(files(), it)]
-        self.assertEqual(unknown, [])
+    def test_functions_are_short(self):
+        long = [f'{path}:{it.lineno}' for path in files() for it in nodes_of(path)
+                if isinstance(it, ast.FunctionDef) and it.end_lineno - it.lineno >= MOST_LINES]
+        self.assertEqual(long, [])
+
+    def test_no_state_is_global(self):
+        found = [f'{path}:{it.lineno}' for path in files() for it in nodes_of(path)
+                 if isinstance(it, (ast.Global, ast.Nonlocal))]
+        self.assertEqual(found, [])
 
     def test_a_linter_finds_nothing(self):
         words = linter()

@@ -1,9 +1,20 @@
-"""Tests of how transcripts are read: what each line means, and what is refused as none of the form."""
-import tempfile, unittest
+"""Tests of how transcripts are read: what each line means, and what is refused as none of the
+form."""
+import tempfile
+import unittest
 
-from support.stage import Got, Wanted, faults
-from support.steps import Copy, Manifest, Text
-from support.transcripts import Misread, exchanges_of, read_transcripts, step_of, wanted_of, words_of
+from support.stage import Got
+from support.stage import Wanted
+from support.stage import faults
+from support.steps import Copy
+from support.steps import Manifest
+from support.steps import Text
+from support.transcripts import Misread
+from support.transcripts import exchanges_of
+from support.transcripts import read_transcripts
+from support.transcripts import step_of
+from support.transcripts import wanted_of
+from support.transcripts import words_of
 
 HARNESS = '$ desk_harness'
 
@@ -24,10 +35,12 @@ class Steps(unittest.TestCase):
         self.assertEqual(step_of('file "a b" = "x\\n"'), Text('a b', 'x\n'))
 
     def test_a_manifest_may_have_further_rows(self):
-        self.assertEqual(step_of('manifest m.csv = F1 D2 "row\\n"'), Manifest('m.csv', ('F1', 'D2'), 'row\n'))
+        self.assertEqual(step_of('manifest m.csv = F1 D2 "row\\n"'),
+                         Manifest('m.csv', ('F1', 'D2'), 'row\n'))
 
     def test_a_step_of_another_form_is_refused(self):
-        for line in ('file n1 = no-such-file', 'bodies NoBody', 'zeros z = many', 'copy a b', 'file n1 = "open'):
+        for line in ('file n1 = no-such-file', 'bodies NoBody', 'zeros z = many', 'copy a b',
+                     'file n1 = "open'):
             with self.subTest(line), self.assertRaises(Misread):
                 step_of(line)
 
@@ -41,7 +54,8 @@ class Runs(unittest.TestCase):
         self.assertEqual(wanted_of(['! ...']), Wanted(0, '', None))
 
     def test_marks_that_contradict_each_other_are_refused(self):
-        for lines in (['? 1', '? 2'], ['~ a', 'a'], ['~ a', '~ b'], ['!E1'], ['! ...', '! E1'], ['? one']):
+        for lines in (['? 1', '? 2'], ['~ a', 'a'], ['~ a', '~ b'], ['!E1'], ['! ...',
+                                                                              '! E1'], ['? one']):
             with self.subTest(lines), self.assertRaises(Misread):
                 wanted_of(lines)
 
@@ -62,11 +76,14 @@ class Runs(unittest.TestCase):
 class Exchanges(unittest.TestCase):
     def test_a_line_has_the_answer_below_it(self):
         found = exchanges_of([('1', '> status'), ('2', 'listed 1'), ('3', '> close')])
-        self.assertEqual([(it.told, it.answer) for it in found], [(['status'], ['listed 1']), (['close'], [])])
+        self.assertEqual([(it.told, it.answer) for it in found], [(['status'], ['listed 1']),
+                                                                  (['close'], [])])
 
     def test_a_run_has_its_events_before_the_answer(self):
-        found = exchanges_of([('1', '> run 2'), ('2', '> comes 1 F1'), ('3', '> as-of latest'), ('4', 'answer')])
-        self.assertEqual([(it.told, it.answer) for it in found], [(['run 2', 'comes 1 F1', 'as-of latest'], ['answer'])])
+        found = exchanges_of([('1', '> run 2'), ('2', '> comes 1 F1'), ('3', '> as-of latest'),
+                              ('4', 'answer')])
+        self.assertEqual([(it.told, it.answer) for it in found],
+                         [(['run 2', 'comes 1 F1', 'as-of latest'], ['answer'])])
 
     def test_an_answer_before_the_last_event_is_refused(self):
         for lines in ([], ['answer'], ['> run 2', '> comes 1 F1', 'answer'], ['> run 1']):
@@ -76,13 +93,20 @@ class Exchanges(unittest.TestCase):
 
 class Cases(unittest.TestCase):
     def test_each_case_has_its_title_and_its_steps(self):
-        first, second = read(f'# words\n== One\nfolder a\n$ restore --help\n~ Usage\n\n== Two\n{HARNESS}\n> close\n')
-        self.assertEqual((first.title, len(first.steps), second.title, len(second.steps)), ('One', 2, 'Two', 1))
+        first, second = read(
+            f'# words\n== One\nfolder a\n$ restore --help\n~ Usage\n\n== Two\n{HARNESS}\n> close\n')
+        self.assertEqual((first.title, len(first.steps), second.title, len(second.steps)),
+                         ('One', 2, 'Two', 1))
         self.assertEqual(first.steps[1].wanted, Wanted(0, '', '', 'Usage'))
 
     def test_a_text_of_another_form_is_refused_at_its_place(self):
-        texts = {'folder a\n': ':1: ', '== One\nfolder a\n': 'nothing is run: One', '': 'nothing is run', '== One\n$ other\n': ':2: ',
-                 '== One\n\n$ pack --help\n? one\n': ':3: '}
+        texts = {
+            'folder a\n': ':1: ',
+            '== One\nfolder a\n': 'nothing is run: One',
+            '': 'nothing is run',
+            '== One\n$ other\n': ':2: ',
+            '== One\n\n$ pack --help\n? one\n': ':3: '
+        }
         for text, told in texts.items():
             with self.subTest(text), self.assertRaisesRegex(Misread, told):
                 read(text)

@@ -799,7 +799,7 @@ class Rest(Case):
         return read(os.path.join(found.out, 'rest.xml')), text
 
     def test_its_objects_are_those_of_the_document(self):
-        for objects in ((self.POLICY, ), (self.PARAMS, ), (self.OWN, ),
+        for objects in ((self.POLICY,), (self.PARAMS,), (self.OWN,),
                         (self.OWN, registrar(), self.POLICY, self.PARAMS, self.OWN)):
             for encoding in ('utf-8', 'utf-16', 'latin-1'):
                 data, text = self.kept(*objects, encoding=encoding)
@@ -815,7 +815,7 @@ class Rest(Case):
     def test_prefixes_that_its_texts_name_are_declared(self):
         data, _ = self.kept(self.POLICY)
         spaces = dict(
-            it for _, it in ElementTree.iterparse(io.BytesIO(data), events=('start-ns', )))
+            it for _, it in ElementTree.iterparse(io.BytesIO(data), events=('start-ns',)))
         self.assertEqual({it: spaces.get(it)
                           for it in ('rde', 'rdeDomain')},
                          {it: URIS[it]

@@ -15,12 +15,14 @@ from typing import Iterable
 
 from fuzzing.damage import table_of
 from support.bundles import manifest
+from support.limits import BYTES_A_SECOND
+from support.limits import FIRST_SECONDS
 from support.messages import response
 from support.sockets import HOST
 from support.sockets import received
 from support.stores import copy
 
-FIRST_SECONDS, BYTES_A_SECOND, MARGIN = 10, 65_536, 5
+MARGIN = 5
 READ_FAULT, WRITE_FAULT = b'read fault\n', b'write fault\n'
 HEAD = b'GET /status HTTP/1.1\r\nHost: a\r\n'
 PUT = b'PUT /arrivals/n9 HTTP/1.1\r\nContent-Length: 2000000\r\n\r\n'

@@ -5,6 +5,8 @@ import os
 from fuzzing.damage import damaged
 from support import bundles
 from support import formats
+from support.limits import MOST_LISTED
+from support.limits import MOST_MANIFEST
 from support.stores import copy
 
 HEADING = bundles.HEADING.encode()
@@ -17,7 +19,6 @@ HEADINGS = (b'', b'\n\n' + HEADING, b'"' + HEADING, b'\xef\xbb\xbf' + HEADING, H
             HEADING.replace(b',', b', '), HEADING[7:],
             b'"id","type","watermark","prevId","resend","sha256"\r\n\r\n',
             b'type,id,watermark,prevId,resend,sha256\n')
-MOST = 4_194_304
 
 
 def good_rows(random, many):
@@ -62,8 +63,10 @@ def other_columns(random, rows):
 
 def too_much(random, _rows):
     return random.choice((lambda: HEADING * 4098, lambda: written(good_rows(random, 4097)),
-                          lambda: written(good_rows(random, 4096)), lambda: HEADING + b'\n' * MOST,
-                          lambda: b',' * MOST, lambda: b'\n' * MOST, lambda: b'"' * (MOST + 1)))()
+                          lambda: written(good_rows(random, MOST_LISTED)),
+                          lambda: HEADING + b'\n' * MOST_MANIFEST,
+                          lambda: b',' * MOST_MANIFEST, lambda: b'\n' * MOST_MANIFEST,
+                          lambda: b'"' * (MOST_MANIFEST + 1)))()
 
 
 CHANGES = [

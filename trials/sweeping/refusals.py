@@ -10,6 +10,7 @@ import os
 import subprocess
 import tempfile
 import threading
+from collections.abc import Callable
 
 from support.files import read
 from support.stores import contents
@@ -83,11 +84,9 @@ class Sweep:
         calls = int(read(path))
         os.remove(path)
         numbers = self.numbers(calls, is_whole)
-        # (The processes that judge are forked here, and have the function from then on.)
-        global judging
-        judging = judge
-        with multiprocessing.get_context('fork').Pool(self.given.jobs) as pool:
-            wrong = [(at, it) for at, it in zip(numbers, pool.imap(judge_at, numbers)) if it]
+        judges = multiprocessing.get_context('fork').Pool(self.given.jobs, Judge.begin, (judge,))
+        with judges as pool:
+            wrong = [(at, it) for at, it in zip(numbers, pool.imap(Judge.judge, numbers)) if it]
         self.passed += len(numbers) - len(wrong)
         self.failed += len(wrong)
         print(f'{name}: {len(numbers)} of {calls}, {len(wrong)} failed', flush=True)
@@ -126,9 +125,19 @@ class Sweep:
         self.refuse(f'{name}, {fault}', tell, judge, is_whole)
 
 
-def judge_at(at):
-    """What is wrong with the refusal of this number, as a text, or nothing."""
-    return (found := judging(at)) and repr(found)
+class Judge:
+    """A process that judges refusals. It is forked, and has its function from its beginning."""
+    function: Callable[[int], object]
+
+    @classmethod
+    def begin(cls, function: Callable[[int], object]) -> None:
+        cls.function = staticmethod(function)
+
+    @classmethod
+    def judge(cls, at: int) -> str | None:
+        """What is wrong with the refusal of this number, as a text, or nothing."""
+        found = cls.function(at)
+        return repr(found) if found else None
 
 
 @contextlib.contextmanager

@@ -1,0 +1,101 @@
+"""What `handover` reads: FILE and what its log holds stay as they are, byte for byte, whatever
+command reads them, and each says and makes the same again. Of a log that holds nothing each opening
+writes the header anew."""
+import os
+
+from cases.handovers import BUNDLE
+from cases.handovers import CHECK
+from cases.handovers import PAGE
+from cases.handovers import TABLES
+from cases.handovers import names_in
+from cases.loading import LOAD
+from cases.zones import LINE as ZONE
+from cases.zones import store_of
+from support.bundles import manifest
+from support.files import read
+from support.messages import put
+from support.sockets import response_to
+from support.sockets import serve
+from support.stage import Failed
+from support.stage import Stage
+from support.stage import Wanted
+from support.stage import case
+from support.stores import EMPTY_LOG
+from support.stores import contents
+from support.stores import copy
+from support.stores import run
+from support.zone_registries import draw_registry
+from support.zone_rows import HEADER
+from support.zone_rows import NS
+from support.zone_rows import SOA
+from support.zone_rows import full_of
+
+# Each command that reads a store.
+READERS = (CHECK, PAGE, TABLES, LOAD, f'{LOAD} --sqlite', BUNDLE, ZONE)
+# A registry of which each of them makes something: its seed, how many domains, the share that is
+# odd.
+DRAWN = (1, 30, 0.2)
+
+
+def made(stage: Stage, path: str) -> dict[str, bytes]:
+    """What a command made: a file, the files of a folder, or nothing."""
+    paths = {'': path, **{it: f'{path}/{it}' for it in names_in(stage.at(path))}}
+    return {name: read(stage.at(it)) for name, it in paths.items() if os.path.isfile(stage.at(it))}
+
+
+def held(stage: Stage, store: str) -> tuple[bytes, bytes]:
+    """The bytes of FILE, and those of its log unless that holds nothing."""
+    file, log = contents(stage.at(store))
+    return file, log if len(log) > EMPTY_LOG else b''
+
+
+def check_unchanged(stage: Stage, store: str) -> None:
+    """Runs each reader of a store, and each again."""
+    before, answers = held(stage, store), {}
+    for at, line in enumerate(READERS * 2):
+        words = line.replace('a.db', store).replace(' out', f' out{at}')
+        with case(words):
+            got = stage.end(stage.begin(words.split(), 'handover'))
+            if got.status not in (0, 1) or (got.status == 1) != (line == CHECK):
+                raise Failed(f'status {got.status}: {got.err!r:.400}')
+            if held(stage, store) != before:
+                raise Failed('the store or its log is changed')
+            answer = got, made(stage, f'out{at}')
+            if answers.setdefault(line, answer) != answer:
+                raise Failed('it is another answer')
+
+
+def test_a_store_at_rest(stage: Stage) -> None:
+    """A store that no command uses stays as it is, and its log empty."""
+    store_of(stage, draw_registry(*DRAWN))
+    check_unchanged(stage, 'a.db')
+
+
+def test_after_a_stopped_command(stage: Stage) -> None:
+    """What a stopped command wrote is in the log alone: it is read there, and stays there."""
+    body = full_of(draw_registry(*DRAWN))
+    stage.write('listed.csv', manifest([(HEADER, body)]))
+    stage.write('apex', (SOA + NS).encode())
+    run(stage, 'init --store a.db --manifest listed.csv')
+    child, port = serve(stage, 'a.db', 2)
+    response_to(port, put('1', body))
+    copy(stage.at('a.db'), stage.at('stopped.db'))
+    child.kill()
+    child.wait()
+    if len(read(stage.at('stopped.db-wal'))) <= EMPTY_LOG:
+        raise Failed('nothing is in the log')
+    check_unchanged(stage, 'stopped.db')
+
+
+def test_beside_a_desk(stage: Stage) -> None:
+    """Beside a desk that has the store each reader is `S1`, and changes nothing."""
+    store_of(stage, draw_registry(*DRAWN))
+    child, _ = serve(stage, 'a.db', 1)
+    before, names = contents(stage.at('a.db')), names_in(stage.room.name)
+    for line in READERS:
+        stage.check(line, Wanted(3, '', 'S1\n'), program='handover')
+        if contents(stage.at('a.db')) != before or names_in(stage.room.name) != names:
+            raise Failed(f'{line}: a file is changed or made')
+    child.kill()
+    child.wait()
+    check_unchanged(stage, 'a.db')
