@@ -1,6 +1,5 @@
-#!/usr/bin/env python3
-"""bench/bench.py [PROGRAM ..] [--times N] [--only PART] [--keep FOLDER]: how long the program
-takes, and how much memory.
+"""python3 -m bench.bench [PROGRAM ..] [--times N] [--only PART] [--keep FOLDER]: how long the
+program takes, and how much memory.
 
 Makes a large release (seeded: every run has the same bytes) and lets the program do each task:
 takes of Fulls, of Differentials, of a late revision, of an Incremental and of repeats; each report
@@ -26,15 +25,15 @@ import tempfile
 import time
 from collections.abc import Iterator
 
-from running import Program
-from running import Use
-from running import ask
-from support import TOP
-from support import arguments_of
-from support import built
-from support import program
-from support.files import read
-from support.stores import copy
+from bench.running import Program
+from bench.running import Use
+from bench.running import ask
+from tests.support import TOP
+from tests.support import arguments_of
+from tests.support import built
+from tests.support import program
+from tests.support.files import read
+from tests.support.stores import copy
 
 SIZES = (12_500, 25_000, 50_000, 100_000)
 # The tasks of a part, each with what it used.
@@ -44,8 +43,9 @@ Uses = Iterator[tuple[str, Use]]
 def raw(store: str) -> Use:
     """What the SQL statements of a store's content take alone. They run in a process of its own:
     the peak memory of a run begins with the size of the process that starts it."""
-    words = [sys.executable, f'{TOP}/bench/raw.py', store]
-    return Use(float(subprocess.run(words, check=True, capture_output=True, text=True).stdout))
+    words = [sys.executable, '-m', 'bench.raw', store]
+    ran = subprocess.run(words, check=True, capture_output=True, text=True, cwd=TOP)
+    return Use(float(ran.stdout))
 
 
 def fulls(release: str, restore: Program) -> Uses:
@@ -232,8 +232,8 @@ def main() -> None:
     arguments.add_argument('--only', choices=PARTS, metavar='PART', help=', '.join(PARTS))
     arguments.add_argument('--keep', metavar='FOLDER', help='a folder to work in, which is kept')
     given = arguments.parse_args()
-    work = given.keep or tempfile.mkdtemp(prefix='restore-bench-')
-    subprocess.run([sys.executable, f'{TOP}/bench/release.py', f'{work}/release'], check=True)
+    work = os.path.abspath(given.keep or tempfile.mkdtemp(prefix='restore-bench-'))
+    subprocess.run([sys.executable, '-m', 'bench.release', f'{work}/release'], check=True, cwd=TOP)
     paths = given.programs or [program(built('restore'))]
     programs = [Program(path, f'{work}/{at}') for at, path in enumerate(paths)]
     measure(f'{work}/release', programs, given)

@@ -9,11 +9,10 @@ from collections.abc import Iterable
 from collections.abc import Sequence
 from dataclasses import dataclass
 
-sys.path.append(f'{sys.path[0]}/../tests')
-from support.files import read
-from support.sockets import HOST
-from support.sockets import free_port
-from support.stores import copy
+from tests.support.files import read
+from tests.support.sockets import HOST
+from tests.support.sockets import free_port
+from tests.support.stores import copy
 
 # A request: its method, its path, and its body, if it has one.
 Request = tuple[str, str, bytes | None]

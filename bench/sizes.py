@@ -1,6 +1,5 @@
-#!/usr/bin/env python3
-"""bench/sizes.py [--releases DIR] [--glue] [N ..]: how long a registry of N domains takes, and how
-much memory and disk.
+"""python3 -m bench.sizes [--releases DIR] [--glue] [N ..]: how long a registry of N domains takes,
+and how much memory and disk.
 
 For each N (20,000, 200,000 and 1,000,000 if none is named) it makes a Full of N domains with thick
 data as a series of bundles (samples/make_large, seeded), takes it into a new store, takes it again,
@@ -16,12 +15,12 @@ import sys
 import tempfile
 from collections.abc import Iterator
 
-from running import Program
-from running import Use
-from support import TOP
-from support import arguments_of
-from support import built
-from support import program
+from bench.running import Program
+from bench.running import Use
+from tests.support import TOP
+from tests.support import arguments_of
+from tests.support import built
+from tests.support import program
 
 SIZES = (20_000, 200_000, 1_000_000)
 MEGABYTE = 1_000_000

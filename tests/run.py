@@ -1,18 +1,17 @@
-#!/usr/bin/env python3
-"""python3 tests/run.py [--restore FILE] [--harness FILE] [--pack FILE] [--handover FILE] [NAME ..]:
+"""python3 -m tests.run [--restore FILE] [--harness FILE] [--pack FILE] [--handover FILE] [NAME ..]:
 plays the test cases on the programs `restore`, `desk_harness`, `pack` and `handover`: all of them,
 or those whose file or title has one of these names in it. With --list their titles are printed
 alone: what two trees list says what one has lost.
 
-The programs are those that `rt ci` built in this checkout (crates/restore/out/restore and so on),
-if no others are named.
+It runs from the top of the checkout. The programs are those that `rt ci` built there
+(crates/restore/out/restore and so on), if no others are named.
 
 A case is a folder of files, and command lines with the status, the standard output and the standard
 error that they must give, or lines that desk_harness is told with the answer to each. It is written
 in a transcript, tests/transcripts/FILE.txt (tests/support/transcripts.py has the form), or, where
 code is needed, as a function `test_..` in tests/cases/FILE.py, whose docstring is its title, or in
-the table CASES there, by its title. The tests in tests/unit/, which unittest finds, are of the
-tests' own parts: they need no program.
+the table CASES there, by its title. The tests in tests/unit/, which `python3 -m unittest` finds,
+are of the tests' own parts, and of scripts: they need no program.
 
 The cases are played side by side, RT_JOBS of them or one for each processor. Each that ends
 otherwise is printed as FAILED, with the first line that did, what was wanted and what came. The
@@ -29,13 +28,14 @@ import unittest
 from dataclasses import dataclass
 from typing import Callable
 
-from support import TESTS
-from support import arguments_of
-from support import built
-from support.stage import Failed
-from support.stage import Stage
-from support.transcripts import Misread
-from support.transcripts import read_transcripts
+from tests.support import TESTS
+from tests.support import TOP
+from tests.support import arguments_of
+from tests.support import built
+from tests.support.stage import Failed
+from tests.support.stage import Stage
+from tests.support.transcripts import Misread
+from tests.support.transcripts import read_transcripts
 
 PROGRAMS = ('restore', 'desk_harness', 'pack', 'handover')
 
@@ -67,7 +67,7 @@ def title_of(play):
 
 
 def cases_of_module(name):
-    module = vars(importlib.import_module(f'cases.{name}'))
+    module = vars(importlib.import_module(f'tests.cases.{name}'))
     cases = {title_of(play): play for of, play in module.items() if of.startswith('test_')}
     return [Case(name, title, play) for title, play in (cases | module.get('CASES', {})).items()]
 
@@ -88,7 +88,7 @@ def case_of_test(test):
         ]
         if wrong:
             raise Failed(wrong[0][1])
-    file, _, title = test.id().partition('.')
+    file, _, title = test.id().removeprefix('tests.unit.').partition('.')
     return Case(file, title, play, has_programs=False)
 
 
@@ -99,9 +99,8 @@ def all_cases():
         found += [
             case for it in sorted(pathlib.Path(TESTS).glob(files)) for case in cases_of(it.stem)
         ]
-    return found + [
-        case_of_test(it) for it in tests_in(unittest.defaultTestLoader.discover(f'{TESTS}/unit'))
-    ]
+    units = unittest.defaultTestLoader.discover(f'{TESTS}/unit', top_level_dir=TOP)
+    return found + [case_of_test(it) for it in tests_in(units)]
 
 
 class Player:

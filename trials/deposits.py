@@ -1,11 +1,10 @@
-#!/usr/bin/env python3
-"""trials/deposits.py [--cells N] [--registries N] [--seed N] SCHEMAS: holds what pack_rde writes
-against the schemas of the RFCs, which trials/schemas.py made in the folder SCHEMAS.
+"""python3 -m trials.deposits [--cells N] [--registries N] [--seed N] SCHEMAS: holds what pack_rde
+writes against the schemas of the RFCs, which trials/schemas.py made in the folder SCHEMAS.
 
-Registries at random that are valid (samples/registry.py) are written in both models: xmllint has to
-take each document. Then one cell after the other of a valid registry is given an odd text: what
-pack_rde takes, xmllint has to take too. Where pack_rde alone refuses a text that is counted: dates
-that are not in UTC, for one, or signs that XML can't have, and that are replaced.
+Registries at random that are valid (samples/making/registry.py) are written in both models:
+xmllint has to take each document. Then one cell after the other of a valid registry is given an odd
+text: what pack_rde takes, xmllint has to take too. Where pack_rde alone refuses a text that is
+counted: dates that are not in UTC, for one, or signs that XML can't have, and that are replaced.
 
 It needs xmllint (Debian: libxml2-utils). The last line is `N alike, M refused here alone, wrong K`;
 the status is 0 where K is 0."""
@@ -16,20 +15,17 @@ import pathlib
 import random
 import runpy
 import shutil
-import site
 import subprocess
 import sys
 import tempfile
 
-TOP = pathlib.Path(__file__).resolve().parent.parent
-for its in ('tests', 'samples'):
-    site.addsitedir(str(TOP / its))
-from registry import Registry
-from registry import TABLES
-from support.tables import in_tables
-from support.tables import write_tables
+from samples.making.registry import Registry
+from samples.making.registry import TABLES
+from tests.support import TOP
+from tests.support.tables import in_tables
+from tests.support.tables import write_tables
 
-MAIN = runpy.run_path(str(TOP / 'packaging/pack_rde'), run_name='pack_rde')['main']
+MAIN = runpy.run_path(f'{TOP}/packaging/pack_rde', run_name='pack_rde')['main']
 WORDS = ('--id', 'F1', '--watermark', '2024-03-04T00:00:00Z', '--tld', 'example')
 NUMBERS = {'registrar': 3, 'contact': 12, 'host': 8, 'domain': 24, 'idn': 2, 'nndn': 3}
 # What a cell may be given: the limits of forms, and what is none.

@@ -1,6 +1,5 @@
-#!/usr/bin/python3
-"""trials/events.py [--examples N] [--harness FILE] [NAME ..]: plays random lists of events on
-desks, and looks for one whose answers or state differ from those of the plain model.
+"""python3 -m trials.events [--examples N] [--harness FILE] [NAME ..]: plays random lists of events
+on desks, and looks for one whose answers or state differ from those of the plain model.
 
 The events are those of the tests' lists (tests/cases/lists.py): arrivals, amended manifests,
 moments and closes, one by one or in one call, over new stores or over stores that were migrated.
@@ -9,13 +8,9 @@ these names, and makes one that fails as short as it can, which it then shows. T
 `N lists, N events`."""
 import collections
 import os
-import sys
 from collections.abc import Callable
 from typing import NamedTuple
 
-sys.path.append(f'{sys.path[0]}/../tests')
-from cases.lists import Play
-from cases.lists import draw_migrated
 from hypothesis import HealthCheck
 from hypothesis import given
 from hypothesis import note
@@ -23,14 +18,16 @@ from hypothesis import settings
 from hypothesis.strategies import DataObject
 from hypothesis.strategies import data
 from hypothesis.strategies import integers
-from support import arguments_of
-from support import built
-from support import program
-from support.harness import Harness
-from support.stage import Stage
-from support.universe import Chance
-from support.universe import History
-from support.universe import draw_history
+from tests.cases.lists import Play
+from tests.cases.lists import draw_migrated
+from tests.support import arguments_of
+from tests.support import built
+from tests.support import program
+from tests.support.harness import Harness
+from tests.support.stage import Stage
+from tests.support.universe import Chance
+from tests.support.universe import History
+from tests.support.universe import draw_history
 
 MOST_EVENTS = 24
 

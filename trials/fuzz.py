@@ -1,6 +1,5 @@
-#!/usr/bin/env python3
-"""trials/fuzz.py [--bundles N] [--manifests N] [--requests N] [--seed N]: gives the program damaged
-input, and looks for what is not refused by its name.
+"""python3 -m trials.fuzz [--bundles N] [--manifests N] [--requests N] [--seed N]: gives the program
+damaged input, and looks for what is not refused by its name.
 
 N bundles (2,000) are damaged by `fuzzing/bundles.py` and listed by their SHA-256, so that they are
 read, and taken in folders of 100; N manifests (500) are given to `init`; N requests (2,000) are
@@ -20,15 +19,14 @@ import random
 import sys
 import time
 
-sys.path.append(f'{sys.path[0]}/../tests')
-from fuzzing.arrivals import mutated_release
-from fuzzing.arrivals import over_bundles
-from fuzzing.clients import over_clients
-from fuzzing.desk import over_requests
-from fuzzing.largest import over_largest
-from fuzzing.manifests import over_manifest
-from support import arguments_over_restore
-from trial import Trial
+from tests.support import arguments_over_restore
+from trials.fuzzing.arrivals import mutated_release
+from trials.fuzzing.arrivals import over_bundles
+from trials.fuzzing.clients import over_clients
+from trials.fuzzing.desk import over_requests
+from trials.fuzzing.largest import over_largest
+from trials.fuzzing.manifests import over_manifest
+from trials.trial import Trial
 
 
 def batches(count, most):

@@ -1,6 +1,5 @@
-#!/usr/bin/env python3
-"""trials/page_looks.py [--restore FILE] [--handover FILE] [--large FOLDER] OUT: pictures of what
-`handover page` writes, in the folder OUT.
+"""python3 -m trials.page_looks [--restore FILE] [--handover FILE] [--large FOLDER] OUT: pictures of
+what `handover page` writes, in the folder OUT.
 
 Rebuilds the samples, a release with flaws, one of 4,096 places, and the large release of
 docs/RUNBOOK.md if its folder is named (made by `samples/make_large FOLDER`), writes a page of each,
@@ -19,15 +18,14 @@ import shutil
 import subprocess
 import sys
 
-sys.path.append(f'{sys.path[0]}/../tests')
-from cases.page import many_places
-from support import arguments_of
-from support import built
-from support.files import write
-from support.flawed import draw_release
-from support.releases import SAMPLES
-from support.stage import Stage
-from support.stores import run
+from tests.cases.page import many_places
+from tests.support import arguments_of
+from tests.support import built
+from tests.support.files import write
+from tests.support.flawed import draw_release
+from tests.support.releases import SAMPLES
+from tests.support.stage import Stage
+from tests.support.stores import run
 
 WIDTHS, LOOKS = (400, 1600), ('light', 'dark')
 # How long the browser may take for an answer.

@@ -1,6 +1,5 @@
-#!/usr/bin/env python3
-"""trials/postgres.py [--restore FILE] [--handover FILE]: a PostgreSQL loads what `handover tables
---postgres` writes of the samples and of ten releases with flaws, by the `load.sql` of each.
+"""python3 -m trials.postgres [--restore FILE] [--handover FILE]: a PostgreSQL loads what `handover
+tables --postgres` writes of the samples and of ten releases with flaws, by the `load.sql` of each.
 
 It starts a server of its own (Debian's package `postgresql`), which nothing else reaches. Of each
 release it counts the rows of each table, joins each table of child rows with its parent rows, and
@@ -22,14 +21,13 @@ import subprocess
 import sys
 import tempfile
 
-sys.path.append(f'{sys.path[0]}/../tests')
-from cases.loading import LINKS
-from support import arguments_of
-from support import built
-from support.flawed import some_release
-from support.releases import SAMPLES
-from support.stage import Stage
-from support.stores import run
+from tests.cases.loading import LINKS
+from tests.support import arguments_of
+from tests.support import built
+from tests.support.flawed import some_release
+from tests.support.releases import SAMPLES
+from tests.support.stage import Stage
+from tests.support.stores import run
 
 counts = {'passed': 0, 'failed': 0}
 

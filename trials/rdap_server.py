@@ -1,6 +1,6 @@
-#!/usr/bin/env python3
-"""trials/rdap_server.py [--domains N] [--seed N] [--apache PROGRAM] [--nginx PROGRAM]: serves what
-rdap_files writes by real web servers, with the configurations of docs/RDAP.md, and asks them.
+"""python3 -m trials.rdap_server [--domains N] [--seed N] [--apache PROGRAM] [--nginx PROGRAM]:
+serves what rdap_files writes by real web servers, with the configurations of docs/RDAP.md, and asks
+them.
 
 A registry at random, with odd names and texts, is written as tables and a zone, and these as
 answers. Each server, on loopback, is asked for every answer: by its name, in capitals, with a dot
@@ -20,7 +20,6 @@ import os
 import pathlib
 import re
 import runpy
-import site
 import socket
 import subprocess
 import sys
@@ -30,13 +29,12 @@ from collections.abc import Iterator
 from typing import NamedTuple
 from urllib.parse import quote
 
-TOP = pathlib.Path(__file__).resolve().parent.parent
-site.addsitedir(str(TOP / 'tests'))
-from support.rdap import Expected
-from support.rdap import some_registry
-from support.tables import write_tables
+from tests.support import TOP
+from tests.support.rdap import Expected
+from tests.support.rdap import some_registry
+from tests.support.tables import write_tables
 
-MAIN = runpy.run_path(str(TOP / 'packaging/rdap_files'), run_name='rdap_files')['main']
+MAIN = runpy.run_path(f'{TOP}/packaging/rdap_files', run_name='rdap_files')['main']
 BASE, UPDATED = 'https://rdap.nic.example/', '2024-03-04T00:00:00Z'
 PLACE, MEDIA_TYPE = '/srv/rdap', 'application/rdap+json'
 MODULES, SECONDS = '/usr/lib/apache2/modules', 20
@@ -127,7 +125,7 @@ def wait_for(port: int, ran: subprocess.Popen) -> None:
 
 def configuration(name: str) -> str:
     """The block of the page for a web server."""
-    text = (TOP / 'docs/RDAP.md').read_text('utf-8')
+    text = pathlib.Path(TOP, 'docs/RDAP.md').read_text('utf-8')
     return re.search(rf'^```{name}\n(.*?)^```$', text, re.M | re.S)[1]
 
 

@@ -1,7 +1,6 @@
-#!/usr/bin/python3
-"""trials/series.py [--examples N]: unpacks lists of deposits, each with all earlier ones known, and
-looks for bundles that no manifest lists beside each other, or that make another registry than the
-deposits whole.
+"""python3 -m trials.series [--examples N]: unpacks lists of deposits, each with all earlier ones
+known, and looks for bundles that no manifest lists beside each other, or that make another registry
+than the deposits whole.
 
 A list has a few Fulls, Incrementals, Differentials and resends of small files, of which each is one
 bundle or a series (`unpack_rde --described --part-rows`). Some deposits never arrive. What has to
@@ -9,11 +8,9 @@ come is asked of the plain model of a desk over the whole deposits. Hypothesis (
 python3-hypothesis) draws N lists (1,000), and makes one that fails as short as it can. No built
 program is needed. The last line is `N lists, N deposits, N series, N refused, N chains`."""
 import collections
-import sys
 import tempfile
 from typing import NamedTuple
 
-sys.path.append(f'{sys.path[0]}/../tests')
 from hypothesis import HealthCheck
 from hypothesis import given
 from hypothesis import note
@@ -23,15 +20,15 @@ from hypothesis.strategies import integers
 from hypothesis.strategies import lists
 from hypothesis.strategies import sampled_from
 from hypothesis.strategies import tuples
-from support import arguments_of
-from support.bundles import HEADING
-from support.formats import Refused
-from support.formats import TYPES
-from support.formats import manifest
-from support.formats import moment_text
-from support.model import Desk
-from support.unpacking import Described
-from support.unpacking import row_of
+from tests.support import arguments_of
+from tests.support.bundles import HEADING
+from tests.support.formats import Refused
+from tests.support.formats import TYPES
+from tests.support.formats import manifest
+from tests.support.formats import moment_text
+from tests.support.model import Desk
+from tests.support.unpacking import Described
+from tests.support.unpacking import row_of
 
 DAY = 1_709_424_000_000_000_000
 # Moments of some days, and on one of them nanoseconds apart, where the parts of a resend may be.

@@ -1,6 +1,5 @@
-#!/usr/bin/env python3
-"""trials/stop.py [--kills N] [--disks N] [--seed N]: stops the program in the middle of a take, and
-looks for what a stop may not leave.
+"""python3 -m trials.stop [--kills N] [--disks N] [--seed N]: stops the program in the middle of a
+take, and looks for what a stop may not leave.
 
 A release of a Full and 30 Differentials (seeded) is taken, and the program is killed (SIGKILL) at N
 random moments (100), each time from a fresh store; then it is run on N disks (100) of rising size,
@@ -16,12 +15,11 @@ import subprocess
 import sys
 import time
 
-sys.path.append(f'{sys.path[0]}/../tests')
-from support import TOP
-from support import arguments_over_restore
-from support.stores import copy
-from support.stores import readings
-from trial import Trial
+from tests.support import TOP
+from tests.support import arguments_over_restore
+from tests.support.stores import copy
+from tests.support.stores import readings
+from trials.trial import Trial
 
 SMALL = ('--rows', '3000', '--diffs', '30', '--touch', '60', '--growth', '1000', '--again', '1',
          '--puts', '1', '--chain', '1')
@@ -33,8 +31,8 @@ class Stops(Trial):
     def __enter__(self):
         release, self.folder = self.at('release'), self.at('deposits')
         self.manifest = self.at('release/manifest.csv')
-        subprocess.run([sys.executable, f'{TOP}/bench/release.py', release, *SMALL], check=True,
-                       stdout=subprocess.DEVNULL)
+        subprocess.run([sys.executable, '-m', 'bench.release', release, *SMALL], check=True,
+                       cwd=TOP, stdout=subprocess.DEVNULL)
         shutil.copytree(f'{release}/diffs', self.folder)
         shutil.copy(f'{release}/full/f1', f'{self.folder}/a-f1')
         self.fresh, store = self.at('fresh.db'), self.at('whole.db')

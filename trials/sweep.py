@@ -1,6 +1,5 @@
-#!/usr/bin/env python3
-"""trials/sweep.py [OPTION ..]: refuses one growth of memory after the other, then lets one call of
-the database after the other fail.
+"""python3 -m trials.sweep [OPTION ..]: refuses one growth of memory after the other, then lets one
+call of the database after the other fail.
 
 Looked for is an answer that changes in place of the error.
 
@@ -25,26 +24,25 @@ import os
 import shutil
 import sys
 
-sys.path.append(f'{sys.path[0]}/../tests')
-from support import TOP
-from support import arguments_over_restore
-from support import program
-from support.messages import get
-from support.messages import put
-from sweeping.commands import over_change
-from sweeping.commands import over_commands
-from sweeping.commands import over_init
-from sweeping.commands import over_migrate
-from sweeping.commands import over_reading
-from sweeping.commands import over_take
-from sweeping.harness import over_harness
-from sweeping.refusals import Sweep
-from sweeping.releases import Parts
-from sweeping.releases import Release
-from sweeping.releases import Unkept
-from sweeping.releases import write_four
-from sweeping.responses import over_routes
-from sweeping.responses import over_serve
+from tests.support import TOP
+from tests.support import arguments_over_restore
+from tests.support import program
+from tests.support.messages import get
+from tests.support.messages import put
+from trials.sweeping.commands import over_change
+from trials.sweeping.commands import over_commands
+from trials.sweeping.commands import over_init
+from trials.sweeping.commands import over_migrate
+from trials.sweeping.commands import over_reading
+from trials.sweeping.commands import over_take
+from trials.sweeping.harness import over_harness
+from trials.sweeping.refusals import Sweep
+from trials.sweeping.releases import Parts
+from trials.sweeping.releases import Release
+from trials.sweeping.releases import Unkept
+from trials.sweeping.releases import write_four
+from trials.sweeping.responses import over_routes
+from trials.sweeping.responses import over_serve
 
 arguments = arguments_over_restore(__doc__)
 arguments.add_argument('--some', type=int, default=0,

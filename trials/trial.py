@@ -4,13 +4,13 @@ import os
 import resource
 import tempfile
 
-from support.files import write
-from support.outputs import prepared
-from support.sockets import serve
-from support.stage import Failed
-from support.stage import Stage
-from support.stores import READINGS
-from support.stores import is_whole
+from tests.support.files import write
+from tests.support.outputs import prepared
+from tests.support.sockets import serve
+from tests.support.stage import Failed
+from tests.support.stage import Stage
+from tests.support.stores import READINGS
+from tests.support.stores import is_whole
 
 
 class Trial(Stage):

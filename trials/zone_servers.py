@@ -1,7 +1,6 @@
-#!/usr/bin/env python3
-"""trials/zone_servers.py [--domains N] [--seed N] [--restore PROGRAM --handover PROGRAM]
-trials/zone_servers.py --model [--domains N] [--seed N]
-trials/zone_servers.py --zone FILE --tables DIR --origin TLD --apex FILE --serial N
+"""python3 -m trials.zone_servers [--domains N] [--seed N] [--restore PROGRAM --handover PROGRAM]
+python3 -m trials.zone_servers --model [--domains N] [--seed N]
+python3 -m trials.zone_servers --zone FILE --tables DIR --origin TLD --apex FILE --serial N
 
 Holds a zone against what others make of it: four checkers have to take it, NSD has to load it on
 this machine alone, to hand over just its records, and to answer as the tables say for each domain,
@@ -21,7 +20,6 @@ knot-dnssecutils, ldnsutils. The last line is `N questions, M wrong zones, K fau
 import argparse
 import os
 import random
-import site
 import subprocess
 import sys
 import tempfile
@@ -29,28 +27,26 @@ from collections.abc import Callable
 from collections.abc import Iterator
 from pathlib import Path
 
-TOP = Path(__file__).resolve().parent.parent
-site.addsitedir(str(TOP / 'tests'))
-from support import arguments_of
-from support import built
-from support.bundles import manifest
-from support.checkers import checked
-from support.checkers import missing
-from support.checkers import path_of
-from support.dns import Record
-from support.name_server import Lookup
-from support.name_server import NameServer
-from support.name_server import answer_of
-from support.zone_registries import draw_registry
-from support.zone_rows import HEADER
-from support.zone_rows import NS
-from support.zone_rows import SERIAL
-from support.zone_rows import SOA
-from support.zone_rows import full_of
-from support.zones import Zone
-from support.zones import is_below
-from support.zones import read_tables
-from support.zones import tables_of
+from tests.support import arguments_of
+from tests.support import built
+from tests.support.bundles import manifest
+from tests.support.checkers import checked
+from tests.support.checkers import missing
+from tests.support.checkers import path_of
+from tests.support.dns import Record
+from tests.support.name_server import Lookup
+from tests.support.name_server import NameServer
+from tests.support.name_server import answer_of
+from tests.support.zone_registries import draw_registry
+from tests.support.zone_rows import HEADER
+from tests.support.zone_rows import NS
+from tests.support.zone_rows import SERIAL
+from tests.support.zone_rows import SOA
+from tests.support.zone_rows import full_of
+from tests.support.zones import Zone
+from tests.support.zones import is_below
+from tests.support.zones import read_tables
+from tests.support.zones import tables_of
 
 # The operator's own records of a registry at random.
 APEX = f'{SOA}{NS}example. 3600 IN NS a.nic.example.\na.nic.example. 3600 IN A 192.0.2.53\n'

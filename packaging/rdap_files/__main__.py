@@ -6,15 +6,18 @@ import importlib.util
 import pathlib
 import sys
 
-# What it has of unpack_rde: each module after those that it needs.
-SHARED = ('faults', 'keys', 'limits', 'names', 'progress')
 COMPANIONS = pathlib.Path(__file__).resolve().parent.parent
+# What it has of unpack_rde, each module after those that it needs; and of pack_rde the package that
+# reads tables and collects what is told.
+SHARED = {
+    **{it: f'unpack_rde/{it}.py' for it in ('faults', 'keys', 'limits', 'names', 'progress')},
+    'packing': 'pack_rde/packing/__init__.py'
+}
 
 
 def load(name: str) -> None:
-    """Loads a module of unpack_rde, by its place: others may have such a name."""
-    path = COMPANIONS / 'unpack_rde' / f'{name}.py'
-    spec = importlib.util.spec_from_file_location(name, path)
+    """Loads a module of a companion, by its place: others may have such a name."""
+    spec = importlib.util.spec_from_file_location(name, COMPANIONS / SHARED[name])
     module = sys.modules[name] = importlib.util.module_from_spec(spec)
     spec.loader.exec_module(module)
 
@@ -22,8 +25,6 @@ def load(name: str) -> None:
 for it in SHARED:
     if it not in sys.modules:
         load(it)
-# The package `packing`, which reads tables and collects what is told.
-sys.path.append(str(COMPANIONS / 'pack_rde'))
 main = importlib.import_module('rdap.program').main
 
 if __name__ == '__main__':

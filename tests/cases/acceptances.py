@@ -5,36 +5,36 @@ import hashlib
 import random
 from collections import defaultdict
 
-from support.acceptance import RULES
-from support.acceptance import Seen
-from support.acceptance import beginning
-from support.acceptance import is_accepted
-from support.acceptance import is_bundle
-from support.acceptance import tests_of
-from support.acceptance import word_of
-from support.bundles import Header
-from support.bundles import Table
-from support.bundles import deposit
-from support.bundles import manifest
-from support.files import read
-from support.first_store import first_rows
-from support.first_store import write_store
-from support.flawed import draw_release
-from support.flawed import draw_series
-from support.flawed import misnamed_releases
-from support.formats import KINDS
-from support.formats import read_record
-from support.formats import record
-from support.releases import Release
-from support.releases import numbered
-from support.stage import Failed
-from support.stage import Wanted
-from support.stage import case
-from support.stage import compare
-from support.stage import text_of
-from support.stores import EMPTY_LOG
-from support.stores import change_row
-from support.stores import run
+from tests.support.acceptance import RULES
+from tests.support.acceptance import Seen
+from tests.support.acceptance import beginning
+from tests.support.acceptance import is_accepted
+from tests.support.acceptance import is_bundle
+from tests.support.acceptance import tests_of
+from tests.support.acceptance import word_of
+from tests.support.bundles import Header
+from tests.support.bundles import Table
+from tests.support.bundles import deposit
+from tests.support.bundles import manifest
+from tests.support.files import read
+from tests.support.first_store import first_rows
+from tests.support.first_store import write_store
+from tests.support.flawed import draw_release
+from tests.support.flawed import draw_series
+from tests.support.flawed import misnamed_releases
+from tests.support.formats import KINDS
+from tests.support.formats import read_record
+from tests.support.formats import record
+from tests.support.releases import Release
+from tests.support.releases import numbered
+from tests.support.stage import Failed
+from tests.support.stage import Wanted
+from tests.support.stage import case
+from tests.support.stage import compare
+from tests.support.stage import text_of
+from tests.support.stores import EMPTY_LOG
+from tests.support.stores import change_row
+from tests.support.stores import run
 
 # The seeds of the releases. The last ones are rare: in these the day of the chain's end has a later
 # place, a revision is missing below the one that is used, a place is missing on the day of the end,

@@ -8,22 +8,22 @@ import random
 import subprocess
 import sys
 
-from cases.handovers import clear
-from cases.large_files import WAY
-from support import TOP
-from support.documents import KEYS
-from support.documents import document
-from support.escrow import as_written
-from support.escrow import folders_in
-from support.escrow import some_objects
-from support.escrow import told
-from support.files import read
-from support.formats import KINDS
-from support.stage import Failed
-from support.stage import Wanted
-from support.stage import case
-from support.stage import compare_all
-from support.stores import run
+from tests.cases.handovers import clear
+from tests.cases.large_files import WAY
+from tests.support import TOP
+from tests.support.documents import KEYS
+from tests.support.documents import document
+from tests.support.escrow import as_written
+from tests.support.escrow import folders_in
+from tests.support.escrow import some_objects
+from tests.support.escrow import told
+from tests.support.files import read
+from tests.support.formats import KINDS
+from tests.support.stage import Failed
+from tests.support.stage import Wanted
+from tests.support.stage import case
+from tests.support.stage import compare_all
+from tests.support.stores import run
 
 # Kinds whose keys are told apart without regard to case.
 LOWERED = ('host', 'domain')

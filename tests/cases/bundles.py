@@ -1,16 +1,16 @@
 """Bundles as they arrive: what their sections have, and what is refused for its frame."""
-from support.bundles import CHILD
-from support.bundles import FILES
-from support.bundles import FIRST_LINE
-from support.bundles import FRONT
-from support.bundles import SAMPLE
-from support.bundles import bundle_of
-from support.bundles import envelope_of
-from support.bundles import section
-from support.stage import compare
-from support.verdicts import C1
-from support.verdicts import check_faults
-from support.verdicts import check_held
+from tests.support.bundles import CHILD
+from tests.support.bundles import FILES
+from tests.support.bundles import FIRST_LINE
+from tests.support.bundles import FRONT
+from tests.support.bundles import SAMPLE
+from tests.support.bundles import bundle_of
+from tests.support.bundles import envelope_of
+from tests.support.bundles import section
+from tests.support.stage import compare
+from tests.support.verdicts import C1
+from tests.support.verdicts import check_faults
+from tests.support.verdicts import check_held
 
 # What stands in place of the second section and the end, by the fault. A deposit is read once its
 # frame was: U9 is none of the frame.

@@ -2,21 +2,21 @@
 many rows there may be."""
 from dataclasses import dataclass
 
-from support.bundles import FIRST_LINE
-from support.bundles import bundle_of
-from support.bundles import row_of
-from support.bundles import section
-from support.stage import case
-from support.stage import compare
-from support.stage import text_of
-from support.verdicts import C1
-from support.verdicts import DOMAIN_A
-from support.verdicts import DOMAIN_B
-from support.verdicts import F1
-from support.verdicts import check_faults
-from support.verdicts import check_held
-from support.verdicts import desk_over
-from support.verdicts import reply_to
+from tests.support.bundles import FIRST_LINE
+from tests.support.bundles import bundle_of
+from tests.support.bundles import row_of
+from tests.support.bundles import section
+from tests.support.stage import case
+from tests.support.stage import compare
+from tests.support.stage import text_of
+from tests.support.verdicts import C1
+from tests.support.verdicts import DOMAIN_A
+from tests.support.verdicts import DOMAIN_B
+from tests.support.verdicts import F1
+from tests.support.verdicts import check_faults
+from tests.support.verdicts import check_held
+from tests.support.verdicts import desk_over
+from tests.support.verdicts import reply_to
 
 DECLARED = {
     'contact': '{"name":"contact","kind":"contact","role":"parent","key":"id","fields":["id",'

@@ -3,21 +3,21 @@ bundles."""
 import re
 from dataclasses import dataclass
 
-from support.bodies import bytes_of
-from support.bodies import line_of
-from support.bundles import ENVELOPE
-from support.bundles import SAMPLE
-from support.bundles import bundle_of
-from support.bundles import row_of
-from support.bundles import section
-from support.stage import case
-from support.stage import compare
-from support.verdicts import C1
-from support.verdicts import F1
-from support.verdicts import check_faults
-from support.verdicts import check_held
-from support.verdicts import desk_over
-from support.verdicts import reply_to
+from tests.support.bodies import bytes_of
+from tests.support.bodies import line_of
+from tests.support.bundles import ENVELOPE
+from tests.support.bundles import SAMPLE
+from tests.support.bundles import bundle_of
+from tests.support.bundles import row_of
+from tests.support.bundles import section
+from tests.support.stage import case
+from tests.support.stage import compare
+from tests.support.verdicts import C1
+from tests.support.verdicts import F1
+from tests.support.verdicts import check_faults
+from tests.support.verdicts import check_held
+from tests.support.verdicts import desk_over
+from tests.support.verdicts import reply_to
 
 # A Differential without tables, on the worked body F5.
 COUNTED = (b'{"id":"D6","type":"DIFF","prevId":"F5","resend":2,"watermark":"2024-03-11T00:00:00Z",'

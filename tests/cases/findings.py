@@ -9,20 +9,20 @@ or rows of a table apart from each other."""
 from dataclasses import dataclass
 from dataclasses import field
 
-from support.bundles import Header
-from support.bundles import Table
-from support.bundles import deposit
-from support.bundles import manifest
-from support.clients import Wire
-from support.clients import new_desk
-from support.clients import table
-from support.events import check
-from support.first_store import insertion
-from support.formats import KINDS
-from support.formats import record
-from support.messages import get
-from support.registries import csv_text
-from support.stage import case
+from tests.support.bundles import Header
+from tests.support.bundles import Table
+from tests.support.bundles import deposit
+from tests.support.bundles import manifest
+from tests.support.clients import Wire
+from tests.support.clients import new_desk
+from tests.support.clients import table
+from tests.support.events import check
+from tests.support.first_store import insertion
+from tests.support.formats import KINDS
+from tests.support.formats import record
+from tests.support.messages import get
+from tests.support.registries import csv_text
+from tests.support.stage import case
 
 # The fields that are the keys of parent rows, and of child rows.
 PARENT_KEYS = {

@@ -6,31 +6,31 @@ import shutil
 from collections.abc import Sequence
 from typing import NamedTuple
 
-from cases.handovers import FIRST
-from cases.handovers import HEADERS
-from cases.handovers import children
-from cases.handovers import clear
-from cases.handovers import contacts
-from cases.handovers import names_in
-from cases.handovers import store_of
-from support import formats
-from support.bundles import Table
-from support.bundles import manifest
-from support.files import read
-from support.formats import KINDS
-from support.formats import envelope_in
-from support.formats import record
-from support.outputs import no_longer_files
-from support.reports import report
-from support.stage import Failed
-from support.stage import Stage
-from support.stage import Wanted
-from support.stage import case
-from support.stage import compare
-from support.stage import compare_all
-from support.stores import change_row
-from support.stores import opened
-from support.stores import run
+from tests.cases.handovers import FIRST
+from tests.cases.handovers import HEADERS
+from tests.cases.handovers import children
+from tests.cases.handovers import clear
+from tests.cases.handovers import contacts
+from tests.cases.handovers import names_in
+from tests.cases.handovers import store_of
+from tests.support import formats
+from tests.support.bundles import Table
+from tests.support.bundles import manifest
+from tests.support.files import read
+from tests.support.formats import KINDS
+from tests.support.formats import envelope_in
+from tests.support.formats import record
+from tests.support.outputs import no_longer_files
+from tests.support.reports import report
+from tests.support.stage import Failed
+from tests.support.stage import Stage
+from tests.support.stage import Wanted
+from tests.support.stage import case
+from tests.support.stage import compare
+from tests.support.stage import compare_all
+from tests.support.stores import change_row
+from tests.support.stores import opened
+from tests.support.stores import run
 
 SERIES = 'bundle --store a.db --id G1 --series out'
 # The moment of the last deposit of HEADERS, and how those of the bundles before the last one begin.

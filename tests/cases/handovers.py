@@ -6,39 +6,39 @@ import os
 import shutil
 import sqlite3
 
-from support import formats
-from support.bundles import Header
-from support.bundles import Table
-from support.bundles import deposit
-from support.bundles import manifest
-from support.files import read
-from support.flawed import some_release
-from support.formats import KINDS
-from support.formats import envelope_in
-from support.formats import record
-from support.limits import MOST_BYTES
-from support.outputs import no_longer_files
-from support.outputs import run_held_up
-from support.releases import SAMPLES
-from support.releases import Release
-from support.releases import numbered
-from support.releases import sample
-from support.reports import report
-from support.stage import Failed
-from support.stage import Wanted
-from support.stage import case
-from support.stage import compare
-from support.stage import compare_all
-from support.steps import Copy
-from support.steps import FirstStore
-from support.steps import Folder
-from support.steps import Link
-from support.steps import Statements
-from support.steps import Text
-from support.stores import EMPTY_LOG
-from support.stores import change_row
-from support.stores import opened
-from support.stores import run
+from tests.support import formats
+from tests.support.bundles import Header
+from tests.support.bundles import Table
+from tests.support.bundles import deposit
+from tests.support.bundles import manifest
+from tests.support.files import read
+from tests.support.flawed import some_release
+from tests.support.formats import KINDS
+from tests.support.formats import envelope_in
+from tests.support.formats import record
+from tests.support.limits import MOST_BYTES
+from tests.support.outputs import no_longer_files
+from tests.support.outputs import run_held_up
+from tests.support.releases import SAMPLES
+from tests.support.releases import Release
+from tests.support.releases import numbered
+from tests.support.releases import sample
+from tests.support.reports import report
+from tests.support.stage import Failed
+from tests.support.stage import Wanted
+from tests.support.stage import case
+from tests.support.stage import compare
+from tests.support.stage import compare_all
+from tests.support.steps import Copy
+from tests.support.steps import FirstStore
+from tests.support.steps import Folder
+from tests.support.steps import Link
+from tests.support.steps import Statements
+from tests.support.steps import Text
+from tests.support.stores import EMPTY_LOG
+from tests.support.stores import change_row
+from tests.support.stores import opened
+from tests.support.stores import run
 
 CHECK, BUNDLE = 'check --store a.db', 'bundle --store a.db --id G1 out'
 TABLES, PAGE = 'tables --store a.db out', 'page --store a.db out'

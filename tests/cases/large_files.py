@@ -2,11 +2,11 @@
 too large for one bundle, `pack bundle` names the way."""
 import os
 
-from support.bundles import compact
-from support.formats import MOST_BYTES
-from support.stage import Wanted
-from support.stage import case
-from support.stage import text_of
+from tests.support.bundles import compact
+from tests.support.formats import MOST_BYTES
+from tests.support.stage import Wanted
+from tests.support.stage import case
+from tests.support.stage import text_of
 
 # What is told of files that one bundle doesn't take.
 WAY = 'larger than one bundle: unpack_rde --described makes a series of such files'

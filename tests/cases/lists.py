@@ -7,25 +7,25 @@ answered."""
 import contextlib
 import functools
 
-from support.first_store import first_rows
-from support.first_store import first_script
-from support.formats import Refused
-from support.formats import manifest
-from support.harness import Harness
-from support.model import Desk
-from support.reports import report
-from support.stage import case
-from support.stage import text_of
-from support.telling import answer
-from support.telling import state
-from support.universe import Chance
-from support.universe import History
-from support.universe import draw_arrival
-from support.universe import draw_event
-from support.universe import draw_first
-from support.universe import draw_history
-from support.universe import drawn
-from support.universe import manifest_text
+from tests.support.first_store import first_rows
+from tests.support.first_store import first_script
+from tests.support.formats import Refused
+from tests.support.formats import manifest
+from tests.support.harness import Harness
+from tests.support.model import Desk
+from tests.support.reports import report
+from tests.support.stage import case
+from tests.support.stage import text_of
+from tests.support.telling import answer
+from tests.support.telling import state
+from tests.support.universe import Chance
+from tests.support.universe import History
+from tests.support.universe import draw_arrival
+from tests.support.universe import draw_event
+from tests.support.universe import draw_first
+from tests.support.universe import draw_history
+from tests.support.universe import drawn
+from tests.support.universe import manifest_text
 
 # How many lists a case plays, each of a seed.
 LISTS = 25

@@ -5,35 +5,35 @@ import hashlib
 import os
 import shutil
 
-from cases.handovers import BUNDLE
-from cases.handovers import CHECK
-from cases.handovers import CHILD
-from cases.handovers import FIRST
-from cases.handovers import PAGE
-from cases.handovers import TABLES
-from cases.handovers import check_contents_refused
-from cases.handovers import check_refused
-from cases.handovers import children
-from cases.handovers import contacts
-from cases.handovers import names_in
-from cases.handovers import played_apart
-from cases.handovers import store_of
-from cases.tables import sheets_of
-from support.documents import csv_text
-from support.files import read
-from support.formats import KINDS
-from support.outputs import prepared
-from support.releases import SAMPLES
-from support.releases import Release
-from support.stage import Failed
-from support.stage import Stage
-from support.stage import Wanted
-from support.stage import case
-from support.stage import compare
-from support.stage import compare_all
-from support.stores import EMPTY_LOG
-from support.stores import contents
-from support.stores import run
+from tests.cases.handovers import BUNDLE
+from tests.cases.handovers import CHECK
+from tests.cases.handovers import CHILD
+from tests.cases.handovers import FIRST
+from tests.cases.handovers import PAGE
+from tests.cases.handovers import TABLES
+from tests.cases.handovers import check_contents_refused
+from tests.cases.handovers import check_refused
+from tests.cases.handovers import children
+from tests.cases.handovers import contacts
+from tests.cases.handovers import names_in
+from tests.cases.handovers import played_apart
+from tests.cases.handovers import store_of
+from tests.cases.tables import sheets_of
+from tests.support.documents import csv_text
+from tests.support.files import read
+from tests.support.formats import KINDS
+from tests.support.outputs import prepared
+from tests.support.releases import SAMPLES
+from tests.support.releases import Release
+from tests.support.stage import Failed
+from tests.support.stage import Stage
+from tests.support.stage import Wanted
+from tests.support.stage import case
+from tests.support.stage import compare
+from tests.support.stage import compare_all
+from tests.support.stores import EMPTY_LOG
+from tests.support.stores import contents
+from tests.support.stores import run
 
 LOAD = 'tables --store a.db --postgres out'
 # The kinds that columns name objects of (FORMATS, links).

@@ -8,17 +8,17 @@ import hashlib
 import sqlite3
 from dataclasses import dataclass
 
-from support.bundles import Header
-from support.bundles import Table
-from support.bundles import deposit
-from support.bundles import manifest
-from support.limits import MOST_LISTED
-from support.registries import csv_text
-from support.reports import report
-from support.reports import status
-from support.stage import Wanted
-from support.stage import compare
-from support.stage import text_of
+from tests.support.bundles import Header
+from tests.support.bundles import Table
+from tests.support.bundles import deposit
+from tests.support.bundles import manifest
+from tests.support.limits import MOST_LISTED
+from tests.support.registries import csv_text
+from tests.support.reports import report
+from tests.support.reports import status
+from tests.support.stage import Wanted
+from tests.support.stage import compare
+from tests.support.stage import text_of
 
 # How many deposits are taken by one run: each is synced to the disk, and a run may not take long.
 AT_ONCE = 1_000

@@ -7,27 +7,27 @@ import os
 import sqlite3
 from dataclasses import dataclass
 
-from support import TOP
-from support.bundles import Header
-from support.bundles import Table
-from support.bundles import deposit
-from support.bundles import manifest
-from support.files import read
-from support.first_store import TABLES
-from support.first_store import first_rows
-from support.first_store import write_store
-from support.registries import csv_text
-from support.releases import DEPOSITS
-from support.releases import MISSING
-from support.releases import folder
-from support.releases import sample
-from support.stage import Failed
-from support.stores import contents
-from support.stores import copy
-from support.stores import is_whole
-from support.stores import opened
-from support.stores import readings
-from support.stores import rows
+from tests.support import TOP
+from tests.support.bundles import Header
+from tests.support.bundles import Table
+from tests.support.bundles import deposit
+from tests.support.bundles import manifest
+from tests.support.files import read
+from tests.support.first_store import TABLES
+from tests.support.first_store import first_rows
+from tests.support.first_store import write_store
+from tests.support.registries import csv_text
+from tests.support.releases import DEPOSITS
+from tests.support.releases import MISSING
+from tests.support.releases import folder
+from tests.support.releases import sample
+from tests.support.stage import Failed
+from tests.support.stores import contents
+from tests.support.stores import copy
+from tests.support.stores import is_whole
+from tests.support.stores import opened
+from tests.support.stores import readings
+from tests.support.stores import rows
 
 FIRST = f'{TOP}/samples/first'
 NEW_TABLES = {'parked': 'digest BLOB PRIMARY KEY, body BLOB NOT NULL',

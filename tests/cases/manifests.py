@@ -1,13 +1,13 @@
 """Manifests: the least fault of a text, the values of its rows, how many rows and bytes it may
 have, and the union of two."""
-from support.bundles import HEADING
-from support.clients import new_desk
-from support.harness import Harness
-from support.stage import case
-from support.stage import compare
-from support.stage import text_of
-from support.verdicts import said_of
-from support.verdicts import text_of_rows
+from tests.support.bundles import HEADING
+from tests.support.clients import new_desk
+from tests.support.harness import Harness
+from tests.support.stage import case
+from tests.support.stage import compare
+from tests.support.stage import text_of
+from tests.support.verdicts import said_of
+from tests.support.verdicts import text_of_rows
 
 # Texts that begin with another line than the heading, or with the heading in another form, and what
 # is said of them.

@@ -10,21 +10,21 @@ import socket
 import stat
 import threading
 
-from support import TOP
-from support.files import read
-from support.files import write
-from support.messages import put
-from support.outputs import prepared
-from support.outputs import run_held_up
-from support.reports import report
-from support.sockets import response_to
-from support.sockets import serve
-from support.stage import Failed
-from support.stage import Wanted
-from support.stage import faults
-from support.stores import copy
-from support.stores import is_whole
-from support.stores import rows
+from tests.support import TOP
+from tests.support.files import read
+from tests.support.files import write
+from tests.support.messages import put
+from tests.support.outputs import prepared
+from tests.support.outputs import run_held_up
+from tests.support.reports import report
+from tests.support.sockets import response_to
+from tests.support.sockets import serve
+from tests.support.stage import Failed
+from tests.support.stage import Wanted
+from tests.support.stage import faults
+from tests.support.stores import copy
+from tests.support.stores import is_whole
+from tests.support.stores import rows
 
 MANIFEST, DEPOSITS = f'{TOP}/samples/release/manifest.csv', f'{TOP}/samples/release/deposits'
 HEADING, FIRST = report('receipts'), report('receipts', ['1,n1,A1,,F1,0,new,0'])

@@ -9,35 +9,35 @@ import random
 import re
 import shutil
 
-from cases import bundles
-from cases import deposits
-from cases import envelopes
-from support import formats
-from support.bodies import BODIES
-from support.bodies import bytes_of
-from support.bodies import line_of
-from support.bundles import ENVELOPE
-from support.bundles import FIRST_LINE
-from support.bundles import FRONT
-from support.bundles import HEADING
-from support.bundles import SAMPLE
-from support.bundles import Table
-from support.bundles import bundle_of
-from support.bundles import row_of
-from support.bundles import sealed
-from support.bundles import section
-from support.formats import Refused
-from support.formats import found_in
-from support.formats import moment_text
-from support.limits import MOST_BYTES
-from support.outputs import run_held_up
-from support.reports import report
-from support.stage import Got
-from support.stage import Wanted
-from support.stage import case
-from support.stage import compare_all
-from support.stage import text_of
-from support.stores import copy
+from tests.cases import bundles
+from tests.cases import deposits
+from tests.cases import envelopes
+from tests.support import formats
+from tests.support.bodies import BODIES
+from tests.support.bodies import bytes_of
+from tests.support.bodies import line_of
+from tests.support.bundles import ENVELOPE
+from tests.support.bundles import FIRST_LINE
+from tests.support.bundles import FRONT
+from tests.support.bundles import HEADING
+from tests.support.bundles import SAMPLE
+from tests.support.bundles import Table
+from tests.support.bundles import bundle_of
+from tests.support.bundles import row_of
+from tests.support.bundles import sealed
+from tests.support.bundles import section
+from tests.support.formats import Refused
+from tests.support.formats import found_in
+from tests.support.formats import moment_text
+from tests.support.limits import MOST_BYTES
+from tests.support.outputs import run_held_up
+from tests.support.reports import report
+from tests.support.stage import Got
+from tests.support.stage import Wanted
+from tests.support.stage import case
+from tests.support.stage import compare_all
+from tests.support.stage import text_of
+from tests.support.stores import copy
 
 LINE = 'check --manifest manifest.csv files'
 NAMES = ('F1', 'D2', 'D2Resent', 'D3', 'I4', 'F5', 'D6')

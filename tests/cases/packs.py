@@ -2,23 +2,23 @@
 import json
 import os
 
-from cases.findings import PARENT_KEYS
-from cases.large_files import WAY
-from support.bundles import ENVELOPE
-from support.bundles import FILES
-from support.bundles import FIRST_LINE
-from support.bundles import Header
-from support.bundles import bundle_of
-from support.bundles import compact
-from support.bundles import deposit
-from support.bundles import envelope_of
-from support.bundles import section
-from support.files import read
-from support.limits import MOST_BYTES
-from support.limits import MOST_LISTED
-from support.stage import Wanted
-from support.stage import case
-from support.stage import compare
+from tests.cases.findings import PARENT_KEYS
+from tests.cases.large_files import WAY
+from tests.support.bundles import ENVELOPE
+from tests.support.bundles import FILES
+from tests.support.bundles import FIRST_LINE
+from tests.support.bundles import Header
+from tests.support.bundles import bundle_of
+from tests.support.bundles import compact
+from tests.support.bundles import deposit
+from tests.support.bundles import envelope_of
+from tests.support.bundles import section
+from tests.support.files import read
+from tests.support.limits import MOST_BYTES
+from tests.support.limits import MOST_LISTED
+from tests.support.stage import Wanted
+from tests.support.stage import case
+from tests.support.stage import compare
 
 LINE = 'bundle --envelope envelope.json files out'
 # A row behind two byte order marks.

@@ -6,8 +6,8 @@ import re
 import subprocess
 import sys
 
-from support import TOP
-from support.stage import Failed
+from tests.support import TOP
+from tests.support.stage import Failed
 
 BY_HAND = 'docs/RUNBOOK.md'
 # A page that has commands which are run: with what they print, or as scripts.

@@ -4,30 +4,30 @@ And commands on a store that is not there."""
 import contextlib
 import sqlite3
 
-from cases.handovers import names_in
-from support.files import read
-from support.formats import KINDS
-from support.messages import put
-from support.reports import report
-from support.sockets import response_to
-from support.sockets import serve
-from support.stage import Failed
-from support.stage import Wanted
-from support.stage import case
-from support.stage import compare
-from support.stage import compare_all
-from support.steps import Copy
-from support.steps import FirstStore
-from support.steps import Folder
-from support.steps import Link
-from support.steps import Text
-from support.stores import EMPTY_LOG
-from support.stores import REPORTS
-from support.stores import change_row
-from support.stores import contents
-from support.stores import copy
-from support.stores import is_whole
-from support.stores import run
+from tests.cases.handovers import names_in
+from tests.support.files import read
+from tests.support.formats import KINDS
+from tests.support.messages import put
+from tests.support.reports import report
+from tests.support.sockets import response_to
+from tests.support.sockets import serve
+from tests.support.stage import Failed
+from tests.support.stage import Wanted
+from tests.support.stage import case
+from tests.support.stage import compare
+from tests.support.stage import compare_all
+from tests.support.steps import Copy
+from tests.support.steps import FirstStore
+from tests.support.steps import Folder
+from tests.support.steps import Link
+from tests.support.steps import Text
+from tests.support.stores import EMPTY_LOG
+from tests.support.stores import REPORTS
+from tests.support.stores import change_row
+from tests.support.stores import contents
+from tests.support.stores import copy
+from tests.support.stores import is_whole
+from tests.support.stores import run
 
 # The deposits that come, under the numbers 1 to 4; then a body that no row lists.
 BUNDLES = ('f1', 'd2', 'd3', 'd2-resent')

@@ -2,14 +2,14 @@
 name."""
 import re
 
-from support.messages import get
-from support.sockets import response_to
-from support.sockets import serve
-from support.stage import Stage
-from support.stage import Wanted
-from support.stage import compare
-from support.stage import compare_all
-from support.steps import Copy
+from tests.support.messages import get
+from tests.support.sockets import response_to
+from tests.support.sockets import serve
+from tests.support.stage import Stage
+from tests.support.stage import Wanted
+from tests.support.stage import compare
+from tests.support.stage import compare_all
+from tests.support.steps import Copy
 
 NAMES = re.compile(r'\[possible values: ([a-z, ]+)\]')
 

@@ -3,27 +3,27 @@ of either file. The same request again has the response of a desk that nothing h
 import functools
 from dataclasses import dataclass
 
-from support.clients import AMPLE
-from support.clients import HELD
-from support.clients import READ_FAULT
-from support.clients import RECEIPTS
-from support.clients import SAMPLE
-from support.clients import SERVED
-from support.clients import WRITE_FAULT
-from support.clients import RequestDesk
-from support.clients import Wire
-from support.clients import list_sample
-from support.clients import new_desk
-from support.clients import replied
-from support.clients import table
-from support.events import check
-from support.events import is_open
-from support.events import over_calls
-from support.messages import get
-from support.messages import response
-from support.reports import report
-from support.reports import status
-from support.stage import Failed
+from tests.support.clients import AMPLE
+from tests.support.clients import HELD
+from tests.support.clients import READ_FAULT
+from tests.support.clients import RECEIPTS
+from tests.support.clients import SAMPLE
+from tests.support.clients import SERVED
+from tests.support.clients import WRITE_FAULT
+from tests.support.clients import RequestDesk
+from tests.support.clients import Wire
+from tests.support.clients import list_sample
+from tests.support.clients import new_desk
+from tests.support.clients import replied
+from tests.support.clients import table
+from tests.support.events import check
+from tests.support.events import is_open
+from tests.support.events import over_calls
+from tests.support.messages import get
+from tests.support.messages import response
+from tests.support.reports import report
+from tests.support.reports import status
+from tests.support.stage import Failed
 
 
 @dataclass(frozen=True)

@@ -4,27 +4,27 @@ And what stood before each step of a chain."""
 import contextlib
 from typing import NamedTuple
 
-from support.bodies import bytes_of
-from support.bodies import line_of
-from support.bodies import manifest_text
-from support.clients import Wire
-from support.clients import new_desk
-from support.clients import table
-from support.events import query
-from support.first_store import literal
-from support.first_store import undo_of
-from support.formats import record
-from support.messages import get
-from support.model import Desk
-from support.stage import case
-from support.stage import compare
-from support.stage import text_of
-from support.telling import answer
-from support.telling import rows_told
-from support.telling import state
-from support.verdicts import DOMAIN_A
-from support.verdicts import DOMAIN_B
-from support.verdicts import R1
+from tests.support.bodies import bytes_of
+from tests.support.bodies import line_of
+from tests.support.bodies import manifest_text
+from tests.support.clients import Wire
+from tests.support.clients import new_desk
+from tests.support.clients import table
+from tests.support.events import query
+from tests.support.first_store import literal
+from tests.support.first_store import undo_of
+from tests.support.formats import record
+from tests.support.messages import get
+from tests.support.model import Desk
+from tests.support.stage import case
+from tests.support.stage import compare
+from tests.support.stage import text_of
+from tests.support.telling import answer
+from tests.support.telling import rows_told
+from tests.support.telling import state
+from tests.support.verdicts import DOMAIN_A
+from tests.support.verdicts import DOMAIN_B
+from tests.support.verdicts import R1
 
 B = ('F1', 'D2', 'D3', 'I4', 'F5', 'D6', 'D2Resent')
 # Manifests with a revision whose base isn't listed, and with two types at one watermark, not in the

@@ -9,24 +9,24 @@ import os
 import random
 import shutil
 
-from cases.handovers import clear
-from support.bundles import HEADING
-from support.escrow import folders_in
-from support.files import read
-from support.formats import KINDS
-from support.formats import read_record
-from support.model import Desk
-from support.reports import report
-from support.stage import Failed
-from support.stage import Wanted
-from support.stage import case
-from support.stage import compare
-from support.stage import compare_all
-from support.stores import run
-from support.telling import state
-from support.unpacking import Described
-from support.unpacking import bundle_in
-from support.unpacking import row_of
+from tests.cases.handovers import clear
+from tests.support.bundles import HEADING
+from tests.support.escrow import folders_in
+from tests.support.files import read
+from tests.support.formats import KINDS
+from tests.support.formats import read_record
+from tests.support.model import Desk
+from tests.support.reports import report
+from tests.support.stage import Failed
+from tests.support.stage import Wanted
+from tests.support.stage import case
+from tests.support.stage import compare
+from tests.support.stage import compare_all
+from tests.support.stores import run
+from tests.support.telling import state
+from tests.support.unpacking import Described
+from tests.support.unpacking import bundle_in
+from tests.support.unpacking import row_of
 
 FULL = {'id': 'F1', 'type': 'FULL', 'watermark': '2024-03-03T00:00:00Z'}
 INCR = {'id': 'I2', 'type': 'INCR', 'watermark': '2024-03-04T00:00:00Z'}

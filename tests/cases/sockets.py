@@ -6,41 +6,41 @@ import resource
 import socket
 import time
 
-from support.bundles import SAMPLE as CONTACT
-from support.clients import BAD_REQUEST
-from support.clients import NOT_FOUND
-from support.clients import PUT_ONLY
-from support.clients import RECEIPTS
-from support.clients import replied
-from support.clients import table
-from support.first_store import insertion
-from support.formats import KINDS
-from support.formats import record
-from support.limits import BYTES_A_SECOND
-from support.limits import FIRST_SECONDS
-from support.limits import MOST_PARKED
-from support.messages import get
-from support.messages import put
-from support.messages import response
-from support.outputs import check_narrow
-from support.outputs import run_narrow
-from support.reports import report
-from support.sockets import HOST
-from support.sockets import PORTS
-from support.sockets import breaks_off
-from support.sockets import call
-from support.sockets import free_port
-from support.sockets import is_taken
-from support.sockets import received
-from support.sockets import serve
-from support.sockets import serving
-from support.stage import SECONDS
-from support.stage import Failed
-from support.stage import Wanted
-from support.stage import difference
-from support.steps import Copy
-from support.steps import Parked
-from support.steps import Statements
+from tests.support.bundles import SAMPLE as CONTACT
+from tests.support.clients import BAD_REQUEST
+from tests.support.clients import NOT_FOUND
+from tests.support.clients import PUT_ONLY
+from tests.support.clients import RECEIPTS
+from tests.support.clients import replied
+from tests.support.clients import table
+from tests.support.first_store import insertion
+from tests.support.formats import KINDS
+from tests.support.formats import record
+from tests.support.limits import BYTES_A_SECOND
+from tests.support.limits import FIRST_SECONDS
+from tests.support.limits import MOST_PARKED
+from tests.support.messages import get
+from tests.support.messages import put
+from tests.support.messages import response
+from tests.support.outputs import check_narrow
+from tests.support.outputs import run_narrow
+from tests.support.reports import report
+from tests.support.sockets import HOST
+from tests.support.sockets import PORTS
+from tests.support.sockets import breaks_off
+from tests.support.sockets import call
+from tests.support.sockets import free_port
+from tests.support.sockets import is_taken
+from tests.support.sockets import received
+from tests.support.sockets import serve
+from tests.support.sockets import serving
+from tests.support.stage import SECONDS
+from tests.support.stage import Failed
+from tests.support.stage import Wanted
+from tests.support.stage import difference
+from tests.support.steps import Copy
+from tests.support.steps import Parked
+from tests.support.steps import Statements
 
 CONTACTS = 'contact,C1,contact,0,id,C1', 'contact,C1,contact,0,clID,R1'
 # Requests, and their responses.

@@ -8,30 +8,30 @@ and in the end the desk has what one has that nothing happened to."""
 import functools
 from typing import NamedTuple
 
-from support.bodies import bytes_of
-from support.bodies import manifest_text
-from support.events import FILES
-from support.events import FIRST_TABLES
-from support.events import NOON
-from support.events import check
-from support.events import compare_any
-from support.events import is_answered
-from support.events import over_calls
-from support.events import put_files
-from support.events import put_first_store
-from support.events import query
-from support.events import run
-from support.events import run_line
-from support.first_store import first_rows
-from support.first_store import undo_of
-from support.harness import Harness
-from support.model import Desk
-from support.stage import Failed
-from support.stage import case
-from support.stage import text_of
-from support.telling import answer
-from support.telling import rows_told
-from support.telling import state
+from tests.support.bodies import bytes_of
+from tests.support.bodies import manifest_text
+from tests.support.events import FILES
+from tests.support.events import FIRST_TABLES
+from tests.support.events import NOON
+from tests.support.events import check
+from tests.support.events import compare_any
+from tests.support.events import is_answered
+from tests.support.events import over_calls
+from tests.support.events import put_files
+from tests.support.events import put_first_store
+from tests.support.events import query
+from tests.support.events import run
+from tests.support.events import run_line
+from tests.support.first_store import first_rows
+from tests.support.first_store import undo_of
+from tests.support.harness import Harness
+from tests.support.model import Desk
+from tests.support.stage import Failed
+from tests.support.stage import case
+from tests.support.stage import text_of
+from tests.support.telling import answer
+from tests.support.telling import rows_told
+from tests.support.telling import state
 
 def check_stops(stage, file, play):
     """Plays with a stop after no call of a file, after one, and so on up to a run that nothing

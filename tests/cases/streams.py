@@ -2,13 +2,13 @@
 taken."""
 import os
 
-from support.outputs import check_narrow
-from support.outputs import run_held_up
-from support.reports import report
-from support.stage import Wanted
-from support.steps import Copy
-from support.steps import Folder
-from support.steps import Text
+from tests.support.outputs import check_narrow
+from tests.support.outputs import run_held_up
+from tests.support.reports import report
+from tests.support.stage import Wanted
+from tests.support.steps import Copy
+from tests.support.steps import Folder
+from tests.support.steps import Text
 
 HEADING, FIRST = report('receipts'), report('receipts', ['1,n1,A1,,F1,0,new,0'])
 INIT = 'init --store a.db --manifest listed.csv'

@@ -12,41 +12,41 @@ import shutil
 import signal
 import sqlite3
 
-from cases.handovers import CHILD
-from cases.handovers import FIRST
-from cases.handovers import HOST
-from cases.handovers import SHORT
-from cases.handovers import TABLES
-from cases.handovers import check_contents_refused
-from cases.handovers import check_refused
-from cases.handovers import children
-from cases.handovers import contacts
-from cases.handovers import hosts
-from cases.handovers import names_in
-from cases.handovers import played_apart
-from cases.handovers import release_of
-from cases.handovers import store_of
-from support.bundles import HEADING
-from support.bundles import Table
-from support.documents import csv_text
-from support.files import read
-from support.flawed import some_release
-from support.formats import KINDS
-from support.formats import read_record
-from support.formats import record
-from support.outputs import no_longer_files
-from support.outputs import prepared
-from support.releases import SAMPLES
-from support.releases import Release
-from support.stage import Failed
-from support.stage import case
-from support.stage import compare
-from support.stage import compare_all
-from support.steps import Folder
-from support.steps import Link
-from support.steps import Text
-from support.stores import change_row
-from support.stores import run
+from tests.cases.handovers import CHILD
+from tests.cases.handovers import FIRST
+from tests.cases.handovers import HOST
+from tests.cases.handovers import SHORT
+from tests.cases.handovers import TABLES
+from tests.cases.handovers import check_contents_refused
+from tests.cases.handovers import check_refused
+from tests.cases.handovers import children
+from tests.cases.handovers import contacts
+from tests.cases.handovers import hosts
+from tests.cases.handovers import names_in
+from tests.cases.handovers import played_apart
+from tests.cases.handovers import release_of
+from tests.cases.handovers import store_of
+from tests.support.bundles import HEADING
+from tests.support.bundles import Table
+from tests.support.documents import csv_text
+from tests.support.files import read
+from tests.support.flawed import some_release
+from tests.support.formats import KINDS
+from tests.support.formats import read_record
+from tests.support.formats import record
+from tests.support.outputs import no_longer_files
+from tests.support.outputs import prepared
+from tests.support.releases import SAMPLES
+from tests.support.releases import Release
+from tests.support.stage import Failed
+from tests.support.stage import case
+from tests.support.stage import compare
+from tests.support.stage import compare_all
+from tests.support.steps import Folder
+from tests.support.steps import Link
+from tests.support.steps import Text
+from tests.support.stores import change_row
+from tests.support.stores import run
 
 BOTH = 'tables --store a.db --sqlite out'
 

@@ -1,12 +1,12 @@
 """What `pack check` and `pack manifest` tell of bundles that name different TLDs."""
 import json
 
-from support.bundles import HEADING
-from support.bundles import bundle_of
-from support.bundles import row_of
-from support.stage import Wanted
-from support.stage import case
-from support.stage import text_of
+from tests.support.bundles import HEADING
+from tests.support.bundles import bundle_of
+from tests.support.bundles import row_of
+from tests.support.stage import Wanted
+from tests.support.stage import case
+from tests.support.stage import text_of
 
 # What the envelopes of bundles have as `tld`, as a JSON text or nothing, and for each one that is
 # told: its number from 1, its TLD as it is printed, and the number and the TLD of the other.

@@ -3,32 +3,32 @@ command reads them, and each says and makes the same again. Of a log that holds 
 writes the header anew."""
 import os
 
-from cases.handovers import BUNDLE
-from cases.handovers import CHECK
-from cases.handovers import PAGE
-from cases.handovers import TABLES
-from cases.handovers import names_in
-from cases.loading import LOAD
-from cases.zones import LINE as ZONE
-from cases.zones import store_of
-from support.bundles import manifest
-from support.files import read
-from support.messages import put
-from support.sockets import response_to
-from support.sockets import serve
-from support.stage import Failed
-from support.stage import Stage
-from support.stage import Wanted
-from support.stage import case
-from support.stores import EMPTY_LOG
-from support.stores import contents
-from support.stores import copy
-from support.stores import run
-from support.zone_registries import draw_registry
-from support.zone_rows import HEADER
-from support.zone_rows import NS
-from support.zone_rows import SOA
-from support.zone_rows import full_of
+from tests.cases.handovers import BUNDLE
+from tests.cases.handovers import CHECK
+from tests.cases.handovers import PAGE
+from tests.cases.handovers import TABLES
+from tests.cases.handovers import names_in
+from tests.cases.loading import LOAD
+from tests.cases.zones import LINE as ZONE
+from tests.cases.zones import store_of
+from tests.support.bundles import manifest
+from tests.support.files import read
+from tests.support.messages import put
+from tests.support.sockets import response_to
+from tests.support.sockets import serve
+from tests.support.stage import Failed
+from tests.support.stage import Stage
+from tests.support.stage import Wanted
+from tests.support.stage import case
+from tests.support.stores import EMPTY_LOG
+from tests.support.stores import contents
+from tests.support.stores import copy
+from tests.support.stores import run
+from tests.support.zone_registries import draw_registry
+from tests.support.zone_rows import HEADER
+from tests.support.zone_rows import NS
+from tests.support.zone_rows import SOA
+from tests.support.zone_rows import full_of
 
 # Each command that reads a store.
 READERS = (CHECK, PAGE, TABLES, LOAD, f'{LOAD} --sqlite', BUNDLE, ZONE)

@@ -1,19 +1,19 @@
 """How long the desk waits for slow clients, by a clock that moves only while one is waited for."""
-from support.clients import GET_ONLY
-from support.clients import LENGTH_REQUIRED
-from support.clients import NOT_FOUND
-from support.clients import READ_FAULT
-from support.clients import SERVED
-from support.clients import TOO_LARGE
-from support.clients import WRITE_FAULT
-from support.clients import Wire
-from support.clients import list_sample
-from support.clients import new_desk
-from support.clients import replied
-from support.messages import get
-from support.messages import put
-from support.messages import response
-from support.reports import status
+from tests.support.clients import GET_ONLY
+from tests.support.clients import LENGTH_REQUIRED
+from tests.support.clients import NOT_FOUND
+from tests.support.clients import READ_FAULT
+from tests.support.clients import SERVED
+from tests.support.clients import TOO_LARGE
+from tests.support.clients import WRITE_FAULT
+from tests.support.clients import Wire
+from tests.support.clients import list_sample
+from tests.support.clients import new_desk
+from tests.support.clients import replied
+from tests.support.messages import get
+from tests.support.messages import put
+from tests.support.messages import response
+from tests.support.reports import status
 
 GET_STATUS, LONG_REQUEST = get('/status'), put('n1', 700_000 * b'x')
 # The responses to them, where nothing else has come.

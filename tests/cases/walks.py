@@ -1,18 +1,18 @@
 """Exports of many objects: by a reader of the store, and by a desk on a port, which walks page by
 page, 256 objects in each."""
-from support.bodies import BODIES
-from support.bodies import SHAPES
-from support.bodies import bytes_of
-from support.bodies import manifest_text
-from support.clients import table
-from support.formats import KINDS
-from support.messages import get
-from support.reports import report
-from support.sockets import response_to
-from support.sockets import serve
-from support.stage import Failed
-from support.stage import Wanted
-from support.stores import run
+from tests.support.bodies import BODIES
+from tests.support.bodies import SHAPES
+from tests.support.bodies import bytes_of
+from tests.support.bodies import manifest_text
+from tests.support.clients import table
+from tests.support.formats import KINDS
+from tests.support.messages import get
+from tests.support.reports import report
+from tests.support.sockets import response_to
+from tests.support.sockets import serve
+from tests.support.stage import Failed
+from tests.support.stage import Wanted
+from tests.support.stores import run
 
 
 def lines_of(table, row):

@@ -12,17 +12,17 @@ from collections.abc import Iterator
 from typing import Any
 from typing import NamedTuple
 
-from support import TOP
-from support.files import read
-from support.files import write
-from support.outputs import prepared
-from support.stage import Failed
-from support.stage import Stage
-from support.stage import case
-from support.stage import compare
-from support.stores import change_row
-from support.stores import copy
-from support.stores import run
+from tests.support import TOP
+from tests.support.files import read
+from tests.support.files import write
+from tests.support.outputs import prepared
+from tests.support.stage import Failed
+from tests.support.stage import Stage
+from tests.support.stage import case
+from tests.support.stage import compare
+from tests.support.stores import change_row
+from tests.support.stores import copy
+from tests.support.stores import run
 
 MANIFEST = f'{TOP}/samples/first/manifest.csv'
 DEPOSITS = f'{TOP}/samples/first/deposits'

@@ -1,20 +1,20 @@
 """The words of manifests and envelopes: the moments of watermarks, places, types, kinds and ids."""
-from support.bundles import bundle_of
-from support.bundles import envelope_of
-from support.bundles import row_of
-from support.bundles import section
-from support.clients import new_desk
-from support.formats import KINDS
-from support.reports import report
-from support.stage import Wanted
-from support.stage import case
-from support.stage import compare
-from support.stage import text_of
-from support.verdicts import F1
-from support.verdicts import desk_over
-from support.verdicts import reply_to
-from support.verdicts import said_of
-from support.verdicts import text_of_rows
+from tests.support.bundles import bundle_of
+from tests.support.bundles import envelope_of
+from tests.support.bundles import row_of
+from tests.support.bundles import section
+from tests.support.clients import new_desk
+from tests.support.formats import KINDS
+from tests.support.reports import report
+from tests.support.stage import Wanted
+from tests.support.stage import case
+from tests.support.stage import compare
+from tests.support.stage import text_of
+from tests.support.verdicts import F1
+from tests.support.verdicts import desk_over
+from tests.support.verdicts import reply_to
+from tests.support.verdicts import said_of
+from tests.support.verdicts import text_of_rows
 
 # Texts, and the nanoseconds of their moments.
 MOMENTS = (

@@ -8,18 +8,18 @@ import time
 import unicodedata
 from collections import Counter
 
-from support import formats
-from support.formats import KINDS
-from support.formats import Deposit
-from support.formats import Refused
-from support.formats import counts_in
-from support.formats import envelope_in
-from support.formats import found_in
-from support.formats import in_order
-from support.formats import moment_text
-from support.formats import place_text
-from support.formats import read_record
-from support.model import made_by
+from tests.support import formats
+from tests.support.formats import KINDS
+from tests.support.formats import Deposit
+from tests.support.formats import Refused
+from tests.support.formats import counts_in
+from tests.support.formats import envelope_in
+from tests.support.formats import found_in
+from tests.support.formats import in_order
+from tests.support.formats import moment_text
+from tests.support.formats import place_text
+from tests.support.formats import read_record
+from tests.support.model import made_by
 
 # The fields by which links, statuses and dates go: the kind of the objects, the child table, or
 # none where the parent rows have it, and the field.

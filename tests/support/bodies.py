@@ -6,12 +6,12 @@ import functools
 from dataclasses import dataclass
 from dataclasses import field
 
-from support.bundles import HEADING
-from support.bundles import SAMPLE
-from support.bundles import Header
-from support.bundles import Table
-from support.bundles import deposit
-from support.bundles import row_of
+from tests.support.bundles import HEADING
+from tests.support.bundles import SAMPLE
+from tests.support.bundles import Header
+from tests.support.bundles import Table
+from tests.support.bundles import deposit
+from tests.support.bundles import row_of
 
 # The kind, the role and the fields of each table. The first field is the key.
 SHAPES = {

@@ -4,14 +4,14 @@ import contextlib
 import json
 from dataclasses import dataclass
 
-from support.bundles import SAMPLE as CONTACT
-from support.events import check
-from support.events import compare_any
-from support.harness import Harness
-from support.messages import put
-from support.messages import response
-from support.reports import report
-from support.steps import Copy
+from tests.support.bundles import SAMPLE as CONTACT
+from tests.support.events import check
+from tests.support.events import compare_any
+from tests.support.harness import Harness
+from tests.support.messages import put
+from tests.support.messages import response
+from tests.support.reports import report
+from tests.support.steps import Copy
 
 # More bytes than a request or a response has.
 AMPLE = 10_000_000

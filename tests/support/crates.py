@@ -2,7 +2,7 @@
 import functools
 import pathlib
 
-from support import TOP
+from tests.support import TOP
 
 
 @functools.cache

@@ -1,6 +1,6 @@
 """An agent's bare CSV files at random, with their description, in each form that `pack bundle`
 takes."""
-from support.formats import KINDS
+from tests.support.formats import KINDS
 
 # What cells are made of: what means something in CSV, and letters of several alphabets.
 CELLS = (

@@ -5,7 +5,7 @@ import json
 import os
 import string
 
-from support.documents import KEYS
+from tests.support.documents import KEYS
 
 # What texts are made of: letters of several alphabets, and what means something in XML or CSV.
 LETTERS = string.ascii_letters + 'éßЖ漢\U0001f600'

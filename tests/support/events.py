@@ -2,12 +2,12 @@
 fail, and those that ask over HTTP."""
 import re
 
-from support.stage import Failed
-from support.stage import case
-from support.stage import difference
-from support.steps import Bodies
-from support.steps import FirstScript
-from support.steps import Manifest
+from tests.support.stage import Failed
+from tests.support.stage import case
+from tests.support.stage import difference
+from tests.support.steps import Bodies
+from tests.support.steps import FirstScript
+from tests.support.steps import Manifest
 
 # By what the rows are in order of each table that stores of both versions have.
 FIRST_TABLES = {

@@ -5,10 +5,10 @@ import contextlib
 import random
 import sqlite3
 
-from support.formats import KINDS
-from support.formats import TYPES
-from support.formats import found_in
-from support.model import Desk
+from tests.support.formats import KINDS
+from tests.support.formats import TYPES
+from tests.support.formats import found_in
+from tests.support.model import Desk
 
 TABLES = {
     'info': 'id INTEGER PRIMARY KEY CHECK (id = 1), version INTEGER NOT NULL',

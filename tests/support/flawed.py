@@ -3,18 +3,18 @@ name otherwise. Their deposits may be series, which `unpack_rde --described` mak
 import random
 import tempfile
 
-from support.acceptance import GUIDES
-from support.bundles import Header
-from support.bundles import manifest
-from support.formats import KINDS
-from support.formats import envelope_in
-from support.formats import sections
-from support.registries import TABLES
-from support.registries import Registry
-from support.registries import deposit
-from support.releases import Release
-from support.releases import numbered
-from support.unpacking import Described
+from tests.support.acceptance import GUIDES
+from tests.support.bundles import Header
+from tests.support.bundles import manifest
+from tests.support.formats import KINDS
+from tests.support.formats import envelope_in
+from tests.support.formats import sections
+from tests.support.registries import TABLES
+from tests.support.registries import Registry
+from tests.support.registries import deposit
+from tests.support.releases import Release
+from tests.support.releases import numbered
+from tests.support.unpacking import Described
 
 # How many objects of each kind there are at first.
 FIRST = {'registrar': 2, 'idn': 1, 'contact': 3, 'host': 3, 'domain': 4, 'nndn': 1}

@@ -13,18 +13,18 @@ import struct
 from datetime import datetime
 from datetime import timedelta
 
-from support.limits import MOST_BYTES
-from support.limits import MOST_COUNT
-from support.limits import MOST_FIELDS
-from support.limits import MOST_ID
-from support.limits import MOST_KEY
-from support.limits import MOST_LISTED
-from support.limits import MOST_MANIFEST
-from support.limits import MOST_RESEND
-from support.limits import MOST_ROWS
-from support.limits import MOST_SECTION
-from support.limits import MOST_SECTIONS
-from support.limits import MOST_TABLE
+from tests.support.limits import MOST_BYTES
+from tests.support.limits import MOST_COUNT
+from tests.support.limits import MOST_FIELDS
+from tests.support.limits import MOST_ID
+from tests.support.limits import MOST_KEY
+from tests.support.limits import MOST_LISTED
+from tests.support.limits import MOST_MANIFEST
+from tests.support.limits import MOST_RESEND
+from tests.support.limits import MOST_ROWS
+from tests.support.limits import MOST_SECTION
+from tests.support.limits import MOST_SECTIONS
+from tests.support.limits import MOST_TABLE
 
 KINDS = ('registrar', 'contact', 'host', 'domain', 'idn', 'nndn')
 TYPES = ('DIFF', 'INCR', 'FULL')

@@ -2,10 +2,10 @@
 which lines there are)."""
 import subprocess
 
-from support.stage import Failed
-from support.stage import Got
-from support.stage import difference
-from support.stage import pieces_of
+from tests.support.stage import Failed
+from tests.support.stage import Got
+from tests.support.stage import difference
+from tests.support.stage import pieces_of
 
 
 class Harness:

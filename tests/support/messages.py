@@ -2,12 +2,12 @@
 docs/DEFINITIONS.md."""
 import re
 
-from support.formats import KINDS
-from support.formats import is_id
-from support.formats import is_utf8
-from support.limits import MOST_BYTES
-from support.limits import MOST_HEAD
-from support.limits import MOST_LINES
+from tests.support.formats import KINDS
+from tests.support.formats import is_id
+from tests.support.formats import is_utf8
+from tests.support.limits import MOST_BYTES
+from tests.support.limits import MOST_HEAD
+from tests.support.limits import MOST_LINES
 
 TOKEN = rb"[A-Za-z0-9!#$%&'*+\-.^_`|~]+"
 HEAD = re.compile(rb'(?:\r?\n)*(' + TOKEN + rb') ([\x21-\x7e\x80-\xff]+) HTTP/1\.[01]\r?\n((?:' +

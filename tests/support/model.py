@@ -5,13 +5,13 @@ chain and the objects."""
 import hashlib
 from typing import NamedTuple
 
-from support import formats
-from support.formats import Refused
-from support.formats import found_in
-from support.formats import in_order
-from support.formats import moment_text
-from support.formats import place_text
-from support.formats import verdict
+from tests.support import formats
+from tests.support.formats import Refused
+from tests.support.formats import found_in
+from tests.support.formats import in_order
+from tests.support.formats import moment_text
+from tests.support.formats import place_text
+from tests.support.formats import verdict
 
 
 class Receipt(NamedTuple):

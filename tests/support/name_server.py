@@ -5,12 +5,12 @@ import time
 from collections.abc import Iterable
 from typing import NamedTuple
 
-from support.checkers import path_of
-from support.dns import Message
-from support.dns import Record
-from support.dns import Server
-from support.zones import is_below
-from support.zones import parents_of
+from tests.support.checkers import path_of
+from tests.support.dns import Message
+from tests.support.dns import Record
+from tests.support.dns import Server
+from tests.support.zones import is_below
+from tests.support.zones import parents_of
 
 SECONDS = 20
 CONFIGURATION = """server:

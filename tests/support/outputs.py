@@ -9,10 +9,10 @@ import tempfile
 import termios
 import time
 
-from support.stage import SECONDS
-from support.stage import Failed
-from support.stage import Got
-from support.stage import pieces_of
+from tests.support.stage import SECONDS
+from tests.support.stage import Failed
+from tests.support.stage import Got
+from tests.support.stage import pieces_of
 
 # The most bytes of a file, where a file is standard output. No store here is so long.
 MOST_BYTES = 2**26

@@ -4,7 +4,7 @@ from dataclasses import dataclass
 from dataclasses import field
 from html.parser import HTMLParser
 
-from support.stage import Failed
+from tests.support.stage import Failed
 
 # Elements that have nothing inside, and no end.
 VOID = ('meta',)

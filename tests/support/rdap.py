@@ -7,16 +7,12 @@ import random
 import re
 import socket
 import sqlite3
-import sys
 from collections.abc import Iterator
 from typing import Any
 
-from support import TOP
-from support.tables import Row
-from support.tables import key_of
-
-sys.path.append(f'{TOP}/samples')
-from thick import Thick
+from samples.making.thick import Thick
+from tests.support.tables import Row
+from tests.support.tables import key_of
 
 # RFC 8056, section 2.
 STATUSES = """addPeriod = add period; autoRenewPeriod = auto renew period;

@@ -1,15 +1,10 @@
-"""Deposits of registries that look real (samples/registry.py): Fulls, and Differentials or
+"""Deposits of registries that look real (samples/making/registry.py): Fulls, and Differentials or
 Incrementals on these."""
-import sys
-
-from support import TOP
-
-sys.path.append(f'{TOP}/samples')
-from registry import NUMBERS
-from registry import TABLES
-from registry import Registry
-from registry import csv_text
-from registry import deposit
+from samples.making.registry import NUMBERS
+from samples.making.registry import TABLES
+from samples.making.registry import Registry
+from samples.making.registry import csv_text
+from samples.making.registry import deposit
 
 # What others have of the samples by this module, and its own.
 __all__ = ('NUMBERS', 'TABLES', 'Registry', 'csv_text', 'delta', 'deposit', 'full')

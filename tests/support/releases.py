@@ -3,11 +3,11 @@ them."""
 import os
 from typing import NamedTuple
 
-from support import TOP
-from support.files import read
-from support.formats import moment
-from support.model import Desk
-from support.stores import run
+from tests.support import TOP
+from tests.support.files import read
+from tests.support.formats import moment
+from tests.support.model import Desk
+from tests.support.stores import run
 
 
 class Release(NamedTuple):

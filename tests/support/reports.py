@@ -1,6 +1,6 @@
 """The reports of a desk, as a program prints them and a desk responds with them."""
-from support.formats import KINDS
-from support.stage import text_of
+from tests.support.formats import KINDS
+from tests.support.stage import text_of
 
 HEADINGS = {
     'receipts': 'receipt,number,verdict,fault,id,resend,copy,orphans',

@@ -2,9 +2,9 @@
 import socket
 import struct
 
-from support.stage import SECONDS
-from support.stage import Failed
-from support.stage import pieces_of
+from tests.support.stage import SECONDS
+from tests.support.stage import Failed
+from tests.support.stage import pieces_of
 
 HOST = '127.0.0.1'
 # How many ports are tried.

@@ -7,7 +7,7 @@ import subprocess
 import tempfile
 from dataclasses import dataclass
 
-from support.files import write
+from tests.support.files import write
 
 # How long a run may take.
 SECONDS = 60

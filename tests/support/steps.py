@@ -8,13 +8,13 @@ import sqlite3
 from dataclasses import field
 from dataclasses import make_dataclass
 
-from support import TESTS
-from support.bodies import bytes_of
-from support.bodies import manifest_text
-from support.files import read
-from support.first_store import first_rows
-from support.first_store import first_script
-from support.first_store import write_store
+from tests.support import TESTS
+from tests.support.bodies import bytes_of
+from tests.support.bodies import manifest_text
+from tests.support.files import read
+from tests.support.first_store import first_rows
+from tests.support.first_store import first_script
+from tests.support.first_store import write_store
 
 FILES = f'{TESTS}/files'
 

@@ -5,9 +5,9 @@ import os
 import shutil
 import sqlite3
 
-from support.files import read
-from support.formats import KINDS
-from support.stage import Failed
+from tests.support.files import read
+from tests.support.formats import KINDS
+from tests.support.stage import Failed
 
 # The length of a log in which nothing is.
 EMPTY_LOG = 41

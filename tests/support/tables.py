@@ -5,9 +5,9 @@ import csv
 import io
 import os
 
-from support.documents import KEYS
-from support.escrow import description_in
-from support.escrow import rows_in
+from tests.support.documents import KEYS
+from tests.support.escrow import description_in
+from tests.support.escrow import rows_in
 
 LETTERS = {ord(it): it.lower() for it in 'ABCDEFGHIJKLMNOPQRSTUVWXYZ'}
 LOWERED = ('domain', 'host')

@@ -1,17 +1,17 @@
 """What a desk answers and tells, by the plain model."""
 from typing import NamedTuple
 
-from support.files import read
-from support.formats import KINDS
-from support.formats import Refused
-from support.formats import found_in
-from support.formats import moment
-from support.formats import moment_text
-from support.formats import place_text
-from support.formats import read_record
-from support.reports import report
-from support.reports import status
-from support.stage import text_of
+from tests.support.files import read
+from tests.support.formats import KINDS
+from tests.support.formats import Refused
+from tests.support.formats import found_in
+from tests.support.formats import moment
+from tests.support.formats import moment_text
+from tests.support.formats import place_text
+from tests.support.formats import read_record
+from tests.support.reports import report
+from tests.support.reports import status
+from tests.support.stage import text_of
 
 
 class Answer(NamedTuple):

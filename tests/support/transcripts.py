@@ -40,23 +40,23 @@ import re
 from dataclasses import dataclass
 from dataclasses import field
 
-from support.bodies import BODIES
-from support.harness import Harness
-from support.stage import Wanted
-from support.stage import case
-from support.steps import FILES
-from support.steps import Bodies
-from support.steps import Copy
-from support.steps import FirstScript
-from support.steps import FirstStore
-from support.steps import Folder
-from support.steps import Link
-from support.steps import Manifest
-from support.steps import Parked
-from support.steps import Statements
-from support.steps import Text
-from support.steps import Zeros
-from support.steps import step
+from tests.support.bodies import BODIES
+from tests.support.harness import Harness
+from tests.support.stage import Wanted
+from tests.support.stage import case
+from tests.support.steps import FILES
+from tests.support.steps import Bodies
+from tests.support.steps import Copy
+from tests.support.steps import FirstScript
+from tests.support.steps import FirstStore
+from tests.support.steps import Folder
+from tests.support.steps import Link
+from tests.support.steps import Manifest
+from tests.support.steps import Parked
+from tests.support.steps import Statements
+from tests.support.steps import Text
+from tests.support.steps import Zeros
+from tests.support.steps import step
 
 WORD = re.compile(r' *("(?:[^"\\]|\\.)*"|[^\s"]\S*)(?= |$)')
 # The programs that are run on words, and the marks below a run of them.

@@ -4,10 +4,10 @@ import random
 from collections.abc import Callable
 from typing import NamedTuple
 
-from support.bundles import Table
-from support.bundles import deposit
-from support.bundles import manifest
-from support.formats import TYPES
+from tests.support.bundles import Table
+from tests.support.bundles import deposit
+from tests.support.bundles import manifest
+from tests.support.formats import TYPES
 
 # The keys of objects, in their order, and names of some that are the same keys.
 CONTACTS, DOMAINS = ('C1', 'C2'), ('a.example', 'b.example', 'c.example')

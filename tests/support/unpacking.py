@@ -9,20 +9,20 @@ import runpy
 import tempfile
 import unittest
 
-from support import TOP
-from support.bundles import HEADING
-from support.bundles import sealed
-from support.documents import URIS
-from support.documents import csv_text
-from support.documents import element
-from support.escrow import description_in
-from support.escrow import folders_in
-from support.escrow import rows_in
-from support.files import read
-from support.files import write
-from support.formats import envelope_in
-from support.formats import records
-from support.model import Desk
+from tests.support import TOP
+from tests.support.bundles import HEADING
+from tests.support.bundles import sealed
+from tests.support.documents import URIS
+from tests.support.documents import csv_text
+from tests.support.documents import element
+from tests.support.escrow import description_in
+from tests.support.escrow import folders_in
+from tests.support.escrow import rows_in
+from tests.support.files import read
+from tests.support.files import write
+from tests.support.formats import envelope_in
+from tests.support.formats import records
+from tests.support.model import Desk
 
 PROGRAM = f'{TOP}/packaging/unpack_rde'
 # The program is run in this process: to start another one for each case would take ten times as

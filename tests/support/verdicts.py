@@ -1,12 +1,12 @@
 """What a desk says of bodies that its manifest lists: those that are refused, in one store, and
 those that are held, each in a new one."""
-from support.bundles import HEADING
-from support.bundles import row_of
-from support.clients import new_desk
-from support.harness import Harness
-from support.stage import case
-from support.stage import compare
-from support.stage import text_of
+from tests.support.bundles import HEADING
+from tests.support.bundles import row_of
+from tests.support.clients import new_desk
+from tests.support.harness import Harness
+from tests.support.stage import case
+from tests.support.stage import compare
+from tests.support.stage import text_of
 
 # What a row says of a Full, without the digest of its body.
 F1 = 'F1,FULL,2024-03-03T00:00:00Z,,0'

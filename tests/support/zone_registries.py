@@ -3,17 +3,17 @@ what a zone leaves out, tells or takes from elsewhere."""
 import random
 from collections.abc import Sequence
 
-from support.tables import Row
-from support.zone_rows import OUT1
-from support.zone_rows import OUT2
-from support.zone_rows import RFC_DS
-from support.zone_rows import ZERO
-from support.zone_rows import attribute
-from support.zone_rows import domain
-from support.zone_rows import ds
-from support.zone_rows import host
-from support.zone_rows import key
-from support.zone_rows import mirrored
+from tests.support.tables import Row
+from tests.support.zone_rows import OUT1
+from tests.support.zone_rows import OUT2
+from tests.support.zone_rows import RFC_DS
+from tests.support.zone_rows import ZERO
+from tests.support.zone_rows import attribute
+from tests.support.zone_rows import domain
+from tests.support.zone_rows import ds
+from tests.support.zone_rows import host
+from tests.support.zone_rows import key
+from tests.support.zone_rows import mirrored
 
 OUTSIDE = (OUT1, OUT2, 'NS3.Provider.NET', 'dns.other.org.', 'a.b.c.test')
 ODD_LABELS = ('_srv{}', '*', '-a{}', 'a{}-', 'a..b{}', '$ttl{}', '@', 'a;b{}', 'bücher{}', 'A{}')

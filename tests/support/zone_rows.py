@@ -6,16 +6,16 @@ zone's lines those stand here that come after the operator's and those of `0.exa
 is `a.example. 3600 IN NS b.net.`"""
 from typing import NamedTuple
 
-from support.bundles import Header
-from support.bundles import Table
-from support.bundles import deposit
-from support.documents import KEYS
-from support.documents import csv_text
-from support.tables import Row
-from support.zones import DS_FIELDS
-from support.zones import KEY_FIELDS
-from support.zones import Settings
-from support.zones import tables_of
+from tests.support.bundles import Header
+from tests.support.bundles import Table
+from tests.support.bundles import deposit
+from tests.support.documents import KEYS
+from tests.support.documents import csv_text
+from tests.support.tables import Row
+from tests.support.zones import DS_FIELDS
+from tests.support.zones import KEY_FIELDS
+from tests.support.zones import Settings
+from tests.support.zones import tables_of
 
 SERIAL = 2024030401
 OUT1, OUT2 = 'ns1.provider.net', 'ns2.provider.net'

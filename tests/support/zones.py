@@ -15,13 +15,13 @@ from functools import cache
 from functools import cached_property
 from typing import NamedTuple
 
-from support.acceptance import control_spelled
-from support.acceptance import looks_like
-from support.documents import KEYS
-from support.limits import MOST_BYTES
-from support.tables import LETTERS
-from support.tables import Row
-from support.tables import key_of
+from tests.support.acceptance import control_spelled
+from tests.support.acceptance import looks_like
+from tests.support.documents import KEYS
+from tests.support.limits import MOST_BYTES
+from tests.support.tables import LETTERS
+from tests.support.tables import Row
+from tests.support.tables import key_of
 
 csv.field_size_limit(MOST_BYTES)
 LABEL = re.compile('[a-z0-9]([a-z0-9-]{0,61}[a-z0-9])?')

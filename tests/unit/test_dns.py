@@ -2,12 +2,12 @@
 import struct
 import unittest
 
-from support.dns import Record
-from support.dns import message_of
-from support.dns import name_at
-from support.dns import name_bytes
-from support.name_server import Lookup
-from support.name_server import answer_of
+from tests.support.dns import Record
+from tests.support.dns import message_of
+from tests.support.dns import name_at
+from tests.support.dns import name_bytes
+from tests.support.name_server import Lookup
+from tests.support.name_server import answer_of
 
 
 class Names(unittest.TestCase):

@@ -3,7 +3,7 @@ import pathlib
 import re
 import unittest
 
-from support.crates import listed
+from tests.support.crates import listed
 
 TOP = pathlib.Path(__file__).resolve().parents[2]
 DOCUMENTS = [

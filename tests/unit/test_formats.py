@@ -2,12 +2,12 @@
 to say."""
 import unittest
 
-from support import formats
-from support.bundles import ENVELOPE
-from support.bundles import SAMPLE
-from support.bundles import bundle_of
-from support.bundles import section
-from support.formats import ENVELOPE as PLACE
+from tests.support import formats
+from tests.support.bundles import ENVELOPE
+from tests.support.bundles import SAMPLE
+from tests.support.bundles import bundle_of
+from tests.support.bundles import section
+from tests.support.formats import ENVELOPE as PLACE
 
 
 class Formats(unittest.TestCase):

@@ -7,11 +7,11 @@ import unittest
 from collections.abc import Iterator
 from typing import NamedTuple
 
-from support import TOP
-from support import limits
+from tests.support import TOP
+from tests.support import limits
 
 # The modules of Python that have the figures, each all that it needs.
-UNPACK, THICK = 'packaging/unpack_rde/limits.py', 'samples/thick.py'
+UNPACK, THICK = 'packaging/unpack_rde/limits.py', 'samples/making/thick.py'
 MODELS = 'tests/support/limits.py'
 # A definition in specs/, and one in src/.
 SPEC = r'^{} = ([0-9_]+)$'

@@ -7,16 +7,16 @@ import tempfile
 import unittest
 from collections import Counter
 
-from support import TOP
-from support.acceptance import Seen
-from support.acceptance import is_accepted
-from support.acceptance import tests_of
-from support.escrow import objects_in
-from support.files import read
-from support.formats import deposit
-from support.formats import read_record
-from support.model import Desk
-from support.unpacking import Unpacked
+from tests.support import TOP
+from tests.support.acceptance import Seen
+from tests.support.acceptance import is_accepted
+from tests.support.acceptance import tests_of
+from tests.support.escrow import objects_in
+from tests.support.files import read
+from tests.support.formats import deposit
+from tests.support.formats import read_record
+from tests.support.model import Desk
+from tests.support.unpacking import Unpacked
 
 
 def made(folder: str, *words: str) -> str:

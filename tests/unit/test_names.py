@@ -5,7 +5,7 @@ import pathlib
 import re
 import unittest
 
-from support import TOP
+from tests.support import TOP
 
 # `pub use` and `pub mod` define nothing. An operator may stand for what is done in order in one
 # type and in another.

@@ -14,21 +14,21 @@ import unittest
 import xml.etree.ElementTree as trees
 from typing import NamedTuple
 
-from support import TOP
-from support.bundles import sealed
-from support.documents import KEYS
-from support.documents import URIS
-from support.escrow import description_in
-from support.escrow import some_objects
-from support.files import read
-from support.files import write
-from support.registries import Registry
-from support.registries import TABLES
-from support.registries import deposit
-from support.tables import in_tables
-from support.tables import quoted_rows
-from support.tables import tables_in
-from support.tables import write_tables
+from tests.support import TOP
+from tests.support.bundles import sealed
+from tests.support.documents import KEYS
+from tests.support.documents import URIS
+from tests.support.escrow import description_in
+from tests.support.escrow import some_objects
+from tests.support.files import read
+from tests.support.files import write
+from tests.support.registries import Registry
+from tests.support.registries import TABLES
+from tests.support.registries import deposit
+from tests.support.tables import in_tables
+from tests.support.tables import quoted_rows
+from tests.support.tables import tables_in
+from tests.support.tables import write_tables
 
 PROGRAM, UNPACK = f'{TOP}/packaging/pack_rde', f'{TOP}/packaging/unpack_rde'
 # Both programs are run in this process: to start others would take ten times as long.

@@ -12,12 +12,12 @@ import sys
 import tempfile
 import unittest
 
-from support import TOP
-from support.files import read
-from support.files import write
-from support.rdap import Expected
-from support.rdap import some_registry
-from support.tables import write_tables
+from tests.support import TOP
+from tests.support.files import read
+from tests.support.files import write
+from tests.support.rdap import Expected
+from tests.support.rdap import some_registry
+from tests.support.tables import write_tables
 
 PROGRAM = f'{TOP}/packaging/rdap_files'
 # It is run in this process: to start another would take ten times as long.

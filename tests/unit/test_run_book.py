@@ -8,7 +8,7 @@ import subprocess
 import tempfile
 import unittest
 
-from support import TOP
+from tests.support import TOP
 
 RUN_BOOK = runpy.run_path(f'{TOP}/samples/run_book')
 PAGE = '''# A page

@@ -11,7 +11,7 @@ import sys
 import unittest
 from collections.abc import Iterator
 
-from support import TOP
+from tests.support import TOP
 
 FOLDERS = ('packaging', 'samples', 'trials', 'tests', 'bench')
 CONFIGURATION = pathlib.Path(TOP, 'pyproject.toml').read_text('utf-8')

@@ -3,18 +3,18 @@ form."""
 import tempfile
 import unittest
 
-from support.stage import Got
-from support.stage import Wanted
-from support.stage import faults
-from support.steps import Copy
-from support.steps import Manifest
-from support.steps import Text
-from support.transcripts import Misread
-from support.transcripts import exchanges_of
-from support.transcripts import read_transcripts
-from support.transcripts import step_of
-from support.transcripts import wanted_of
-from support.transcripts import words_of
+from tests.support.stage import Got
+from tests.support.stage import Wanted
+from tests.support.stage import faults
+from tests.support.steps import Copy
+from tests.support.steps import Manifest
+from tests.support.steps import Text
+from tests.support.transcripts import Misread
+from tests.support.transcripts import exchanges_of
+from tests.support.transcripts import read_transcripts
+from tests.support.transcripts import step_of
+from tests.support.transcripts import wanted_of
+from tests.support.transcripts import words_of
 
 HARNESS = '$ desk_harness'
 

@@ -6,14 +6,14 @@ import os
 import random
 import tempfile
 
-from support.described import Files
-from support.escrow import description_in
-from support.escrow import folders_in
-from support.formats import deposit as deposit_in
-from support.formats import key as key_of
-from support.unpacking import Case
-from support.unpacking import Described
-from support.unpacking import desk
+from tests.support.described import Files
+from tests.support.escrow import description_in
+from tests.support.escrow import folders_in
+from tests.support.formats import deposit as deposit_in
+from tests.support.formats import key as key_of
+from tests.support.unpacking import Case
+from tests.support.unpacking import Described
+from tests.support.unpacking import desk
 
 FULL = {'id': 'F1', 'type': 'FULL', 'watermark': '2024-03-03T00:00:00Z'}
 DIFF = {'id': 'D2', 'type': 'DIFF', 'prevId': 'F1', 'watermark': '2024-03-04T00:00:00Z'}

@@ -11,33 +11,33 @@ import tempfile
 import zlib
 from xml.etree import ElementTree
 
-from support.documents import URIS
-from support.documents import document
-from support.documents import element
-from support.escrow import as_written
-from support.escrow import description_in
-from support.escrow import objects_in
-from support.escrow import some_objects
-from support.files import read
-from support.files import write
-from support.unpacking import ADDRESSES
-from support.unpacking import DELETED_HOST
-from support.unpacking import DIFF
-from support.unpacking import HEADER
-from support.unpacking import HOST
-from support.unpacking import MENU
-from support.unpacking import PROGRAM
-from support.unpacking import WATERMARK
-from support.unpacking import Case
-from support.unpacking import Unpacked
-from support.unpacking import counted
-from support.unpacking import csv_definition
-from support.unpacking import deposit
-from support.unpacking import domain
-from support.unpacking import file_of
-from support.unpacking import idns
-from support.unpacking import in_files
-from support.unpacking import registrar
+from tests.support.documents import URIS
+from tests.support.documents import document
+from tests.support.documents import element
+from tests.support.escrow import as_written
+from tests.support.escrow import description_in
+from tests.support.escrow import objects_in
+from tests.support.escrow import some_objects
+from tests.support.files import read
+from tests.support.files import write
+from tests.support.unpacking import ADDRESSES
+from tests.support.unpacking import DELETED_HOST
+from tests.support.unpacking import DIFF
+from tests.support.unpacking import HEADER
+from tests.support.unpacking import HOST
+from tests.support.unpacking import MENU
+from tests.support.unpacking import PROGRAM
+from tests.support.unpacking import WATERMARK
+from tests.support.unpacking import Case
+from tests.support.unpacking import Unpacked
+from tests.support.unpacking import counted
+from tests.support.unpacking import csv_definition
+from tests.support.unpacking import deposit
+from tests.support.unpacking import domain
+from tests.support.unpacking import file_of
+from tests.support.unpacking import idns
+from tests.support.unpacking import in_files
+from tests.support.unpacking import registrar
 
 # A host that is deleted by its ROID.
 GONE = element('rdeHost:delete', within=element('rdeHost:roid', 'H1'))

@@ -8,29 +8,29 @@ import re
 import shutil
 import tempfile
 
-from support.documents import KEYS
-from support.documents import csv_text
-from support.documents import document
-from support.documents import element
-from support.escrow import as_written
-from support.escrow import description_in
-from support.escrow import folders_in
-from support.escrow import objects_in
-from support.escrow import some_objects
-from support.files import read
-from support.formats import deposit as deposit_in
-from support.formats import place_text
-from support.unpacking import ADDRESSES
-from support.unpacking import HOST
-from support.unpacking import WATERMARK
-from support.unpacking import Case
-from support.unpacking import Unpacked
-from support.unpacking import counted
-from support.unpacking import deposit
-from support.unpacking import desk
-from support.unpacking import in_files
-from support.unpacking import registrar
-from support.unpacking import row_of
+from tests.support.documents import KEYS
+from tests.support.documents import csv_text
+from tests.support.documents import document
+from tests.support.documents import element
+from tests.support.escrow import as_written
+from tests.support.escrow import description_in
+from tests.support.escrow import folders_in
+from tests.support.escrow import objects_in
+from tests.support.escrow import some_objects
+from tests.support.files import read
+from tests.support.formats import deposit as deposit_in
+from tests.support.formats import place_text
+from tests.support.unpacking import ADDRESSES
+from tests.support.unpacking import HOST
+from tests.support.unpacking import WATERMARK
+from tests.support.unpacking import Case
+from tests.support.unpacking import Unpacked
+from tests.support.unpacking import counted
+from tests.support.unpacking import deposit
+from tests.support.unpacking import desk
+from tests.support.unpacking import in_files
+from tests.support.unpacking import registrar
+from tests.support.unpacking import row_of
 
 FULL = {'type': 'FULL', 'id': 'F1', 'watermark': '2024-03-03T00:00:00Z'}
 DIFF = {'type': 'DIFF', 'id': 'D2', 'prevId': 'F1', 'watermark': '2024-03-04T00:00:00.5Z'}

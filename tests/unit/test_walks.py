@@ -7,9 +7,9 @@ import subprocess
 import tempfile
 import unittest
 
-from support import TOP
-from support.crates import listed
-from support.crates import with_below
+from tests.support import TOP
+from tests.support.crates import listed
+from tests.support.crates import with_below
 
 # How many seconds the compiler may take.
 SECONDS = 300

@@ -4,20 +4,20 @@ import unittest
 from collections.abc import Iterator
 from typing import NamedTuple
 
-from support.zone_registries import draw_registry
-from support.zone_rows import NS
-from support.zone_rows import RFC_DS_256
-from support.zone_rows import RFC_KEY
-from support.zone_rows import SERIAL
-from support.zone_rows import SOA
-from support.zone_rows import WORKED
-from support.zone_rows import Worked
-from support.zones import Refused
-from support.zones import Zone
-from support.zones import address_of
-from support.zones import ds_of_key
-from support.zones import is_below
-from support.zones import tables_of
+from tests.support.zone_registries import draw_registry
+from tests.support.zone_rows import NS
+from tests.support.zone_rows import RFC_DS_256
+from tests.support.zone_rows import RFC_KEY
+from tests.support.zone_rows import SERIAL
+from tests.support.zone_rows import SOA
+from tests.support.zone_rows import WORKED
+from tests.support.zone_rows import Worked
+from tests.support.zones import Refused
+from tests.support.zones import Zone
+from tests.support.zones import address_of
+from tests.support.zones import ds_of_key
+from tests.support.zones import is_below
+from tests.support.zones import tables_of
 
 
 def made(row: Worked) -> tuple[list[str], list[str], str]:

@@ -4,13 +4,13 @@ definitions."""
 import shutil
 from typing import NamedTuple
 
-from fuzzing import bundles
-from fuzzing.damage import flipped
-from support import registries
-from support.bundles import Header
-from support.bundles import manifest
-from support.model import Desk
-from support.reports import report
+from tests.support import registries
+from tests.support.bundles import Header
+from tests.support.bundles import manifest
+from tests.support.model import Desk
+from tests.support.reports import report
+from trials.fuzzing import bundles
+from trials.fuzzing.damage import flipped
 
 
 class Listed(NamedTuple):

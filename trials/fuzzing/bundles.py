@@ -4,13 +4,13 @@ come of them is what support/formats.py reads in them; the row that lists a bund
 the undamaged deposit."""
 import json
 
-from fuzzing.damage import damaged
-from fuzzing.damage import frame
-from fuzzing.damage import opened
-from fuzzing.damage import opened_sections
-from support.bundles import FIRST_LINE
-from support.bundles import compact
-from support.bundles import sealed
+from tests.support.bundles import FIRST_LINE
+from tests.support.bundles import compact
+from tests.support.bundles import sealed
+from trials.fuzzing.damage import damaged
+from trials.fuzzing.damage import frame
+from trials.fuzzing.damage import opened
+from trials.fuzzing.damage import opened_sections
 
 MARK = '@value@'
 

@@ -13,14 +13,14 @@ import time
 from dataclasses import dataclass
 from typing import Iterable
 
-from fuzzing.damage import table_of
-from support.bundles import manifest
-from support.limits import BYTES_A_SECOND
-from support.limits import FIRST_SECONDS
-from support.messages import response
-from support.sockets import HOST
-from support.sockets import received
-from support.stores import copy
+from tests.support.bundles import manifest
+from tests.support.limits import BYTES_A_SECOND
+from tests.support.limits import FIRST_SECONDS
+from tests.support.messages import response
+from tests.support.sockets import HOST
+from tests.support.sockets import received
+from tests.support.stores import copy
+from trials.fuzzing.damage import table_of
 
 MARGIN = 5
 READ_FAULT, WRITE_FAULT = b'read fault\n', b'write fault\n'

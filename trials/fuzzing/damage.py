@@ -2,11 +2,11 @@
 in twice; and bundles of any sections."""
 import json
 
-from support.bundles import FIRST_LINE
-from support.bundles import Table
-from support.bundles import compact
-from support.bundles import deposit
-from support.formats import sections
+from tests.support.bundles import FIRST_LINE
+from tests.support.bundles import Table
+from tests.support.bundles import compact
+from tests.support.bundles import deposit
+from tests.support.formats import sections
 
 
 def flipped(random, text):

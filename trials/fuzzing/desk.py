@@ -3,18 +3,18 @@ import re
 import socket
 import time
 
-from fuzzing import requests
-from fuzzing.arrivals import expected_take
-from fuzzing.arrivals import names
-from support import model
-from support.bundles import manifest
-from support.clients import replied
-from support.messages import asked
-from support.messages import response
-from support.reports import report
-from support.sockets import HOST
-from support.sockets import breaks_off
-from support.sockets import received
+from tests.support import model
+from tests.support.bundles import manifest
+from tests.support.clients import replied
+from tests.support.messages import asked
+from tests.support.messages import response
+from tests.support.reports import report
+from tests.support.sockets import HOST
+from tests.support.sockets import breaks_off
+from tests.support.sockets import received
+from trials.fuzzing import requests
+from trials.fuzzing.arrivals import expected_take
+from trials.fuzzing.arrivals import names
 
 # How long a connection may take.
 PATIENCE = 60

@@ -3,11 +3,11 @@ import subprocess
 import sys
 import time
 
-from fuzzing.damage import table_of
-from support.bundles import manifest
-from support.bundles import sealed
-from support.reports import report
-from support.stores import copy
+from tests.support.bundles import manifest
+from tests.support.bundles import sealed
+from tests.support.reports import report
+from tests.support.stores import copy
+from trials.fuzzing.damage import table_of
 
 
 HEADER = 'L,FULL,2024-04-01T00:00:00Z,,'

@@ -2,12 +2,12 @@
 reads in it."""
 import os
 
-from fuzzing.damage import damaged
-from support import bundles
-from support import formats
-from support.limits import MOST_LISTED
-from support.limits import MOST_MANIFEST
-from support.stores import copy
+from tests.support import bundles
+from tests.support import formats
+from tests.support.limits import MOST_LISTED
+from tests.support.limits import MOST_MANIFEST
+from tests.support.stores import copy
+from trials.fuzzing.damage import damaged
 
 HEADING = bundles.HEADING.encode()
 # What may stand in a column, beside what stands in another row or column.

@@ -1,8 +1,8 @@
 """Requests for `fuzz.py`, seeded: good ones, and ones that are damaged, cut, or ask what nobody
 should. Each function answers the bytes of one. What has to come of them is what support/messages.py
 reads in them. A desk here is what has `bodies` and `numbers` for arrivals."""
-from fuzzing.damage import damaged
-from support.messages import PATHS
+from tests.support.messages import PATHS
+from trials.fuzzing.damage import damaged
 
 LINES = [('Host', '127.0.0.1'), ('User-Agent', 'fuzz'), ('Accept', '*/*'),
          ('Expect', '100-continue'), ('Accept', 'text/csv'), ('X-Empty', ''),

@@ -1,9 +1,9 @@
 """What a command does where a call is refused: what it does undisturbed, or the fault after a
 beginning of what it prints. The same again, undisturbed, gives what it gives at first, and leaves
 the same rows. The fault says what is refused: S1 a call of the database's files, S2 memory."""
-from support.formats import KINDS
-from support.stores import REPORTS
-from support.stores import rows
+from tests.support.formats import KINDS
+from tests.support.stores import REPORTS
+from tests.support.stores import rows
 
 
 def stops(said, whole, fault):

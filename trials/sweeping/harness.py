@@ -4,12 +4,12 @@ import os
 import re
 import tempfile
 
-from support.bodies import bytes_of
-from support.bodies import manifest_text
-from support.files import write
-from support.messages import get
-from support.messages import put
-from support.stage import text_of
+from tests.support.bodies import bytes_of
+from tests.support.bodies import manifest_text
+from tests.support.files import write
+from tests.support.messages import get
+from tests.support.messages import put
+from tests.support.stage import text_of
 
 # What it ends with: the fault's name, as a crate, the kit or a response has it. Its files are in
 # memory. Where memory is refused to a file it is a disk that fails: S1, or the database's name for

@@ -12,9 +12,9 @@ import tempfile
 import threading
 from collections.abc import Callable
 
-from support.files import read
-from support.stores import contents
-from support.stores import copy
+from tests.support.files import read
+from tests.support.stores import contents
+from tests.support.stores import copy
 
 HERE = os.path.dirname(os.path.abspath(__file__))
 # Of many calls the first ones are refused, and at most so many beyond, evenly.

@@ -3,15 +3,15 @@ the samples, four arrivals of which the last takes two steps back, a release in 
 store of version 1."""
 import os
 
-from support import TOP
-from support.bodies import bytes_of
-from support.bodies import manifest_text
-from support.files import read
-from support.files import write
-from support.first_store import first_rows
-from support.first_store import write_store
-from support.stores import copy
-from support.stores import rows
+from tests.support import TOP
+from tests.support.bodies import bytes_of
+from tests.support.bodies import manifest_text
+from tests.support.files import read
+from tests.support.files import write
+from tests.support.first_store import first_rows
+from tests.support.first_store import write_store
+from tests.support.stores import copy
+from tests.support.stores import rows
 
 SAMPLES = f'{TOP}/samples'
 # A Full, two Differentials, and the first of these once more, at resend 1.

@@ -3,17 +3,17 @@ request to the store that is left then gets the whole response, and the store ha
 import os
 import subprocess
 
-from support.files import read
-from support.formats import KINDS
-from support.messages import get
-from support.messages import put
-from support.messages import response
-from support.sockets import HOST
-from support.sockets import response_to
-from support.sockets import serving
-from support.stores import REPORTS
-from support.stores import rows
-from sweeping.refusals import ended_in
+from tests.support.files import read
+from tests.support.formats import KINDS
+from tests.support.messages import get
+from tests.support.messages import put
+from tests.support.messages import response
+from tests.support.sockets import HOST
+from tests.support.sockets import response_to
+from tests.support.sockets import serving
+from tests.support.stores import REPORTS
+from tests.support.stores import rows
+from trials.sweeping.refusals import ended_in
 
 REFUSED = response(503, 'S2\n')
 

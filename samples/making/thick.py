@@ -12,8 +12,8 @@ from typing import NamedTuple
 from xml.sax.saxutils import escape
 from xml.sax.saxutils import quoteattr
 
-from registry import WORDS
-from registry import deposit
+from .registry import WORDS
+from .registry import deposit
 
 Cells = dict[str, str]
 Rows = list[tuple[str, Cells]]

@@ -1,0 +1,1 @@
+"""How long the programs take, and how much memory."""

@@ -1,0 +1,1 @@
+"""What make_large, the tests, the trials and the benchmarks make registries of."""

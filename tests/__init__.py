@@ -1,0 +1,1 @@
+"""The tests of the programs and scripts, and what the trials and the benchmarks share with them."""

@@ -1,0 +1,1 @@
+"""Tests of the parts of the tests, and of the scripts: they need no program."""

@@ -1,0 +1,1 @@
+"""Attempts to break the programs and scripts, by hand: each module that has a `main`."""
