@@ -25,6 +25,7 @@ import sys
 import textwrap
 import traceback
 import unittest
+from collections.abc import Iterator
 from dataclasses import dataclass
 from typing import Callable
 
@@ -47,11 +48,11 @@ class Case:
     play: Callable
     has_programs: bool = True
 
-    def has(self, name):
+    def has(self, name: str) -> bool:
         return name in self.file or name in self.title
 
 
-def cases_of_transcript(name):
+def cases_of_transcript(name: str) -> list[Case]:
     try:
         return [
             Case(name, it.title, it.play)
@@ -61,25 +62,25 @@ def cases_of_transcript(name):
         sys.exit(f'tests: {name}: {error}')
 
 
-def title_of(play):
+def title_of(play: Callable) -> str:
     """The first paragraph of a docstring."""
     return ' '.join(play.__doc__.partition('\n\n')[0].split()).rstrip('.')
 
 
-def cases_of_module(name):
+def cases_of_module(name: str) -> list[Case]:
     module = vars(importlib.import_module(f'tests.cases.{name}'))
     cases = {title_of(play): play for of, play in module.items() if of.startswith('test_')}
     return [Case(name, title, play) for title, play in (cases | module.get('CASES', {})).items()]
 
 
-def tests_in(suite):
+def tests_in(suite: unittest.TestSuite) -> Iterator[unittest.TestCase]:
     for it in suite:
         yield from tests_in(it) if isinstance(it, unittest.TestSuite) else [it]
 
 
-def case_of_test(test):
+def case_of_test(test: unittest.TestCase) -> Case:
     """A test of unittest."""
-    def play(_):
+    def play(_: Stage) -> None:
         result = unittest.TestResult()
         test.run(result)
         wrong = [
@@ -92,7 +93,7 @@ def case_of_test(test):
     return Case(file, title, play, has_programs=False)
 
 
-def all_cases():
+def all_cases() -> list[Case]:
     found = []
     for files, cases_of in (('transcripts/*.txt', cases_of_transcript), ('cases/[!_]*.py',
                                                                          cases_of_module)):
@@ -125,7 +126,7 @@ class Player:
         return None
 
 
-def count_passed(cases, programs):
+def count_passed(cases: list[Case], programs: dict[str, str]) -> int:
     """Plays cases, as many side by side as there are lanes, and tells in their order how each
     ended. Gives how many passed."""
     lanes, passed = int(os.environ.get('RT_JOBS') or os.cpu_count() or 1), 0
@@ -140,7 +141,7 @@ def count_passed(cases, programs):
     return passed
 
 
-def main():
+def main() -> int:
     arguments = arguments_of(__doc__)
     for name in PROGRAMS:
         arguments.add_argument(f'--{name.removeprefix("desk_")}', dest=name, default=built(name),

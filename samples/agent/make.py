@@ -17,7 +17,7 @@ import tarfile
 HERE = pathlib.Path(__file__).parent
 
 
-def archived(out, folder):
+def archived(out: pathlib.Path, folder: pathlib.Path) -> pathlib.Path:
     """Puts the files of a folder into an archive that is named as its document."""
     path = out / next(folder.glob('*.xml')).with_suffix('.tar').name
     with tarfile.open(path, 'w', format=tarfile.USTAR_FORMAT) as archive:
@@ -26,7 +26,7 @@ def archived(out, folder):
     return path
 
 
-def main():
+def main() -> None:
     arguments = argparse.ArgumentParser(description=__doc__,
                                         formatter_class=argparse.RawDescriptionHelpFormatter)
     arguments.add_argument('out', type=pathlib.Path, metavar='OUT')

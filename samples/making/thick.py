@@ -220,7 +220,8 @@ def bundles(registry: Thick) -> Iterator[tuple[dict, bytes]]:
         name = 'F1' if part == of else f'F1.{part}of{of}'
         before = f'2024-03-02T23:59:59.{1_000_000_000 - (of - part):09}'.rstrip('0') + 'Z'
         watermark = WATERMARK if part == of else before
-        header = {'id': name, 'type': 'DIFF' if previous else 'FULL', 'watermark': watermark}
+        header: dict[str, object] = {'id': name, 'type': 'DIFF' if previous else 'FULL',
+                                     'watermark': watermark}
         if previous:
             header['prevId'] = previous
         if of > 1:

@@ -4,6 +4,10 @@ transcripts/handing.txt, what they name and count is the model's.)"""
 import hashlib
 import random
 from collections import defaultdict
+from collections.abc import Callable
+from collections.abc import Iterable
+from collections.abc import Mapping
+from collections.abc import Sequence
 
 from tests.support.acceptance import RULES
 from tests.support.acceptance import Seen
@@ -25,9 +29,11 @@ from tests.support.flawed import misnamed_releases
 from tests.support.formats import KINDS
 from tests.support.formats import read_record
 from tests.support.formats import record
+from tests.support.model import Desk
 from tests.support.releases import Release
 from tests.support.releases import numbered
 from tests.support.stage import Failed
+from tests.support.stage import Stage
 from tests.support.stage import Wanted
 from tests.support.stage import case
 from tests.support.stage import compare
@@ -36,6 +42,8 @@ from tests.support.stores import EMPTY_LOG
 from tests.support.stores import change_row
 from tests.support.stores import run
 
+# What changes a store behind its back, and with it the model's desk.
+Change = Callable[[Stage, str, Desk, random.Random], None]
 # The seeds of the releases. The last ones are rare: in these the day of the chain's end has a later
 # place, a revision is missing below the one that is used, a place is missing on the day of the end,
 # and a deposit before the last one has orphans.
@@ -47,16 +55,16 @@ TESTS = ('end', 'resends', 'gaps', 'moment', 'parked', 'findings', 'orphans', 'c
          'names', 'bodies', 'tables')
 
 
-def changed_body(change):
+def changed_body(change: Callable[[bytes], bytes]) -> Change:
     """Changes a held body, mostly one of the chain."""
-    def spoil(stage, store, desk, chance):
+    def spoil(stage: Stage, store: str, desk: Desk, chance: random.Random) -> None:
         row = chance.choice(desk.steps if chance.random() < 0.7 else sorted(desk.held))
         desk.held[row] = change(desk.held[row])
         change_row(stage, store, 'UPDATE held SET body = ? WHERE row = ?', (desk.held[row], row))
     return spoil
 
 
-def change_object(stage, store, desk, chance):
+def change_object(stage: Stage, store: str, desk: Desk, chance: random.Random) -> None:
     """The last cell of an object has another text."""
     kind, key = chance.choice(sorted(desk.objects))
     *before, (table, [*others, (field, text)]) = read_record(desk.objects[kind, key])
@@ -65,14 +73,14 @@ def change_object(stage, store, desk, chance):
                (desk.objects[kind, key], KINDS.index(kind), key))
 
 
-def delete_object(stage, store, desk, chance):
+def delete_object(stage: Stage, store: str, desk: Desk, chance: random.Random) -> None:
     kind, key = chance.choice(sorted(desk.objects))
     del desk.objects[kind, key]
     change_row(stage, store, 'DELETE FROM object WHERE kind = ? AND key = ?',
                (KINDS.index(kind), key))
 
 
-def add_object(stage, store, desk, chance):
+def add_object(stage: Stage, store: str, desk: Desk, chance: random.Random) -> None:
     kind, key = chance.choice(sorted(desk.objects))
     new, made = b'new-' + key, desk.objects[kind, key]
     desk.objects[kind, new] = made
@@ -92,7 +100,7 @@ SPOILINGS = {
 }
 
 
-def check_store(stage, store, desk, seen):
+def check_store(stage: Stage, store: str, desk: Desk, seen: Mapping[str, set[str]]) -> None:
     """Compares what is said of a store, which stays as it is, and notes the word of each test.
     Nothing but S1 is said where the body of the chain's last deposit is no bundle."""
     before, is_read = read(stage.at(store)), not desk.steps or is_bundle(desk.held[desk.steps[-1]])
@@ -116,7 +124,7 @@ def check_store(stage, store, desk, seen):
         seen[name].add(word_of(name, passes))
 
 
-def test_wrong_names(stage):
+def test_wrong_names(stage: Stage) -> None:
     """What is said of a Full whose fields or tables have other names, or aren't there."""
     for at, (name, release) in enumerate(misnamed_releases()):
         release.rebuild(stage, f'{at}.db')
@@ -124,9 +132,9 @@ def test_wrong_names(stage):
             check_store(stage, f'{at}.db', release.desk(), defaultdict(set))
 
 
-def test_random_releases(stage):
+def test_random_releases(stage: Stage) -> None:
     """What is said of random releases, and of their stores once these went bad."""
-    seen = defaultdict(set)
+    seen: dict[str, set[str]] = defaultdict(set)
     for seed in SEEDS:
         release, store = draw_release(seed), f'{seed}.db'
         release.rebuild(stage, store)
@@ -140,9 +148,9 @@ def test_random_releases(stage):
     check_words(seen, TESTS)
 
 
-def test_random_series(stage):
+def test_random_series(stage: Stage) -> None:
     """What is said of random releases whose deposits are series."""
-    seen = defaultdict(set)
+    seen: dict[str, set[str]] = defaultdict(set)
     for seed in SERIES:
         release, store = draw_series(seed), f'{seed}.db'
         release.rebuild(stage, store)
@@ -151,7 +159,7 @@ def test_random_series(stage):
     check_words(seen, [it for it in TESTS if it not in ('bodies', 'moment', 'tables')])
 
 
-def check_words(seen, tests):
+def check_words(seen: Mapping[str, set[str]], tests: Iterable[str]) -> None:
     """The releases are such that each of these tests passes in some of them, and not in others."""
     compare('words', text_of(f'{it} {word_of(it, False)} ok' for it in tests),
             text_of(' '.join([it, *sorted(seen[it], reverse=True)]) for it in tests))
@@ -173,7 +181,7 @@ CHILDREN = (Table('domainContacts', 'domain', 'child', ('domainName', 'contactId
             Table('domainStatuses', 'domain', 'child', ('domainName', 'status'), b'a.example,ok\n'))
 
 
-def domains(*rows, fields=FIELDS):
+def domains(*rows: str, fields: tuple[str, ...] = FIELDS) -> Table:
     return Table('domain', 'domain', 'parent', fields, ''.join(f'{it}\n' for it in rows).encode())
 
 
@@ -181,21 +189,22 @@ A, B = domains(f'a.example,R1,,{DATES},D1-EX'), domains(f'b.example,R1,,{DATES},
 B_STATUS = Table('domainStatuses', 'domain', 'child', ('domainName', 'status'), b'b.example,ok\n')
 
 
-def body_of(header, *tables, domain=1, **besides):
+def body_of(header: Header, *tables: Table, domain: int = 1, **besides: object) -> bytes:
     """A deposit that declares one registrar and so many domains."""
     counts = dict.fromkeys(KINDS, 0) | {'registrar': 1, 'domain': domain}
     return deposit(header, tables, counts=counts, **besides)
 
 
-def full(header, **besides):
+def full(header: Header, **besides: object) -> bytes:
     return body_of(header, REGISTRARS, A, *CHILDREN, **besides)
 
 
-def release_of(*deposits, moment=None):
+def release_of(*deposits: tuple[Header, bytes], moment: str | None = None) -> Release:
     return Release(manifest(deposits), numbered(body for _, body in deposits), moment)
 
 
-def lines_but(*others, end='2024-03-03T00:00:00Z FULL', tld='no held deposit names one', notes=()):
+def lines_but(*others: str, end: str = '2024-03-03T00:00:00Z FULL',
+              tld: str = 'no held deposit names one', notes: Sequence[str] = ()) -> str:
     """The lines where all tests pass, but for those that are given, and then those of notes."""
     passed = {
         f'{it}': f'ok {it}'
@@ -209,7 +218,8 @@ def lines_but(*others, end='2024-03-03T00:00:00Z FULL', tld='no held deposit nam
     return ''.join(f'{it}\n' for it in (*passed.values(), *notes))
 
 
-def check_lines(stage, store, status, *others, strict=None, **told):
+def check_lines(stage: Stage, store: str, status: int, *others: str, strict: int | None = None,
+                **told: object) -> None:
     stage.check(f'check --store {store}', Wanted(status, lines_but(*others, **told)),
                 program='handover')
     stage.check(f'check --store {store} --strict',
@@ -217,7 +227,7 @@ def check_lines(stage, store, status, *others, strict=None, **told):
                 program='handover')
 
 
-def test_all_clear(stage):
+def test_all_clear(stage: Stage) -> None:
     """A registry that may be taken over, with a TLD and without."""
     release_of((F1, full(F1))).rebuild(stage)
     check_lines(stage, 'a.db', 0)
@@ -225,7 +235,7 @@ def test_all_clear(stage):
     check_lines(stage, 'b.db', 0, tld='example')
 
 
-def test_a_field_that_not_each_object_has(stage):
+def test_a_field_that_not_each_object_has(stage: Stage) -> None:
     """The domains of a Full have no registrar, and the one of a Differential has."""
     bare = body_of(F1, REGISTRARS, domains(f'a.example,,{DATES},D1-EX',
                                            fields=('name', *FIELDS[2:])), *CHILDREN)
@@ -237,7 +247,7 @@ def test_a_field_that_not_each_object_has(stage):
         'checked; ask the agent which fields they are', end='2024-03-04T00:00:00Z DIFF')
 
 
-def test_a_chain_that_is_not_the_latest(stage):
+def test_a_chain_that_is_not_the_latest(stage: Stage) -> None:
     """The steps of a file name a revision, and a later one of it is held."""
     release_of((F1, full(F1)), (F1_AGAIN, full(F1_AGAIN))).rebuild(stage)
     check_lines(stage, 'a.db', 0)
@@ -249,7 +259,7 @@ def test_a_chain_that_is_not_the_latest(stage):
     )
 
 
-def test_two_tlds(stage):
+def test_two_tlds(stage: Stage) -> None:
     """Deposits of two TLDs, whose Fulls follow one another: the later one is the chain."""
     other = Header('F2', 'FULL', '2024-03-04T00:00:00Z')
     release_of((F1, full(F1, tld='example')), (other, full(other, tld='EXAMPLE'))).rebuild(stage)
@@ -261,7 +271,7 @@ def test_two_tlds(stage):
                 end='2024-03-04T00:00:00Z FULL')
 
 
-def test_a_held_body_that_is_gone(stage):
+def test_a_held_body_that_is_gone(stage: Stage) -> None:
     """The body of a revision that the chain goes past."""
     release_of((F1, full(F1)), (F1_AGAIN, full(F1_AGAIN))).rebuild(stage)
     change_row(stage, 'a.db', 'DELETE FROM held WHERE row = ?', (0,))
@@ -272,7 +282,7 @@ def test_a_held_body_that_is_gone(stage):
         'copy of the store, or make it anew')
 
 
-def test_a_body_of_the_chain_that_is_no_deposit(stage):
+def test_a_body_of_the_chain_that_is_no_deposit(stage: Stage) -> None:
     """A body before the last one is cut, and the row lists it as it is now."""
     release_of((F1, full(F1)), (D2, body_of(D2, B, B_STATUS, domain=2))).rebuild(stage)
     check_lines(stage, 'a.db', 0, end='2024-03-04T00:00:00Z DIFF')
@@ -292,7 +302,7 @@ def test_a_body_of_the_chain_that_is_no_deposit(stage):
             raise Failed(f'no line {line!r}')
 
 
-def test_a_registrar_that_is_not_there(stage):
+def test_a_registrar_that_is_not_there(stage: Stage) -> None:
     """A domain was created by a registrar that is not there, and another asked for its transfer."""
     made = domains(f'a.example,R1,,{DATES},D1-EX,R9', fields=(*FIELDS, 'crRr'))
     moving = Table('domainTransfer', 'domain', 'child', ('name', 'reRr', 'acRr'),
@@ -306,7 +316,7 @@ def test_a_registrar_that_is_not_there(stage):
         'it: domain a.example, domain b.example', end='2024-03-04T00:00:00Z DIFF')
 
 
-def test_a_name_of_a_domain_and_an_nndn(stage):
+def test_a_name_of_a_domain_and_an_nndn(stage: Stage) -> None:
     """An NNDN has a domain's name, in other letters."""
     nndns = Table('nndn', 'nndn', 'parent', ('aName', 'idnTableId'), b'A.example,\n')
     counts = dict.fromkeys(KINDS, 0) | {'registrar': 1, 'domain': 1, 'nndn': 1}
@@ -316,7 +326,7 @@ def test_a_name_of_a_domain_and_an_nndn(stage):
         "wrong nndns: 1 have a domain's name; ask the agent which the name is: nndn A.example")
 
 
-def test_equal_roids(stage):
+def test_equal_roids(stage: Stage) -> None:
     """Two domains have one ROID, which a host has too."""
     host = Table('host', 'host', 'parent', ('name', 'roid', 'clID', 'crDate'),
                  b'ns.a.example,D1-EX,R1,2020-01-01T00:00:00Z\n')
@@ -336,7 +346,7 @@ def test_equal_roids(stage):
         'domain b.example', strict=1)
 
 
-def test_what_is_required(stage):
+def test_what_is_required(stage: Stage) -> None:
     """A registrar has no name, a domain no ROID, another no status, a third an empty registrar; a
     contact has no city."""
     registrars = Table('registrar', 'registrar', 'parent', ('id', 'name', 'crDate'),
@@ -360,7 +370,7 @@ def test_what_is_required(stage):
         'registrar R1, contact C1, domain b.example, domain c.example, domain d.example', strict=1)
 
 
-def test_names_outside(stage):
+def test_names_outside(stage: Stage) -> None:
     """Of the names of a TLD one ends like it alone, one is of another, and an NNDN is the TLD
     itself. Without a TLD all are within."""
     names = domains(f'a.example,R1,,{DATES},D1-EX', f'b.test,R1,,{DATES},D2-EX',
@@ -380,7 +390,7 @@ def test_names_outside(stage):
     check_lines(stage, 'b.db', 0)
 
 
-def test_digests(stage):
+def test_digests(stage: Stage) -> None:
     """DS with digests of the three types, and of another; the same a digit short, with a sign that
     is none, and with numbers out of range; and a row without a DS."""
     parts = {
@@ -405,7 +415,7 @@ def test_digests(stage):
         strict=1)
 
 
-def test_an_end_in_the_future(stage):
+def test_an_end_in_the_future(stage: Stage) -> None:
     """The watermark of the chain's end is later than the clock's time."""
     late = Header('F1', 'FULL', '2260-01-01T00:00:00Z')
     release_of((late, full(late))).rebuild(stage)
@@ -416,7 +426,7 @@ def test_an_end_in_the_future(stage):
         'watermark it has', end='2260-01-01T00:00:00Z FULL')
 
 
-def test_a_moment(stage):
+def test_a_moment(stage: Stage) -> None:
     """A moment is only told; --strict lets nothing be told."""
     release_of((F1, full(F1)), (D2, body_of(D2, B, B_STATUS, domain=2)),
                moment='2024-03-03T00:00:00Z').rebuild(stage)
@@ -428,7 +438,7 @@ def test_a_moment(stage):
         end='2024-03-03T00:00:00Z FULL, up to the moment 2024-03-03T00:00:00Z', strict=1)
 
 
-def test_notes(stage):
+def test_notes(stage: Stage) -> None:
     """What was told when a bundle was made is told again, each text on one line."""
     release_of((F1, full(F1, notes=['unknown: eppParams 1', 'left\nout']))).rebuild(stage)
     check_lines(
@@ -438,7 +448,7 @@ def test_notes(stage):
         notes=('told note: unknown: eppParams 1', 'told note: left\\nout'), strict=1)
 
 
-def test_an_early_arrival(stage):
+def test_an_early_arrival(stage: Stage) -> None:
     """Version 1 kept no body that no row listed."""
     write_store(stage.at('a.db'),
                 first_rows(manifest([(F1, full(F1))]), [('1', full(F1)), ('2', full(D2))]))

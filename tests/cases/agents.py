@@ -7,12 +7,17 @@ import os
 import random
 import subprocess
 import sys
+from collections.abc import Iterable
+from collections.abc import Mapping
+from collections.abc import Sequence
 
 from tests.cases.handovers import clear
 from tests.cases.large_files import WAY
 from tests.support import TOP
 from tests.support.documents import KEYS
+from tests.support.documents import Object
 from tests.support.documents import document
+from tests.support.escrow import Told
 from tests.support.escrow import as_written
 from tests.support.escrow import folders_in
 from tests.support.escrow import some_objects
@@ -20,23 +25,26 @@ from tests.support.escrow import told
 from tests.support.files import read
 from tests.support.formats import KINDS
 from tests.support.stage import Failed
+from tests.support.stage import Stage
 from tests.support.stage import Wanted
 from tests.support.stage import case
 from tests.support.stage import compare_all
 from tests.support.stores import run
 
+# Objects by kind and key.
+Objects = dict[tuple[str, str], Told]
 # Kinds whose keys are told apart without regard to case.
 LOWERED = ('host', 'domain')
 FULL = {'id': 'F1', 'type': 'FULL', 'watermark': '2024-03-03T00:00:00Z'}
 
 
-def check_same(wanted, found):
+def check_same(wanted: Objects, found: Objects) -> None:
     for key in wanted.keys() | found.keys():
         if wanted.get(key) != found.get(key):
             raise Failed(f'{key}: wanted {wanted.get(key)}, got {found.get(key)}')
 
 
-def rebuild(stage, *bundles):
+def rebuild(stage: Stage, *bundles: Iterable[str]) -> None:
     """Rebuilds a store from bundles in the folder of these."""
     stage.write('manifest.csv',
                 run(stage, ' '.join(['manifest', *(f'bundles/{it}' for it in bundles)]), 'pack'))
@@ -44,7 +52,7 @@ def rebuild(stage, *bundles):
     run(stage, 'take --store desk.db bundles')
 
 
-def restored(stage, *deposits):
+def restored(stage: Stage, *deposits: str) -> Objects:
     """The objects that are in a store after these deposits, each the folder of its description."""
     os.mkdir(stage.at('bundles'))
     bundles = []
@@ -57,9 +65,9 @@ def restored(stage, *deposits):
     return exported(stage)
 
 
-def exported(stage):
+def exported(stage: Stage) -> Objects:
     """The objects of the store, by kind and key, as `export` prints them."""
-    rows = {}
+    rows: dict[tuple[str, str], dict[tuple[str, str], dict[str, str]]] = {}
     for kind in KINDS:
         text = io.StringIO(run(stage, f'export --store desk.db {kind}').decode(), newline='')
         for _, key, table, row, field, value in list(csv.reader(text, strict=True))[1:]:
@@ -70,12 +78,14 @@ def exported(stage):
     }
 
 
-def lowered(objects):
+def lowered(objects: Iterable[Object]) -> Objects:
     return {(kind, key.lower() if kind in LOWERED else key): rows
             for (kind, key), rows in as_written(objects).items()}
 
 
-def unpacked(stage, header, model, objects, deletes=None, words=(), **more):
+def unpacked(stage: Stage, header: Mapping[str, str], model: str, objects: Sequence[Object],
+             deletes: Mapping[str, Sequence[str]] | None = None, words: Sequence[str] = (),
+             **more: object) -> None:
     """Writes a deposit in a model, and unpacks it into a folder of its id."""
     name = header['id']
     os.mkdir(stage.at(f'{name}-files'))
@@ -88,7 +98,7 @@ def unpacked(stage, header, model, objects, deletes=None, words=(), **more):
         raise Failed(f'unpack_rde {name}: status {ran.returncode}: {ran.stderr}')
 
 
-def test_models(stage):
+def test_models(stage: Stage) -> None:
     """Objects at random are restored as they were, from deposits of both models."""
     for seed in range(4):
         objects = some_objects(random.Random(f'restored {seed}'))
@@ -99,7 +109,7 @@ def test_models(stage):
             clear(stage)
 
 
-def test_changes(stage):
+def test_changes(stage: Stage) -> None:
     """A Differential of files, on a Full of XML, changes and deletes objects."""
     first = some_objects(random.Random('changes'), most=9)
     hosts = {rows[0][1]['name']: rows[0][1]['roid'] for rows in first if rows[0][0] == 'host'}
@@ -119,7 +129,7 @@ def test_changes(stage):
     check_same(wanted, restored(stage, 'F1', 'D2'))
 
 
-def test_series(stage):
+def test_series(stage: Stage) -> None:
     """Deposits that are larger than one bundle are restored as they were, and what is based on
     them."""
     for seed, limit in enumerate((['--part-rows', '25'], ['--part-bytes', '1800'])):
@@ -145,7 +155,7 @@ def test_series(stage):
             clear(stage)
 
 
-def test_bare_files(stage):
+def test_bare_files(stage: Stage) -> None:
     """Bare CSV files with their description, larger than one bundle, are restored as they were."""
     for seed in range(2):
         objects = some_objects(random.Random(f'bare {seed}'), most=9)
@@ -163,7 +173,7 @@ def test_bare_files(stage):
         clear(stage)
 
 
-def test_described_by_headings(stage):
+def test_described_by_headings(stage: Stage) -> None:
     """A file that is larger than a bundle may be is described by its heading, and restored."""
     rows = {f'd{at}.example': f'{at}' * 250_000 for at in range(10, 50)}
     stage.write('files/domain-1.csv',
@@ -250,7 +260,7 @@ V5,domain,a.example,crDate,2024-03-04T00:00:00Z,2024-03-03T00:00:00Z
 """
 
 
-def test_headings(stage):
+def test_headings(stage: Stage) -> None:
     """In a heading a field may have the name of the CSV model for the desk's, and no other."""
     for at, (table, fields, heading, is_named) in enumerate(HEADINGS):
         names = fields.split()
@@ -278,7 +288,7 @@ def test_headings(stage):
                 raise Failed('its bundle has other rows')
 
 
-def test_findings(stage):
+def test_findings(stage: Stage) -> None:
     """Files with the names of RFC 9022 are proposed under the desk's, and what is wrong in them is
     found."""
     for name, text in NAMED.items():

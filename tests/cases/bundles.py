@@ -7,6 +7,7 @@ from tests.support.bundles import SAMPLE
 from tests.support.bundles import bundle_of
 from tests.support.bundles import envelope_of
 from tests.support.bundles import section
+from tests.support.stage import Stage
 from tests.support.stage import compare
 from tests.support.verdicts import C1
 from tests.support.verdicts import check_faults
@@ -81,14 +82,14 @@ READ = (
 )
 
 
-def test_frames_of_other_forms(stage):
+def test_frames_of_other_forms(stage: Stage) -> None:
     """Frames of other forms are refused."""
     check_faults(stage, [(it, front + it, fault)
                          for front, told in ((FRONT, BACKS), (FIRST_LINE, REST))
                          for fault, texts in told.items() for it in texts])
 
 
-def test_each_beginning_of_a_bundle(stage):
+def test_each_beginning_of_a_bundle(stage: Stage) -> None:
     """Each beginning of a bundle is refused, and the whole is not."""
     compare('bytes of the sample', '228', f'{len(SAMPLE)}')
     check_faults(stage,
@@ -96,7 +97,7 @@ def test_each_beginning_of_a_bundle(stage):
     check_held(stage, 'the sample', SAMPLE, [C1])
 
 
-def test_as_many_sections_as_there_may_be(stage):
+def test_as_many_sections_as_there_may_be(stage: Stage) -> None:
     """Sixty-four sections, and no more."""
     check_faults(stage, [(f'64 sections and {after}', EMPTY + after, fault)
                          for fault, after in AFTER_MOST.items()])
@@ -116,13 +117,13 @@ def test_as_many_sections_as_there_may_be(stage):
     check_held(stage, '64 sections', body, ['; '.join(['contact C1: t0 id=C1', *children])])
 
 
-def test_the_longest_body(stage):
+def test_the_longest_body(stage: Stage) -> None:
     """The longest body, and a longer one."""
     check_faults(stage, [(f'{count} letters', b'e' * count, fault)
                          for count, fault in ((16_777_216, 'U1'), (16_777_217, 'U4'))])
 
 
-def test_sections_that_look_like_lines_of_a_bundle(stage):
+def test_sections_that_look_like_lines_of_a_bundle(stage: Stage) -> None:
     """Sections that look like lines of a bundle, or are no text, are read by their lengths."""
     whole = FIRST_LINE + b'envelope.json 2\n{}\n' + NINE
     compare('bytes of the ten sections', '183', f'{len(whole)}')

@@ -6,6 +6,7 @@ from tests.support.bundles import FIRST_LINE
 from tests.support.bundles import bundle_of
 from tests.support.bundles import row_of
 from tests.support.bundles import section
+from tests.support.stage import Stage
 from tests.support.stage import case
 from tests.support.stage import compare
 from tests.support.stage import text_of
@@ -45,7 +46,7 @@ class Tables:
     deletes: str
     files: bytes
 
-    def body(self, header=FULL):
+    def body(self, header: str = FULL) -> bytes:
         declared = [
             ','.join(DECLARED[it] for it in names.split())
             for names in (self.contents, self.deletes)
@@ -145,20 +146,20 @@ SIZES = ((254, 1, None, None), (255, 1, 'U10', 'U10'), (0, 100_000, None, 'U11')
                                                                                    'U11', 'U11'))
 
 
-def test_deposits_that_are_held(stage):
+def test_deposits_that_are_held(stage: Stage) -> None:
     """The objects and the orphans of Fulls."""
     for tables, objects, orphans in HELD:
         check_held(stage, f'{tables}', tables.body(), objects, orphans=orphans)
 
 
-def test_deposits_that_are_refused(stage):
+def test_deposits_that_are_refused(stage: Stage) -> None:
     """Tables, envelopes and frames with faults."""
     check_faults(stage, [(f'{it}', it.body(), fault)
                          for it, fault in REFUSED] + [(f'{body}', body, fault)
                                                       for body, fault in UNREADABLE])
 
 
-def test_deletes_of_differentials(stage):
+def test_deletes_of_differentials(stage: Stage) -> None:
     """What a Differential deletes is no longer there, unless it is in its contents."""
     full = BASE.body()
     for tables, objects in DELETES:
@@ -170,7 +171,7 @@ def test_deletes_of_differentials(stage):
             compare('objects', text_of(objects), desk.ask('tables'))
 
 
-def test_envelopes_alone(stage):
+def test_envelopes_alone(stage: Stage) -> None:
     """Of the deposit at the end of the chain the envelope alone is read.
 
     The file of a store may have another body than the one that came. It is refused for its frame or
@@ -188,7 +189,7 @@ def test_envelopes_alone(stage):
             compare(f'end with {body}', end, desk.ask('end'))
 
 
-def test_keys_and_rows_have_limits(stage):
+def test_keys_and_rows_have_limits(stage: Stage) -> None:
     """As long a key and as many rows as a deposit may have, and more."""
     for letters, count, *faults in SIZES:
         keys = ['x' * letters + str(at) for at in range(count)]

@@ -1,6 +1,7 @@
 """Envelopes: what they say, and each fault of each member, seen by the deposits of their
 bundles."""
 import re
+from collections.abc import Sequence
 from dataclasses import dataclass
 
 from tests.support.bodies import bytes_of
@@ -10,6 +11,7 @@ from tests.support.bundles import SAMPLE
 from tests.support.bundles import bundle_of
 from tests.support.bundles import row_of
 from tests.support.bundles import section
+from tests.support.stage import Stage
 from tests.support.stage import case
 from tests.support.stage import compare
 from tests.support.verdicts import C1
@@ -38,7 +40,7 @@ ROWS = (
 )
 
 
-def table(**other):
+def table(**other: str | None) -> str:
     """The declaration of a table, with other values for some of its members. None is a member that
     isn't there."""
     members = {
@@ -53,11 +55,11 @@ def table(**other):
                              for name, value in members.items() if value is not None)
 
 
-def contents(*tables):
+def contents(*tables: str) -> str:
     return f',"contents":[{",".join(tables)}]'
 
 
-def deletes(*tables):
+def deletes(*tables: str) -> str:
     return f',"deletes":[{",".join(tables)}]'
 
 
@@ -141,7 +143,7 @@ NO_HEADERS = {
 }
 
 
-def body_of(members, row=None):
+def body_of(members: str, row: str = None) -> bytes:
     """The bundle of an envelope with these members after a correct header. Each file that they name
     has one row: its name, or this."""
     files = dict.fromkeys(re.findall('"file":"([a-z])"', members))
@@ -151,13 +153,13 @@ def body_of(members, row=None):
         sections)
 
 
-def body_of_fields(names):
+def body_of_fields(names: Sequence[str]) -> bytes:
     """The bundle of a table with these fields, and of one row."""
     fields = ','.join(f'"{it}"' for it in names)
     return body_of(contents(table(fields=f'[{fields}]')), ','.join(f'in {it}' for it in names))
 
 
-def test_what_envelopes_say(stage):
+def test_what_envelopes_say(stage: Stage) -> None:
     """What the envelopes of a Full and of a Differential say."""
     compare('bytes of the envelopes', '174 130', f'{len(ENVELOPE)} {len(COUNTED)}')
     check_held(stage, 'the Full', SAMPLE, [C1])
@@ -169,7 +171,7 @@ def test_what_envelopes_say(stage):
             compare('end', end, desk.ask('end'))
 
 
-def test_members_that_are_read(stage):
+def test_members_that_are_read(stage: Stage) -> None:
     """Members that an envelope may have."""
     for it in READ:
         said = F1.removesuffix('0') + str(it.resend)
@@ -177,7 +179,7 @@ def test_members_that_are_read(stage):
                    counts=it.counts)
 
 
-def test_members_that_are_refused(stage):
+def test_members_that_are_refused(stage: Stage) -> None:
     """Members of other forms, and texts that are no envelope, are refused."""
     check_faults(stage, [(f'an envelope with {it}', body_of(it), fault)
                          for fault, members in REFUSED.items()
@@ -186,7 +188,7 @@ def test_members_that_are_refused(stage):
                                                for it in texts])
 
 
-def test_the_fields_of_a_table(stage):
+def test_the_fields_of_a_table(stage: Stage) -> None:
     """As many fields as a table may have, and one more."""
     names = ['a', *(f'b{at}' for at in range(64))]
     check_held(stage, '64 fields', body_of_fields(names[:64]),

@@ -9,6 +9,8 @@ files are opened again, and the event of that change may have been taken in. How
 have to be opened again is known of each list."""
 import functools
 import re
+from collections.abc import Callable
+from collections.abc import Sequence
 from typing import NamedTuple
 
 from tests.support.bodies import bytes_of
@@ -28,12 +30,15 @@ from tests.support.first_store import rows_of
 from tests.support.harness import Harness
 from tests.support.model import Desk
 from tests.support.stage import Failed
+from tests.support.stage import Stage
 from tests.support.stage import case
 from tests.support.stage import compare
 from tests.support.stage import text_of
 from tests.support.telling import answer
 from tests.support.telling import rows_told
 
+# Two answers to a run, and what a desk then has, as queries tell it.
+Outcome = tuple[str, str | None, str]
 # How many pages the log may have where a call of a file fails, so that it is never copied into the
 # database file, or before each commit; and how many that were read are kept.
 ROOMS = {'log': '1000 2000', 'database': '1 2000'}
@@ -44,13 +49,13 @@ LOST = (('2', 'D2'), ('3', 'Abc'))
 class List(NamedTuple):
     """The lines before a store is made, the line that makes it, its answer, the bodies that it
     lists, and the events. Each of these changes a store that has not seen it."""
-    before: tuple
+    before: tuple[str, ...]
     make: str
     made: str
-    first: tuple
-    events: tuple
+    first: tuple[str, ...]
+    events: tuple[str, ...]
 
-    def model(self):
+    def model(self) -> Desk:
         early = (('1', 'F1'), *LOST) if self.before else ()
         return Desk(
             manifest_text(self.first).encode(),
@@ -75,7 +80,7 @@ MIGRATED = List(('script first.sql',), 'migrate', 'migrated\n', ('F1',), AGAIN)
 CLOSED = List(('script first.sql', 'reopen'), 'migrate', 'migrated\n', ('F1',), AGAIN)
 
 
-def send(desk, events):
+def send(desk: Harness, events: Sequence[str]) -> str:
     """What comes of events in one run: an answer to each, or `S1`."""
     came = run(desk, events)
     if not re.fullmatch(
@@ -84,11 +89,11 @@ def send(desk, events):
     return came
 
 
-def has_lost(came):
+def has_lost(came: str) -> bool:
     return 'S1' in came.splitlines()
 
 
-def send_soundly(desk, told):
+def send_soundly(desk: Harness, told: List) -> str:
     """Opens the files, of which no call fails any more, and gives what comes of the list."""
     check(desk, 'crash written', '')
     if not is_open(desk, told.make, told.made):
@@ -99,7 +104,7 @@ def send_soundly(desk, told):
     return came
 
 
-def send_twice(desk, told):
+def send_twice(desk: Harness, told: List) -> tuple[Outcome, bool, bool]:
     """Sends a list over files of which one call fails, and sends it again: to the same desk, where
     that refused an event; or else, and where it refuses again, to the one of the files that are
     opened again. Where the store is refused it is tried once more, and then the files are opened
@@ -121,7 +126,8 @@ def send_twice(desk, told):
     return (came, again, rows), is_reopened, has_failed
 
 
-def undisturbed(stage, told, is_again, answered, is_kept):
+def undisturbed(stage: Stage, told: List, is_again: bool, answered: tuple[bool, ...],
+                is_kept: bool) -> Outcome:
     """What comes of the answered events, and then of the list, where nothing happens: the line of
     an event that was not answered is S1. Where the first of these was kept all the same it comes,
     too."""
@@ -138,7 +144,8 @@ def undisturbed(stage, told, is_again, answered, is_kept):
             ''.join(f'> {query(it)}\n{rows_told(rows[it])}' for it in TABLES))
 
 
-def check_call(stage, told, file, is_again, wanted_of, calls):
+def check_call(stage: Stage, told: List, file: str, is_again: bool,
+               wanted_of: Callable[..., Outcome], calls: int) -> tuple[bool, bool]:
     """Compares what comes of a list where the call after so many others fails. Where the files had
     to be opened again that may be what comes of the answered events and the first of the others.
     Gives whether they had to be, and whether the call came."""
@@ -164,7 +171,8 @@ def check_call(stage, told, file, is_again, wanted_of, calls):
     return is_reopened, has_failed
 
 
-def check_calls(stage, told, file, is_again, reopened):
+def check_calls(stage: Stage, told: List, file: str, is_again: bool,
+                reopened: Sequence[bool]) -> None:
     """Each call, up to a run of which none fails. After so many of them the files have to be opened
     again."""
     put_files(stage, first=WORKED.first, second=('F1', 'D2'), third=('F1', 'D2', 'D3'),
@@ -172,7 +180,7 @@ def check_calls(stage, told, file, is_again, reopened):
     put_first_store(stage, LOST)
     ends, wanted_of = [], functools.cache(functools.partial(undisturbed, stage, told, is_again))
 
-    def play(calls):
+    def play(calls: int) -> bool:
         is_reopened, has_failed = check_call(stage, told, file, is_again, wanted_of, calls)
         ends.append(is_reopened)
         return has_failed

@@ -6,6 +6,7 @@ of its row, of the table that has its kind's name; the indented ones are its chi
 table and its cells. It comes as a Full that has just these objects. Then the objects themselves are
 put into the store, by their records: no deposit has a row without its key, a field twice in a row,
 or rows of a table apart from each other."""
+from collections.abc import Sequence
 from dataclasses import dataclass
 from dataclasses import field
 
@@ -22,6 +23,7 @@ from tests.support.formats import KINDS
 from tests.support.formats import record
 from tests.support.messages import get
 from tests.support.registries import csv_text
+from tests.support.stage import Stage
 from tests.support.stage import case
 
 # The fields that are the keys of parent rows, and of child rows.
@@ -141,36 +143,42 @@ STATUSES = ('domain,e.example,domainStatuses,1,domainName,e.example',
             'domain,e.example,domainStatuses,1,status,ok')
 
 
-def objects_in(text):
+# An object: its kind, its key, and its rows, each a table and its cells.
+Listed = tuple[str, str, list[tuple[str, list[tuple[str, str]]]]]
+
+
+def objects_in(text: str) -> list[Listed]:
     """The objects of a registry: of each its kind, its key, and its rows, the parent row first,
     each a table and its cells."""
-    found = []
+    found: list[Listed] = []
     for line in filter(None, text.split('\n')):
         name, _, cells = line.strip().partition(': ')
         if not line.startswith(' '):
             name, key = name.split(' ')
             found.append((name, key, []))
-        found[-1][2].append((name, [it.split('=') for it in cells.split('|')]))
+        texts = [it.partition('=') for it in cells.split('|')]
+        found[-1][2].append((name, [(field, text) for field, _, text in texts]))
     return found
 
 
-def tables_of(objects):
+def tables_of(objects: Sequence[Listed]) -> list[Table]:
     """The tables that have the rows of objects. (All rows of a table have the same fields.) The key
     comes first. Of a field that is there twice the first cell is taken."""
-    tables = {}
+    tables: dict[tuple[str, str], list[dict[str, str]]] = {}
     for kind, key, rows in objects:
         for name, cells in rows:
             field = PARENT_KEYS[kind] if name == kind else CHILD_KEYS[kind]
-            row = dict.fromkeys([field, *(it for it, _ in cells)]) | dict(
+            row = dict.fromkeys([field, *(it for it, _ in cells)], '') | dict(
                 reversed(cells)) | {field: key}
             tables.setdefault((kind, name), []).append(row)
     return [
         Table(name, kind, 'parent' if name == kind else 'child', tuple(rows[0]),
-              csv_text(it.values() for it in rows)) for (kind, name), rows in tables.items()
+              csv_text([*it.values()] for it in rows)) for (kind, name), rows in tables.items()
     ]
 
 
-def check_registry(stage, registry, path, of_deposit, of_records):
+def check_registry(stage: Stage, registry: Registry, path: str, of_deposit: bytes,
+                   of_records: bytes) -> None:
     """Compares a report of a registry, which comes as a deposit, and whose objects are then put
     into the store, in place of those there."""
     header, objects = Header('F1', 'FULL', registry.watermark), objects_in(registry.objects)
@@ -195,13 +203,13 @@ def check_registry(stage, registry, path, of_deposit, of_records):
             desk.check_served(Wire(get(path)), of_records)
 
 
-def test_what_is_found(stage):
+def test_what_is_found(stage: Stage) -> None:
     """What is found in small registries."""
     for registry in FOUND:
         check_registry(stage, registry, '/links', *[table('links', *registry.found)] * 2)
 
 
-def test_what_is_exported(stage):
+def test_what_is_exported(stage: Stage) -> None:
     """What is exported of small registries."""
     check_registry(stage, CHILDREN, '/export/domain',
                    table('export', *DOMAIN, *FIRST_NS, *LAST_NS, *STATUSES),

@@ -5,6 +5,8 @@ import functools
 import os
 import shutil
 import sqlite3
+from collections.abc import Callable
+from collections.abc import Sequence
 
 from tests.support import formats
 from tests.support.bundles import Header
@@ -25,6 +27,8 @@ from tests.support.releases import numbered
 from tests.support.releases import sample
 from tests.support.reports import report
 from tests.support.stage import Failed
+from tests.support.stage import Given
+from tests.support.stage import Stage
 from tests.support.stage import Wanted
 from tests.support.stage import case
 from tests.support.stage import compare
@@ -34,6 +38,7 @@ from tests.support.steps import FirstStore
 from tests.support.steps import Folder
 from tests.support.steps import Link
 from tests.support.steps import Statements
+from tests.support.steps import Step
 from tests.support.steps import Text
 from tests.support.stores import EMPTY_LOG
 from tests.support.stores import change_row
@@ -46,14 +51,14 @@ TABLES, PAGE = 'tables --store a.db out', 'page --store a.db out'
 SHORT = 100
 
 
-def names_in(folder):
+def names_in(folder: str) -> list[str]:
     """The paths of all that is in a folder."""
     return sorted(
         os.path.relpath(f'{at}/{name}', folder) for at, *names in os.walk(folder)
         for name in sum(names, []))
 
 
-def clear(stage):
+def clear(stage: Stage) -> None:
     for name in os.listdir(stage.room.name):
         path = stage.at(name)
         shutil.rmtree(path) if os.path.isdir(path) and not os.path.islink(path) else os.remove(path)
@@ -62,7 +67,7 @@ def clear(stage):
 # ---- there and back
 
 
-def rebuild_in_parts(stage):
+def rebuild_in_parts(stage: Stage) -> None:
     """The release, once its second part is listed."""
     SAMPLES['a first part'].rebuild(stage)
     stage.write('second.csv', sample('parts/second.csv'))
@@ -78,7 +83,7 @@ REBUILT = {name: it.rebuild
            }
 
 
-def check_there_and_back(stage, rebuild, *given):
+def check_there_and_back(stage: Stage, rebuild: Callable[..., None], *given: object) -> None:
     """A registry that is rebuilt so is bundled, and rebuilt from that bundle alone: each export is
     the same, and so is the bundle of that."""
     rebuild(stage, *given)
@@ -113,7 +118,7 @@ def check_there_and_back(stage, rebuild, *given):
         raise Failed('the bundle of the registry that was rebuilt is another one')
 
 
-CASES = {
+CASES: dict[str, Callable[[Stage], None]] = {
     f'There and back: {name}': functools.partial(check_there_and_back, rebuild=it)
     for name, it in REBUILT.items()
 }
@@ -127,32 +132,35 @@ HEADERS = (Header('F1', 'FULL',
 D2_LATER = HEADERS[1]._replace(resend=1)
 
 
-def contacts(rows, fields=('id', 'roid'), key=None, name='contact', role='parent'):
+def contacts(rows: bytes, fields: tuple[str, ...] = ('id', 'roid'), key: str | None = None,
+             name: str = 'contact', role: str = 'parent') -> Table:
     """A table of contacts, or of their child rows."""
     return Table(name, 'contact', role, fields, rows, key)
 
 
-def children(rows, name='more', fields=('id', 'text'), key=None):
+def children(rows: bytes, name: str = 'more', fields: tuple[str, ...] = ('id', 'text'),
+             key: str | None = None) -> Table:
     return contacts(rows, fields, key, name, 'child')
 
 
-def hosts(rows):
+def hosts(rows: bytes) -> Table:
     return Table('host', 'host', 'parent', ('name',), rows)
 
 
-def release_of(*contents):
+def release_of(*contents: Sequence[Table]) -> Release:
     """A Full, and a Differential if there are two, with these tables."""
     bodies = list(map(deposit, HEADERS, contents))
     return Release(manifest(zip(HEADERS, bodies)), numbered(bodies))
 
 
-def store_of(stage, *contents):
+def store_of(stage: Stage, *contents: Sequence[Table]) -> None:
     release_of(*contents).rebuild(stage)
     compare('held', f'held {len(contents)}',
             run(stage, 'report --store a.db status').decode().splitlines()[1])
 
 
-def check_refused(stage, refusal, line=BUNDLE, status=1, kept=('a.db',), **given):
+def check_refused(stage: Stage, refusal: str, line: str = BUNDLE, status: int = 1,
+                  kept: Sequence[str] = ('a.db',), **given: Given) -> None:
     """Compares a refusal, after which the folder has what it had and the store's log, and these
     files are as they were."""
     names, before = {*names_in(stage.room.name), 'a.db-wal'}, [read(stage.at(it)) for it in kept]
@@ -202,9 +210,9 @@ TAKEN = (
 )
 
 
-def played_apart(play, given):
+def played_apart(play: Callable[..., None], given: Sequence[object]) -> Callable[[Stage], None]:
     """A case that plays each of these in a folder of its own."""
-    def play_all(stage):
+    def play_all(stage: Stage) -> None:
         for at, it in enumerate(given):
             with case(f'row {at}, {it!r:.200}'):
                 play(stage, *it)
@@ -212,7 +220,8 @@ def played_apart(play, given):
     return play_all
 
 
-def check_contents_refused(stage, refusal, *contents, lines=(BUNDLE,)):
+def check_contents_refused(stage: Stage, refusal: str, *contents: Sequence[Table],
+                           lines: Sequence[str] = (BUNDLE,)) -> None:
     store_of(stage, *contents)
     for line in lines:
         check_refused(stage, refusal, line)
@@ -223,7 +232,8 @@ CASES['Tables that are one deposit'] = played_apart(check_there_and_back,
                                                     [(store_of, *it) for it in TAKEN])
 
 
-def check_limit(stage, refusal, first, second, later):
+def check_limit(stage: Stage, refusal: str, first: Sequence[Table], second: Sequence[Table],
+                later: Sequence[Table]) -> bytes:
     """Compares that a Full and a Differential make a deposit, and that with a later revision, which
     has more, they don't."""
     store_of(stage, first, second)
@@ -238,9 +248,9 @@ def check_limit(stage, refusal, first, second, later):
     return read(stage.at('done'))
 
 
-def test_most_tables(stage):
+def test_most_tables(stage: Stage) -> None:
     """A bundle has 63 tables at most."""
-    def some(key, front, count):
+    def some(key: str, front: str, count: int) -> list[Table]:
         return [
             contacts(f'{key},X\n'.encode()),
             *(children(f'{key},x\n'.encode(), f'{front}{at}') for at in range(count))
@@ -251,9 +261,9 @@ def test_most_tables(stage):
     compare('tables', '63', f'{len(envelope_in(body)["contents"])}')
 
 
-def test_most_rows(stage):
+def test_most_rows(stage: Stage) -> None:
     """A bundle has 100,000 rows at most."""
-    def some(key, count):
+    def some(key: str, count: int) -> list[Table]:
         return [
             contacts(f'{key},X\n'.encode()),
             children(f'{key}\n'.encode() * count, fields=('id',))
@@ -263,9 +273,9 @@ def test_most_rows(stage):
     compare('rows', '100000', f'{sum(text.count(10) for _, text in formats.sections(body)[1:])}')
 
 
-def test_most_bytes(stage):
+def test_most_bytes(stage: Stage) -> None:
     """A bundle has 16,777,216 bytes at most."""
-    def some(key, count):
+    def some(key: str, count: int) -> list[Table]:
         return [contacts(f'{key},{count * "x"}\n'.encode(), ('id', 'text'))]
 
     # The length of a bundle with texts of 10,000,000 bytes gives that of the second text with which
@@ -279,7 +289,7 @@ def test_most_bytes(stage):
     compare('bytes', f'{MOST_BYTES}', f'{len(body)}')
 
 
-def test_other_objects(stage):
+def test_other_objects(stage: Stage) -> None:
     """A bundle that reads as other objects than those of the store, which no deposit makes, is
     none."""
     store_of(stage, (FIRST, CHILD))
@@ -304,7 +314,7 @@ OTHERS = (
 )
 
 
-def check_no_store(stage, line, made, refusal, is_opened):
+def check_no_store(stage: Stage, line: str, made: Step, refusal: str, is_opened: bool) -> None:
     """Compares a refusal of what is no store, which stays as it is, beside an empty log. An empty
     file is a database without tables then."""
     made.do(stage)
@@ -324,9 +334,9 @@ CASES['What is no store is refused, and nothing is made but a log'] = played_apa
     check_no_store, [(line, *it) for it in OTHERS for line in (CHECK, BUNDLE, TABLES, PAGE)])
 
 
-def test_a_store_that_is_in_use(stage):
+def test_a_store_that_is_in_use(stage: Stage) -> None:
     """Another command has the store."""
-    def meanwhile():
+    def meanwhile() -> None:
         for line in (CHECK, BUNDLE, TABLES, PAGE):
             check_refused(stage, 'S1', line, 3)
 
@@ -338,7 +348,7 @@ def test_a_store_that_is_in_use(stage):
     run(stage, BUNDLE, 'handover')
 
 
-def test_a_body_that_is_no_bundle(stage):
+def test_a_body_that_is_no_bundle(stage: Stage) -> None:
     """The body of the chain's last deposit is no bundle any more."""
     store_of(stage, (FIRST,))
     change_row(stage, 'a.db', 'UPDATE held SET body = ?', (b'escrow-bundle 1\n',))
@@ -346,7 +356,7 @@ def test_a_body_that_is_no_bundle(stage):
         check_refused(stage, 'S1', line, 3)
 
 
-def test_where_nothing_is_written(stage):
+def test_where_nothing_is_written(stage: Stage) -> None:
     """A bundle or a page that can't be written, or whose place is taken."""
     store_of(stage, (FIRST,))
     for made in (Folder('folder'), Text('file', 'text'), Link('link', 'nowhere'),
@@ -364,7 +374,7 @@ def test_where_nothing_is_written(stage):
         stage.check(CHECK, Wanted(3, '', 'E1 -\n'), program='handover', out=full)
 
 
-def test_progress(stage):
+def test_progress(stage: Stage) -> None:
     """How far the work is stands on standard error, if it is asked for: of a short one that it
     begins, of files that they are written."""
     store_of(stage, (FIRST, CHILD))
@@ -399,7 +409,7 @@ NO_WORDS = ('', 'check', 'check --store', 'check --store a.db more',
             'bundle --store a.db --id G1 \udcff')
 
 
-def test_words(stage):
+def test_words(stage: Stage) -> None:
     """Words that are no command, and ids."""
     store_of(stage, (FIRST,))
     names, before = names_in(stage.room.name), read(stage.at('a.db'))

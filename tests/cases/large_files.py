@@ -4,6 +4,7 @@ import os
 
 from tests.support.bundles import compact
 from tests.support.formats import MOST_BYTES
+from tests.support.stage import Stage
 from tests.support.stage import Wanted
 from tests.support.stage import case
 from tests.support.stage import text_of
@@ -39,20 +40,20 @@ FILES = (
 )
 
 
-def check_described(stage, name, content, is_known):
+def check_described(stage: Stage, name: str, content: bytes, is_known: bool) -> None:
     stage.write('files/contact.csv', content)
     wanted = Wanted(0, DESCRIBED, UNTOLD) if is_known else Wanted(0, NONE_DESCRIBED, UNKNOWN)
     with case(name):
         stage.check('describe files', wanted, program='pack')
 
 
-def test_headings_of_long_files(stage):
+def test_headings_of_long_files(stage: Stage) -> None:
     """The heading of a file is looked for in its first 65,536 bytes."""
     for it in FILES:
         check_described(stage, *it)
 
 
-def test_files_that_no_bundle_takes(stage):
+def test_files_that_no_bundle_takes(stage: Stage) -> None:
     """A file of 100 MB is described. In a bundle it is too large, and so are many rows."""
     large = HEADING + ROW * 16_700_000
     check_described(stage, 'a file of 100 MB', large, True)
@@ -78,7 +79,7 @@ def test_files_that_no_bundle_takes(stage):
     os.remove(stage.at('out'))
 
 
-def test_files_that_no_bundle_takes_are_told_why(stage):
+def test_files_that_no_bundle_takes_are_told_why(stage: Stage) -> None:
     """With `-v` the reason comes before the way."""
     stage.write('envelope.json', DESCRIBED.encode())
     stage.write('files/contact.csv', HEADING.ljust(MOST_BYTES + 1, b'x'))

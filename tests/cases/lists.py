@@ -6,6 +6,8 @@ version 1: each is migrated, and then the events come, many of them arrivals tha
 answered."""
 import contextlib
 import functools
+from collections.abc import Callable
+from collections.abc import Sequence
 
 from tests.support.first_store import first_rows
 from tests.support.first_store import first_script
@@ -14,6 +16,7 @@ from tests.support.formats import manifest
 from tests.support.harness import Harness
 from tests.support.model import Desk
 from tests.support.reports import report
+from tests.support.stage import Stage
 from tests.support.stage import case
 from tests.support.stage import text_of
 from tests.support.telling import answer
@@ -34,7 +37,7 @@ LISTS = 25
 EVENTS, RUN_EVENTS, LATER_EVENTS = 18, 24, 16
 
 
-def draw_migrated(chance, closes):
+def draw_migrated(chance: Chance, closes: bool) -> History:
     """A list after a migration. In one of three cases an event is an early one
     again."""
     bodies, rows = drawn(chance)
@@ -58,7 +61,7 @@ def draw_migrated(chance, closes):
 class Play:
     """A desk that plays a list, and the model."""
 
-    def __init__(self, stage, desk, history):
+    def __init__(self, stage: Stage, desk: Harness, history: History) -> None:
         self.stage, self.desk = stage, desk
         for name, content in history.files.items():
             stage.write(name, content)
@@ -73,11 +76,11 @@ class Play:
         else:
             desk.check('create first.csv', 'created\n')
 
-    def check_state(self):
+    def check_state(self) -> None:
         for question, wanted in state(self.model).items():
             self.desk.check(question, wanted)
 
-    def one_by_one(self, lines):
+    def one_by_one(self, lines: Sequence[str]) -> None:
         for line in lines:
             if line == 'close':
                 self.check_state()
@@ -89,14 +92,15 @@ class Play:
                 self.desk.check('parked', report('parked', self.model.parked_rows()))
         self.check_state()
 
-    def in_one_call(self, lines):
+    def in_one_call(self, lines: Sequence[str]) -> None:
         answers = [answer(self.stage, self.model, it) for it in lines]
         self.desk.check(f'run {len(lines)}', text_of(it.text for it in answers), *lines)
         self.desk.check('writes', text_of([sum(it.writes for it in answers)]))
         self.check_state()
 
 
-def play_all(stage, play, draw, first):
+def play_all(stage: Stage, play: Callable[['Play', Sequence[str]], None],
+             draw: Callable[..., History], first: int) -> None:
     """Plays the lists of some seeds, each over a desk of its own."""
     for seed in range(first, first + LISTS):
         history = draw(Chance.of_seed(seed), closes=play == Play.one_by_one)

@@ -4,6 +4,7 @@ import functools
 import hashlib
 import os
 import shutil
+from collections.abc import Callable
 
 from tests.cases.handovers import BUNDLE
 from tests.cases.handovers import CHECK
@@ -19,6 +20,7 @@ from tests.cases.handovers import names_in
 from tests.cases.handovers import played_apart
 from tests.cases.handovers import store_of
 from tests.cases.tables import sheets_of
+from tests.support.bundles import Table
 from tests.support.documents import csv_text
 from tests.support.files import read
 from tests.support.formats import KINDS
@@ -90,8 +92,10 @@ def check_script(stage: Stage, release: Release) -> None:
     shutil.rmtree(stage.at('out'))
 
 
-CASES = {f'load.sql of {name}': functools.partial(check_script, release=it)
-         for name, it in SAMPLES.items()}
+CASES: dict[str, Callable[[Stage], None]] = {
+    f'load.sql of {name}': functools.partial(check_script, release=it)
+    for name, it in SAMPLES.items()
+}
 LONG = 'a' * 64
 # The tables of a Full and of a Differential, of which PostgreSQL can't load one: by a name, a NUL,
 # or a line at which psql stops.
@@ -108,7 +112,7 @@ CASES['Tables that PostgreSQL can not load'] = played_apart(
     functools.partial(check_contents_refused, lines=(LOAD,)), UNLOADED)
 
 
-def check_loaded(stage: Stage, *tables: object) -> None:
+def check_loaded(stage: Stage, *tables: Table) -> None:
     store_of(stage, tables)
     run(stage, LOAD, 'handover')
     shutil.rmtree(stage.at('out'))

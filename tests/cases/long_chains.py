@@ -6,6 +6,8 @@ import datetime
 import functools
 import hashlib
 import sqlite3
+from collections.abc import Iterable
+from collections.abc import Sequence
 from dataclasses import dataclass
 
 from tests.support.bundles import Header
@@ -16,6 +18,7 @@ from tests.support.limits import MOST_LISTED
 from tests.support.registries import csv_text
 from tests.support.reports import report
 from tests.support.reports import status
+from tests.support.stage import Stage
 from tests.support.stage import Wanted
 from tests.support.stage import compare
 from tests.support.stage import text_of
@@ -27,7 +30,7 @@ FIELDS = ('name', 'clID')
 HOSTS, EARLY, LATE = tuple(f'ns{at}.example' for at in range(11)), 'early.example', 'late.example'
 
 
-def header_of(day, resend=0):
+def header_of(day: int, resend: int = 0) -> Header:
     """A Full, or a Differential on the deposit of the day before."""
     watermark = f'{datetime.date(1970, 1, 1) + datetime.timedelta(day)}T00:00:00Z'
     return Header(f'N{day}',
@@ -43,10 +46,10 @@ class Deposit:
     contents: dict
     resend: int = 0
 
-    def header(self):
+    def header(self) -> Header:
         return header_of(self.day, self.resend)
 
-    def body(self):
+    def body(self) -> bytes:
         contents = Table('host', 'host', 'parent', FIELDS, csv_text(self.contents.items()))
         return deposit(
             self.header(), [contents],
@@ -59,10 +62,11 @@ FIRST = Deposit(1, (), {EARLY: 'R1'})
 REVISED = Deposit(1, (HOSTS[3],), {LATE: 'R1', HOSTS[2]: 'R1'}, resend=1)
 
 
-def check_desk(stage, chain, held, awaited):
+def check_desk(stage: Stage, chain: Sequence[Deposit], held: int, awaited: int | str) -> None:
     """Compares what is told of a desk with this chain, where so many deposits came, and this
     revision of the one on the Full is awaited."""
-    found, headers = {}, [it.header() for it in chain]
+    found: dict[str, str] = {}
+    headers = [it.header() for it in chain]
     for it in chain:
         found = {name: sponsor
                  for name, sponsor in found.items() if name not in it.deletes} | it.contents
@@ -83,7 +87,7 @@ def check_desk(stage, chain, held, awaited):
     stage.check('export --store a.db host', Wanted(0, report('export', cells)))
 
 
-def take(stage, folder, deposits, receipt):
+def take(stage: Stage, folder: str, deposits: Iterable[Deposit], receipt: int) -> None:
     """Takes a folder of deposits, all of which are held, in their order. The first has this
     receipt."""
     told = []
@@ -93,7 +97,7 @@ def take(stage, folder, deposits, receipt):
     stage.check(f'take --store a.db {folder}', Wanted(0, report('receipts', told)))
 
 
-def check_chain(stage, steps):
+def check_chain(stage: Stage, steps: int) -> None:
     """Takes the deposits of a chain of so many steps, some at a time, and then the other revision
     near its front. The others have the hosts by turns, and every third day deletes one."""
     others = [
@@ -126,7 +130,7 @@ FIRST_MISSING = ('1970-01-01T00:00:00Z,FULL,,missing,,0',
 ALL_HELD = ('1970-01-01T00:00:00Z,FULL,0,chain,,', '1981-03-19T00:00:00Z,DIFF,0,chain,,')
 
 
-def hold(store, deposits):
+def hold(store: str, deposits: Sequence[tuple[Header, bytes]]) -> None:
     """Holds all deposits but the first in a store, each with its receipt, as arrivals would that
     come the last first."""
     taken = [(at, row, deposits[row][1]) for at, row in enumerate(range(MOST_LISTED - 1, 0, -1), 1)]
@@ -139,7 +143,7 @@ def hold(store, deposits):
             [(at, f'n{row}', hashlib.sha256(body).digest(), row) for at, row, body in taken])
 
 
-def check_longest(stage, held, chain, end, first, last):
+def check_longest(stage: Stage, held: int, chain: int, end: str, first: str, last: str) -> None:
     """Compares the status and the gaps of the longest manifest: its first line and its last are
     given, the others are like the last."""
     stage.check('report --store a.db status', Wanted(0, status(MOST_LISTED, held, held, chain,
@@ -151,7 +155,7 @@ def check_longest(stage, held, chain, end, first, last):
     stage.check('report --store a.db gaps', Wanted(0, report('gaps', [first, *between, last])))
 
 
-def test_the_longest_manifest(stage):
+def test_the_longest_manifest(stage: Stage) -> None:
     """The longest manifest: all its deposits are held but the first, and then all."""
     deposits = [(it, deposit(it)) for it in map(header_of, range(MOST_LISTED))]
     stage.write('listed.csv', manifest(deposits))

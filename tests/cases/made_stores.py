@@ -5,7 +5,11 @@ import contextlib
 import functools
 import os
 import sqlite3
+from collections.abc import Iterable
+from collections.abc import Mapping
+from collections.abc import Sequence
 from dataclasses import dataclass
+from typing import TypeVar
 
 from tests.support import TOP
 from tests.support.bundles import Header
@@ -14,6 +18,7 @@ from tests.support.bundles import deposit
 from tests.support.bundles import manifest
 from tests.support.files import read
 from tests.support.first_store import TABLES
+from tests.support.first_store import Values
 from tests.support.first_store import first_rows
 from tests.support.first_store import write_store
 from tests.support.registries import csv_text
@@ -22,6 +27,7 @@ from tests.support.releases import MISSING
 from tests.support.releases import folder
 from tests.support.releases import sample
 from tests.support.stage import Failed
+from tests.support.stage import Stage
 from tests.support.stores import contents
 from tests.support.stores import copy
 from tests.support.stores import is_whole
@@ -29,6 +35,11 @@ from tests.support.stores import opened
 from tests.support.stores import readings
 from tests.support.stores import rows
 
+# What a run gives, by what is run: its status, and its standard output and error.
+Key = TypeVar('Key')
+Told = tuple[int, str, str]
+# The rows of each table.
+Tables = dict[str, list[tuple[object, ...]]]
 FIRST = f'{TOP}/samples/first'
 NEW_TABLES = {'parked': 'digest BLOB PRIMARY KEY, body BLOB NOT NULL',
               'moment': 'id INTEGER PRIMARY KEY CHECK (id = 1), watermark INTEGER NOT NULL'}
@@ -39,22 +50,22 @@ OTHERS = (('init', '--manifest', 'manifest.csv'), ('take', 'taken'),
           ('serve', '--port', '65535', '--count', '1'), ('report', 'status'), ('export', 'domain'))
 
 
-def check(what, wanted, found):
+def check(what: str, wanted: object, found: object) -> None:
     if found != wanted:
         raise Failed(f'{what}:\nwanted {wanted!r:.600}\ngot    {found!r:.600}')
 
 
-def run(stage, command, store, *words):
+def run(stage: Stage, command: str, store: str, *words: str) -> Told:
     """The status of a run, its standard output and its standard error."""
     got = stage.end(stage.begin([command, '--store', store, *words]))
     return got.status, got.out.decode(), got.err.decode()
 
 
-def readings_of(stage, store):
+def readings_of(stage: Stage, store: str) -> dict[str, Told]:
     return readings(lambda command, _, *words: run(stage, command, *words), store)
 
 
-def rows_of(stage, store):
+def rows_of(stage: Stage, store: str) -> Tables:
     """The rows of a store's tables, after the C library's checks of the file."""
     check(f'the checks of {store}', True, is_whole(stage.at(store)))
     return rows(stage.at(store))
@@ -62,7 +73,7 @@ def rows_of(stage, store):
 
 # ---- a store of the texts of the tables
 
-def write_plain(stage, store, tables):
+def write_plain(stage: Stage, store: str, tables: Mapping[str, str]) -> None:
     """Makes a store of the first sample's manifest, with its tables in this order, in small
     letters."""
     listed = first_rows(read(f'{FIRST}/manifest.csv'), [])['listed']
@@ -73,7 +84,7 @@ def write_plain(stage, store, tables):
         database.executemany('insert into listed values (?, ?, ?, ?, ?, ?, ?)', listed)
 
 
-def test_plain_store(stage):
+def test_plain_store(stage: Stage) -> None:
     """A store that is made of the texts of the tables alone is one; with the tables in another
     order it is none."""
     tables = TABLES | NEW_TABLES
@@ -98,12 +109,12 @@ class Release:
     """A manifest with the arrivals that version 1 took, numbers with bodies; what arrives after the
     migration; and further parts."""
     manifest: bytes
-    arrivals: list
-    more: tuple = ()
-    parts: tuple = ()
+    arrivals: Sequence[tuple[str, bytes]]
+    more: Sequence[tuple[str, bytes]] = ()
+    parts: Sequence[bytes] = ()
 
 
-def as_later(told):
+def as_later(told: Mapping[Key, Told]) -> dict[Key, Told]:
     """What this version says: A5, where version 1 said A2."""
     return {
         what: (status, out.replace(',A2,', ',A5,'), err)
@@ -111,12 +122,12 @@ def as_later(told):
     }
 
 
-def rows_as_later(found):
+def rows_as_later(found: Tables) -> Tables:
     receipts = [(*it[:3], 5 if it[3] == 2 else it[3], *it[4:]) for it in found['receipt']]
     return found | {'receipt': sorted(receipts, key=repr)}
 
 
-def texts_of(stage, store):
+def texts_of(stage: Stage, store: str) -> list[str]:
     with opened(stage.at(store)) as database:
         return [
             it for it, in database.execute(
@@ -124,7 +135,7 @@ def texts_of(stage, store):
         ]
 
 
-def check_migration(stage, kept):
+def check_migration(stage: Stage, kept: Mapping[str, Sequence[Values]]) -> None:
     """Of a store of version 1, with these rows, nothing changes but the version, and two tables
     that are empty. Any other command refuses it, and so does a second migration."""
     write_store(stage.at('a.db'), kept)
@@ -142,7 +153,7 @@ def check_migration(stage, kept):
     check('the file after it', whole, contents(stage.at('a.db'))[0])
 
 
-def check_same(stage, store, other):
+def check_same(stage: Stage, store: str, other: str) -> None:
     """Compares reports, exports, tables and rows of a migrated store with those of another one."""
     check('reports and exports', as_later(readings_of(stage, other)),
           as_later(readings_of(stage, store)))
@@ -150,7 +161,7 @@ def check_same(stage, store, other):
     check('rows', rows_as_later(rows_of(stage, other)), rows_as_later(rows_of(stage, store)))
 
 
-def go_on(stage, steps):
+def go_on(stage: Stage, steps: Iterable[tuple[str, ...]]) -> None:
     """Takes the arrivals again, amends, and takes what comes later, on a migrated store and on the
     other one."""
     for start, store in (('a.db', 'b.db'), ('fresh.db', 'c.db')):
@@ -163,7 +174,7 @@ def go_on(stage, steps):
     check_same(stage, 'b.db', 'c.db')
 
 
-def check_release(stage, release):
+def check_release(stage: Stage, release: Release) -> None:
     """Migrates a store that version 1 made of a release. Then it is as one that took the same
     arrivals, but for the bodies that no row listed; and once these come again, before or after
     their rows, it is the same."""
@@ -190,18 +201,19 @@ def check_release(stage, release):
         go_on(stage, amendments)
 
 
-def header(id, type, day, prev='', resend=0):
+def header(id: str, type: str, day: int, prev: str = '', resend: int = 0) -> Header:
     return Header(id, type, f'2024-03-{day:02}T00:00:00Z', prev, resend)
 
 
-def of_domains(it, domains, statuses):
+def of_domains(it: Header, domains: Iterable[Sequence[str]],
+               statuses: Iterable[Sequence[str]]) -> bytes:
     return deposit(it, [
         Table('domainStatuses', 'domain', 'child', ('domainName', 'status'), csv_text(statuses)),
         Table('domain', 'domain', 'parent', ('name', 'clID'), csv_text(domains))
     ])
 
 
-def each_verdict():
+def each_verdict() -> Release:
     """Arrivals of each verdict, and of each twice under other numbers. The bodies that no row lists
     are listed by two parts, as a deposit, as one that doesn't read, and as one that differs from
     its row; one stays unlisted."""

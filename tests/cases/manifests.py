@@ -3,6 +3,7 @@ have, and the union of two."""
 from tests.support.bundles import HEADING
 from tests.support.clients import new_desk
 from tests.support.harness import Harness
+from tests.support.stage import Stage
 from tests.support.stage import case
 from tests.support.stage import compare
 from tests.support.stage import text_of
@@ -111,20 +112,20 @@ UNIONS = (
 )
 
 
-def test_the_first_line(stage):
+def test_the_first_line(stage: Stage) -> None:
     """The heading, and first lines that are none."""
     for text, said in FIRST_LINES:
         compare(f'what is said of {text}', said, said_of(stage, text))
 
 
-def test_the_least_fault_of_a_text(stage):
+def test_the_least_fault_of_a_text(stage: Stage) -> None:
     """The least fault of a text."""
     for said, *rows in TEXTS:
         compare(f'what is said of {rows}', said,
                 said_of(stage, text_of_rows(it.rsplit(' ', 1) for it in rows)))
 
 
-def test_the_values_of_rows(stage):
+def test_the_values_of_rows(stage: Stage) -> None:
     """The values of rows, and the rows that digests name."""
     stage.write('listed.csv', WORKED.encode())
     with new_desk(stage) as desk:
@@ -137,13 +138,13 @@ def test_the_values_of_rows(stage):
             WORKED_ROWS)
 
 
-def fulls(count):
+def fulls(count: int) -> bytes:
     """Fulls, one nanosecond apart."""
     return text_of_rows(
         (f'F{at},FULL,2024-03-03T00:00:00.{at:09}Z,,', at) for at in range(1, count + 1))
 
 
-def test_how_many_rows_and_bytes_there_may_be(stage):
+def test_how_many_rows_and_bytes_there_may_be(stage: Stage) -> None:
     """As many rows and bytes as a manifest may have, and more."""
     heading, row = HEADING.encode(), f'F1,FULL,2024-03-03T00:00:00Z,,0,{"01" * 32}\n'.encode()
     sizes = (
@@ -157,7 +158,7 @@ def test_how_many_rows_and_bytes_there_may_be(stage):
         compare(f'what is said of {name}', said, said_of(stage, text))
 
 
-def test_the_union_of_two(stage):
+def test_the_union_of_two(stage: Stage) -> None:
     """The union of two manifests, or its fault."""
     for first, second, said, ids in UNIONS:
         stage.write('first.csv', text_of_rows(first))

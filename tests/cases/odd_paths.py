@@ -9,6 +9,9 @@ import signal
 import socket
 import stat
 import threading
+from collections.abc import Callable
+from collections.abc import Iterator
+from collections.abc import Sequence
 
 from tests.support import TOP
 from tests.support.files import read
@@ -20,6 +23,8 @@ from tests.support.reports import report
 from tests.support.sockets import response_to
 from tests.support.sockets import serve
 from tests.support.stage import Failed
+from tests.support.stage import Got
+from tests.support.stage import Stage
 from tests.support.stage import Wanted
 from tests.support.stage import faults
 from tests.support.stores import copy
@@ -39,28 +44,28 @@ TAKE = ('take', '--store', 'a.db')
 GIGABYTE, NOBODY = 2**30, 65534
 
 
-def refused(path, out=''):
+def refused(path: str, out: str = '') -> Wanted:
     return Wanted(3, out, f'E1 {path or "(an empty path)"}\n')
 
 
-def manifest_fault(fault):
+def manifest_fault(fault: str) -> Wanted:
     return Wanted(1, '', f'{fault}\n')
 
 
 # ---- what is no plain file
 
-def linked(target):
+def linked(target: str) -> Callable[[str], None]:
     return lambda path: os.symlink(target, path)
 
 
-def sparse(size):
-    def make(path):
+def sparse(size: int) -> Callable[[str], None]:
+    def make(path: str) -> None:
         with open(path, 'ab') as file:
             file.truncate(size)
     return make
 
 
-def listening(path):
+def listening(path: str) -> None:
     """A socket in the file system. It stays as the listener goes."""
     with socket.socket(socket.AF_UNIX) as listener:
         listener.bind(path)
@@ -80,7 +85,7 @@ ODD = {
 }
 
 
-def make_odd(stage, folder='.'):
+def make_odd(stage: Stage, folder: str = '.') -> None:
     os.makedirs(stage.at(folder), exist_ok=True)
     for name, make in ODD.items():
         if make:
@@ -88,17 +93,17 @@ def make_odd(stage, folder='.'):
     stage.write('file', b'')
 
 
-def remove(path):
+def remove(path: str) -> None:
     with contextlib.suppress(FileNotFoundError):
         (os.rmdir if os.path.isdir(path) and not os.path.islink(path) else os.remove)(path)
 
 
-def bounded(limits=(), **others):
+def bounded(limits: Sequence[tuple[int, int]] = (), **others: Sequence[int]) -> Callable[[], None]:
     """What a child does before it becomes the program: its limits and others."""
     return prepared([(resource.RLIMIT_AS, GIGABYTE), *limits], **others)
 
 
-def check(stage, words, *wanted, **before):
+def check(stage: Stage, words: Sequence[str], *wanted: Wanted, **before: object) -> Got:
     """Runs the program, which must give one of these."""
     got = stage.end(stage.begin(words, prepare=bounded(**before)))
     if all(faults(it, got) for it in wanted):
@@ -106,7 +111,8 @@ def check(stage, words, *wanted, **before):
     return got
 
 
-def make_store(stage, taken=True, store='a.db'):
+def make_store(stage: Stage, taken: bool = True,
+               store: str = 'a.db') -> dict[str, list[tuple[object, ...]]]:
     """A store of the second sample, with its folder taken if asked, and its rows."""
     copy(None, stage.at(store))
     check(stage, ('init', '--store', store, '--manifest', MANIFEST), LISTED)
@@ -115,13 +121,14 @@ def make_store(stage, taken=True, store='a.db'):
     return rows(stage.at(store))
 
 
-def check_whole(stage, what, before=None, store='a.db'):
+def check_whole(stage: Stage, what: str, before: dict[str, list[tuple[object, ...]]] | None = None,
+                store: str = 'a.db') -> None:
     """Fails if a store is not whole, or not as it was before."""
     if not is_whole(stage.at(store)) or before not in (None, rows(stage.at(store))):
         raise Failed(f'{what}: the store has changed')
 
 
-def check_init(stage, manifest, *wanted):
+def check_init(stage: Stage, manifest: str, *wanted: Wanted) -> None:
     """`init` by a manifest. Where it is refused there is no store."""
     got = check(stage, ('init', '--store', 'new.db', '--manifest', manifest), *wanted)
     if os.path.exists(stage.at('new.db')) != (got.status == 0):
@@ -130,11 +137,11 @@ def check_init(stage, manifest, *wanted):
 
 
 @contextlib.contextmanager
-def beside(work):
+def beside(work: Callable[[], object]) -> Iterator[None]:
     """Does something again and again in another thread, until the block ends."""
     going = True
 
-    def repeat():
+    def repeat() -> None:
         while going:
             work()
     worker = threading.Thread(target=repeat)
@@ -164,7 +171,7 @@ MANIFESTS = (
 )
 
 
-def test_manifests(stage):
+def test_manifests(stage: Stage) -> None:
     """The manifest is a link, a folder, a device, a pipe, or far too long."""
     make_odd(stage)
     for name, make, wanted in (*MANIFESTS, *((it, None, refused(it)) for it in ODD)):
@@ -177,7 +184,7 @@ def test_manifests(stage):
     os.close(holder)
 
 
-def test_a_manifest_that_changes(stage):
+def test_a_manifest_that_changes(stage: Stage) -> None:
     """A manifest that changes while it is read: what was there of it at some time is read."""
     path, text = stage.at('m.csv'), read(MANIFEST)
     parts = [
@@ -220,7 +227,7 @@ LOGS = (os.mkdir, os.mkfifo, linked('no-log'), lambda path: os.symlink(path, pat
                            bytes(range(256)) * 20))
 
 
-def test_stores(stage):
+def test_stores(stage: Stage) -> None:
     """The store is a link, a folder, a device, a pipe, or another file."""
     make_odd(stage)
     for store, make, made, told in STORES:
@@ -230,7 +237,7 @@ def test_stores(stage):
         check(stage, ('report', '--store', store, 'receipts'), *told)
 
 
-def test_logs(stage):
+def test_logs(stage: Stage) -> None:
     """What is beside a store in the place of its log is something else."""
     before, log = make_store(stage), stage.at('a.db-wal')
     for at, make in enumerate(LOGS):
@@ -241,7 +248,7 @@ def test_logs(stage):
         check_whole(stage, f'log {at}', before)
 
 
-def test_a_store_by_a_link(stage):
+def test_a_store_by_a_link(stage: Stage) -> None:
     """A store that is named by a link is locked by either name, and has by either what was answered
     before a kill."""
     make_store(stage)
@@ -261,7 +268,7 @@ NAMES = (b'a\nS1', b'b\x1b[2J', b'c\\', b'd\\\t', b'e\xff')
 TOLD = 'N1 (a name that is no UTF-8)\nN1 a\\nS1\nN1 b\\u{1b}[2J\nN1 c\\\nN1 d\\\\\\t\n'
 
 
-def test_folders(stage):
+def test_folders(stage: Stage) -> None:
     """The folder is a link, a file, a device, a pipe; it holds these and others, or is empty."""
     make_odd(stage)
     before = make_store(stage)
@@ -285,7 +292,7 @@ def test_folders(stage):
         check_whole(stage, f'{folder:.40}', before)
 
 
-def replaced(make):
+def replaced(make: Callable[[str], object]) -> Callable[[str], object]:
     return lambda path: (os.remove(path), make(path))
 
 
@@ -295,7 +302,7 @@ CHANGES = ((os.remove, None), (replaced(os.mkdir), None), (replaced(linked(MANIF
             None), (replaced(os.mkfifo), None), (sparse(17 * 10**6), Wanted(1, FIRST, 'E2 z\n')))
 
 
-def test_files_that_change(stage):
+def test_files_that_change(stage: Stage) -> None:
     """A file of the folder goes, or becomes something else, once the folder is listed."""
     for at, (change, wanted) in enumerate(CHANGES):
         make_store(stage, taken=False)
@@ -311,7 +318,7 @@ def test_files_that_change(stage):
         check(stage, RECEIPTS, Wanted(0, FIRST))
 
 
-def test_a_file_that_is_rewritten(stage):
+def test_a_file_that_is_rewritten(stage: Stage) -> None:
     """A file of the folder is written anew while it is read: it is held, or another body comes."""
     make_store(stage, taken=False)
     path, body = stage.at('folder/n1'), read(f'{DEPOSITS}/n1')
@@ -326,7 +333,7 @@ def test_a_file_that_is_rewritten(stage):
     check(stage, (*TAKE, 'folder'), Wanted(0, part=',n1,A1,,F1,0,'))
 
 
-def test_the_store_in_its_folder(stage):
+def test_the_store_in_its_folder(stage: Stage) -> None:
     """The store lies in the folder that is taken: it is an arrival that no row lists, and stays
     locked."""
     os.mkdir(stage.at('own'))
@@ -341,7 +348,7 @@ def test_the_store_in_its_folder(stage):
 
 # ---- rights, streams and limits
 
-def test_rights(stage):
+def test_rights(stage: Stage) -> None:
     """What may not be read, searched or written. (This asks for root.)"""
     if os.geteuid():
         return
@@ -381,7 +388,7 @@ def test_rights(stage):
     check(stage, (*TAKE, 'some'), WHOLE, user=NOBODY)
 
 
-def test_closed_streams(stage):
+def test_closed_streams(stage: Stage) -> None:
     """Standard streams are closed: a store never gets what is printed."""
     for closed in ((1,), (0, 1), (0, 1, 2), (2,)):
         for words in (('init', '--store', 'b.db', '--manifest', MANIFEST), (*TAKE, DEPOSITS)):
@@ -394,7 +401,7 @@ def test_closed_streams(stage):
                         store='b.db' if words[0] == 'init' else 'a.db')
 
 
-def test_limits(stage):
+def test_limits(stage: Stage) -> None:
     """The system allows no longer file, or no more open files: what was answered is there."""
     few, small = (resource.RLIMIT_NOFILE, 4), (resource.RLIMIT_FSIZE, 60_000)
     for limit, ignored in ((few, ()), (small, ()), (small, (signal.SIGXFSZ,))):

@@ -8,6 +8,10 @@ import os
 import random
 import re
 import shutil
+from collections.abc import Iterable
+from collections.abc import Iterator
+from collections.abc import Mapping
+from collections.abc import Sequence
 
 from tests.cases import bundles
 from tests.cases import deposits
@@ -26,6 +30,7 @@ from tests.support.bundles import bundle_of
 from tests.support.bundles import row_of
 from tests.support.bundles import sealed
 from tests.support.bundles import section
+from tests.support.formats import Place
 from tests.support.formats import Refused
 from tests.support.formats import found_in
 from tests.support.formats import moment_text
@@ -33,6 +38,7 @@ from tests.support.limits import MOST_BYTES
 from tests.support.outputs import run_held_up
 from tests.support.reports import report
 from tests.support.stage import Got
+from tests.support.stage import Stage
 from tests.support.stage import Wanted
 from tests.support.stage import case
 from tests.support.stage import compare_all
@@ -123,7 +129,7 @@ NO_MANIFESTS = (
 )
 
 
-def bodies_refused():
+def bodies_refused() -> Iterator[bytes]:
     """Bodies that are no deposit, of the cases for each refusal."""
     yield from (it.body() for it, _ in deposits.REFUSED)
     yield from (body for body, _ in deposits.UNREADABLE)
@@ -139,7 +145,7 @@ def bodies_refused():
 # ---- the model
 
 
-def values_of(name, place, prev, resend):
+def values_of(name: str, place: Place, prev: str | None, resend: int) -> dict[str, str]:
     """What a header says, each value by its name, as a text."""
     return {
         'id': name,
@@ -150,11 +156,11 @@ def values_of(name, place, prev, resend):
     }
 
 
-def said(values):
+def said(values: Mapping[str, str]) -> str:
     return '{id} {type} {watermark} resend {resend}'.format(**values)
 
 
-def found(body, listed, is_again):
+def found(body: bytes, listed: Mapping[str, str] | None, is_again: bool) -> str:
     """What is found of a body, by what its row says, or None."""
     where, read = f'listed as {said(listed)}' if listed else 'not listed', found_in(body)
     if isinstance(read, Refused):
@@ -173,7 +179,7 @@ def found(body, listed, is_again):
     return f'A1 again, {where}' if is_again else f'A1, {where}'
 
 
-def lines_of(manifest, files):
+def lines_of(manifest: bytes, files: Mapping[str, bytes]) -> list[str]:
     """The lines for files, the bytes of each by its name, and for the rows without a file."""
     rows = {digest: values_of(*header) for *header, digest in formats.manifest(manifest)}
     seen, lines = set(), []
@@ -184,7 +190,7 @@ def lines_of(manifest, files):
     return [*lines, *(f'no file: {said(it)}' for digest, it in rows.items() if digest not in seen)]
 
 
-def set_up(stage, rows, files):
+def set_up(stage: Stage, rows: Sequence[str], files: Mapping[str, bytes]) -> None:
     stage.write('manifest.csv', (HEADING + ''.join(rows)).encode())
     shutil.rmtree(stage.at('files'), ignore_errors=True)
     os.mkdir(stage.at('files'))
@@ -192,12 +198,13 @@ def set_up(stage, rows, files):
         stage.write(f'files/{name}', body)
 
 
-def check_lines(stage, rows, files, wanted, status=1):
+def check_lines(stage: Stage, rows: Sequence[str], files: Mapping[str, bytes],
+                wanted: Iterable[str], status: int = 1) -> None:
     set_up(stage, rows, files)
     stage.check(LINE, Wanted(status, text_of(wanted)), program='pack')
 
 
-def check_folder(stage, rows, files):
+def check_folder(stage: Stage, rows: Sequence[str], files: Mapping[str, bytes]) -> list[str]:
     """Compares what is said of a folder with the model, and gives its lines. (The model doesn't
     know where a text is no JSON.)"""
     set_up(stage, rows, files)
@@ -211,7 +218,7 @@ def check_folder(stage, rows, files):
     return wanted
 
 
-def check_taken(stage, lines):
+def check_taken(stage: Stage, lines: Iterable[str]) -> None:
     """Compares the lines with what a new store says of the folder that is taken."""
     wanted = [
         f'{it[1]} {it[2]}' for line in lines
@@ -228,7 +235,7 @@ def check_taken(stage, lines):
     compare_all('what is taken', wanted, came)
 
 
-def test_worked_releases(stage):
+def test_worked_releases(stage: Stage) -> None:
     """The worked release, whole, without some of its files, and with some of them twice."""
     rows = [line_of(it) for it in NAMES]
     files = {f'n{at}': bytes_of(it) for at, it in enumerate(NAMES)}
@@ -246,7 +253,7 @@ def test_worked_releases(stage):
             compare_all('model', wanted, lines_of((HEADING + ''.join(rows)).encode(), given))
 
 
-def test_a_folder_one_level_too_high(stage):
+def test_a_folder_one_level_too_high(stage: Stage) -> None:
     """The folder above that of the deposits: its files would be parked, and all deposits are
     missing."""
     rows = [line_of(it) for it in NAMES]
@@ -265,7 +272,7 @@ def test_a_folder_one_level_too_high(stage):
                 Wanted(0, text_of(wanted)), program='pack')
 
 
-def test_deposits_that_differ_from_their_rows(stage):
+def test_deposits_that_differ_from_their_rows(stage: Stage) -> None:
     """Each value in which a deposit differs from its row."""
     for row, listed, told in DIFFERING:
         with case(row):
@@ -281,14 +288,14 @@ def test_deposits_that_differ_from_their_rows(stage):
         ])
 
 
-def listed_apart(bodies):
+def listed_apart(bodies: Iterable[bytes]) -> list[str]:
     """Rows that list each body, as Fulls at watermarks of their own."""
     return [
         row_of(f'B{at},FULL,2024-03-03T00:00:00.{at:09}Z,,', body) for at, body in enumerate(bodies)
     ]
 
 
-def test_where_bodies_are_no_deposit(stage):
+def test_where_bodies_are_no_deposit(stage: Stage) -> None:
     """Where bodies are wrong, each refusal, listed and not listed."""
     bodies = list(dict.fromkeys(bodies_refused()))
     compare_all('refusals', range(1, 12), sorted({found_in(it).code for it in bodies}))
@@ -304,7 +311,7 @@ def test_where_bodies_are_no_deposit(stage):
             ])
 
 
-def test_files_that_are_not_looked_at(stage):
+def test_files_that_are_not_looked_at(stage: Stage) -> None:
     """Names that are no numbers, files that are too long, links, pipes and folders."""
     rows = [line_of('F1')]
     set_up(
@@ -326,7 +333,7 @@ def test_files_that_are_not_looked_at(stage):
                 Wanted(1, report('receipts', ['1,n1,A1,,F1,0,new,0']), text_of(told)))
 
 
-def test_manifests_and_folders_that_are_refused(stage):
+def test_manifests_and_folders_that_are_refused(stage: Stage) -> None:
     """A manifest or a folder that is refused."""
     for text, fault in NO_MANIFESTS:
         set_up(stage, [], {'n1': SAMPLE})
@@ -341,7 +348,7 @@ def test_manifests_and_folders_that_are_refused(stage):
     stage.check('check --manifest manifest.csv', Wanted(2, err=None), program='pack')
 
 
-def test_a_file_that_can_not_be_read(stage):
+def test_a_file_that_can_not_be_read(stage: Stage) -> None:
     """A file that is gone once the folder is listed stops the check."""
     set_up(stage, [line_of(it) for it in ('F1', 'F5', 'I4')],
            {'n1': bytes_of('F1'), 'n2': bytes_of('F5'), 'n3': bytes_of('I4')})
@@ -352,7 +359,7 @@ def test_a_file_that_can_not_be_read(stage):
     stage.compare(LINE, Wanted(3, ''.join(lines), 'E1 files/n3\n'), got, 'pack')
 
 
-def damaged(chance, body):
+def damaged(chance: random.Random, body: bytes) -> bytes:
     """A body with some of its bytes lost, doubled, or others."""
     at = chance.randrange(len(body))
     end = min(len(body), at + chance.choice((1, 1, 2, 8)))
@@ -360,7 +367,7 @@ def damaged(chance, body):
         (b'', b'\n', b',', b'"', b'0', b'\xff', b'x', body[at:end] * 2)) + body[end:]
 
 
-def changed(chance, body):
+def changed(chance: random.Random, body: bytes) -> bytes:
     """A body with another value of a member, or without it."""
     (_, text), *files = formats.sections(body)
     value = json.loads(text)
@@ -374,7 +381,7 @@ def changed(chance, body):
     return sealed(json.dumps(value).encode(), files)
 
 
-def rewritten(chance, body):
+def rewritten(chance: random.Random, body: bytes) -> bytes:
     (_, text), *files = formats.sections(body)
     if not files:
         return body
@@ -386,7 +393,7 @@ def rewritten(chance, body):
     return sealed(text, files)
 
 
-def some_body(chance):
+def some_body(chance: random.Random) -> bytes:
     body = bytes_of(chance.choice(NAMES))
     for change in chance.sample((damaged, changed, rewritten), chance.choice((0, 1, 1, 1, 2))):
         with contextlib.suppress(Refused, IndexError, ValueError):
@@ -394,7 +401,7 @@ def some_body(chance):
     return body
 
 
-def some_row(chance, at, body):
+def some_row(chance: random.Random, at: int, body: bytes) -> str:
     """A row that lists a body at a watermark of its own, or one of the worked rows where the body
     is that."""
     kind = chance.choice(('FULL', 'INCR', 'DIFF'))
@@ -404,7 +411,7 @@ def some_row(chance, at, body):
         body)
 
 
-def some_folder(chance):
+def some_folder(chance: random.Random) -> tuple[list[str], dict[str, bytes]]:
     """Rows and files: some files are listed, by their own rows or others; some are not; some are
     there twice; some rows have none."""
     worked = chance.sample(NAMES, chance.randint(1, len(NAMES)))
@@ -420,7 +427,7 @@ def some_folder(chance):
     return rows, {f'{chance.choice("anN-_.9")}{at}': body for at, body in enumerate(bodies)}
 
 
-def test_random_folders(stage):
+def test_random_folders(stage: Stage) -> None:
     """Folders at random, by the model and by what `restore take` says of them."""
     for seed in range(12):
         with case(f'seed {seed}'):

@@ -1,6 +1,9 @@
 """Bundles that `pack` makes of an agent's files and of their description, and what it refuses."""
 import json
 import os
+from collections.abc import Iterable
+from collections.abc import Mapping
+from collections.abc import Sequence
 
 from tests.cases.findings import PARENT_KEYS
 from tests.cases.large_files import WAY
@@ -16,6 +19,7 @@ from tests.support.bundles import section
 from tests.support.files import read
 from tests.support.limits import MOST_BYTES
 from tests.support.limits import MOST_LISTED
+from tests.support.stage import Stage
 from tests.support.stage import Wanted
 from tests.support.stage import case
 from tests.support.stage import compare
@@ -158,7 +162,7 @@ FIELDS = ['id', 'name', 'aName']
 HALF = (b'C1,' + b'x' * 99_996 + b'\n') * 84
 
 
-def description_of(has_heading, names):
+def description_of(has_heading: bool, names: Iterable[str]) -> bytes:
     """The description of the sample, whose rows are in these files."""
     return ENVELOPE.replace(
         b'"file":"c.csv"',
@@ -166,7 +170,8 @@ def description_of(has_heading, names):
         ))
 
 
-def check_bundle(stage, name, description, files, wanted):
+def check_bundle(stage: Stage, name: str, description: bytes, files: Mapping[str, bytes],
+                 wanted: bytes | str) -> None:
     """Compares what follows the description in its bundle, or the refusal. Where it is refused
     nothing is written."""
     stage.write('envelope.json', description)
@@ -184,7 +189,7 @@ def check_bundle(stage, name, description, files, wanted):
             os.remove(stage.at('out'))
 
 
-def test_bundles_of_files(stage):
+def test_bundles_of_files(stage: Stage) -> None:
     """The bundles of files."""
     for has_heading, given, wanted in GIVEN:
         files = {f'{at}.csv': content for at, content in enumerate(given)}
@@ -192,13 +197,13 @@ def test_bundles_of_files(stage):
                      description_of(has_heading, files), files, wanted)
 
 
-def test_bundles_of_descriptions(stage):
+def test_bundles_of_descriptions(stage: Stage) -> None:
     """The bundles of descriptions."""
     for description, files, wanted in DESCRIBED:
         check_bundle(stage, f'{description}', description, files, wanted)
 
 
-def test_names_of_files_in_the_folder(stage):
+def test_names_of_files_in_the_folder(stage: Stage) -> None:
     """The names of a table's files: those of files in DIR, each there once.
 
     Where the description has a fault as an envelope, too, it is refused for that."""
@@ -221,7 +226,7 @@ def test_names_of_files_in_the_folder(stage):
     check_bundle(stage, 'an envelope without an id', nameless, files, 'U6 envelope.json')
 
 
-def test_bundles_that_would_be_too_long(stage):
+def test_bundles_that_would_be_too_long(stage: Stage) -> None:
     """A description, or the rows of two files, for which a bundle has no place."""
     os.mkdir(stage.at('files'))
     files = {'0.csv': HALF, '1.csv': HALF}
@@ -235,7 +240,7 @@ def test_bundles_that_would_be_too_long(stage):
                  section('c.csv', HALF) + b'end\n')
 
 
-def test_names_on_one_line(stage):
+def test_names_on_one_line(stage: Stage) -> None:
     """The names of files that are refused, each on one line."""
     for name, told in NAMES:
         check_bundle(stage, f'{name!r}, with no heading', description_of(True, [name]),
@@ -252,7 +257,7 @@ def test_names_on_one_line(stage):
             stage.check('manifest', wanted, ['manifest', *[f'files/{name}'] * 2], 'pack')
 
 
-def test_bundles_that_no_manifest_lists(stage):
+def test_bundles_that_no_manifest_lists(stage: Stage) -> None:
     """The bundles whose rows contradict each other, and more than a manifest has rows."""
     for told, deposits in UNLISTED:
         names = [f'n{at}' for at in range(1, len(deposits) + 1)]
@@ -266,13 +271,13 @@ def test_bundles_that_no_manifest_lists(stage):
                     ['manifest', *['n1'] * (MOST_LISTED + 1)], program='pack')
 
 
-def files_of(*stems):
+def files_of(*stems: Iterable[str]) -> list[str]:
     """The names of two files of each table, with a dash and with a dot after what they begin with:
     in byte order."""
     return [f'{stem}{end}' for stem in stems for end in ('-1.csv', '.csv')]
 
 
-def proposed(tables, front=''):
+def proposed(tables: Iterable[tuple[Sequence[str], str, str]], front: str = '') -> str:
     """What is proposed for these tables; `front` is what the names of their sections begin with."""
     return ',\n'.join(
         compact({
@@ -287,7 +292,7 @@ def proposed(tables, front=''):
         }).decode() for stem, kind, name in tables)
 
 
-def test_descriptions_of_all_tables(stage):
+def test_descriptions_of_all_tables(stage: Stage) -> None:
     """The description of files of all tables that are known, and of none whose names are close to
     those of deletes."""
     # Names that begin with that of a table of deletes, with no dash or dot after it.
@@ -303,7 +308,7 @@ def test_descriptions_of_all_tables(stage):
                 program='pack')
 
 
-def test_paths_that_are_not_plain_files(stage):
+def test_paths_that_are_not_plain_files(stage: Stage) -> None:
     """A pipe, a link to it and a folder. Nobody writes the pipe, and it isn't waited for."""
     os.makedirs(stage.at('files/folder'))
     os.mkfifo(stage.at('files/pipe'))

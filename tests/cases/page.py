@@ -2,6 +2,9 @@
 that look like markup. (handovers.py has where no page is written.)"""
 import random
 from collections import Counter
+from collections.abc import Iterator
+from collections.abc import Mapping
+from collections.abc import Sequence
 from itertools import groupby
 
 from tests.cases.acceptances import full
@@ -22,6 +25,9 @@ from tests.support.flawed import draw_release
 from tests.support.formats import KINDS
 from tests.support.formats import moment_text
 from tests.support.limits import MOST_LISTED
+from tests.support.model import Desk
+from tests.support.model import Gap
+from tests.support.pages import Element
 from tests.support.pages import counted_tables
 from tests.support.pages import read_page
 from tests.support.pages import rows_of
@@ -31,12 +37,16 @@ from tests.support.releases import SAMPLES
 from tests.support.releases import Release
 from tests.support.releases import numbered
 from tests.support.stage import Failed
+from tests.support.stage import Stage
 from tests.support.stage import Wanted
 from tests.support.stage import case
 from tests.support.stage import compare
 from tests.support.stage import compare_all
 from tests.support.stores import run
 
+# A mark: its look, where it is, and its title; and an end of a part of the chain's line.
+Mark = tuple[str, str, str, str]
+Stand = tuple[str, str]
 SEEDS = (*range(26), 305, 129, 68, 28)
 # How many of what may be many are shown, and how far apart two marks of one look are at least, in
 # thousandths.
@@ -56,11 +66,11 @@ HEIGHTS, TRACKS = dict(zip(
 # ---- the plain model
 
 
-def cell(value):
+def cell(value: object) -> str:
     return '' if value is None else f'{value}'
 
 
-def runs_of(gaps):
+def runs_of(gaps: Sequence[Gap]) -> Iterator[list[str]]:
     """The rows of the release: those of one type that follow one another and are alike."""
     for kind, name in LANES.items():
         for (state, *others), its in groupby((it for it in gaps if it.place[1] == kind),
@@ -73,22 +83,22 @@ def runs_of(gaps):
             ]
 
 
-def position(gaps, moment):
+def position(gaps: Sequence[Gap], moment: int) -> int:
     """Where a moment stands between the first and the last one, in percent, and in thousandths."""
     first, span = gaps[0].place[0], gaps[-1].place[0] - gaps[0].place[0]
     return min(max(moment - first, 0), span) * 1000 // span if span else 0
 
 
-def percent(thousandths):
+def percent(thousandths: int) -> str:
     return f'{thousandths // 10}.{thousandths % 10}%'
 
 
-def marks_of(gaps):
+def marks_of(gaps: Sequence[Gap]) -> Iterator[Mark]:
     """The marks of places: those of one look are one mark where they stand close to its first."""
     for kind in LANES:
         for state in STATES:
             for is_awaited in (False, True):
-                marks = []
+                marks: list[tuple[int, list[Gap]]] = []
                 for it in gaps:
                     if (it.place[1], it.state, it.awaited is not None) == (kind, state, is_awaited):
                         x = position(gaps, it.place[0])
@@ -103,7 +113,7 @@ def marks_of(gaps):
                         yield '#awaited', *at, ''
 
 
-def title_of(kind, places):
+def title_of(kind: str, places: Sequence[Gap]) -> str:
     ((first, _), state, _, blocker, awaited), count = places[0], len(places)
     when = moment_text(
         first
@@ -113,9 +123,9 @@ def title_of(kind, places):
                                                             f', awaited resend {awaited}')
 
 
-def way_of(gaps):
+def way_of(gaps: Sequence[Gap]) -> list[tuple[Stand, Stand]]:
     """The ends of the straight parts of the chain's line: along a lane it is one part."""
-    parts = []
+    parts: list[tuple[Stand, Stand]] = []
     for (moment, kind), state, *_ in gaps:
         if state == 'chain':
             stand = percent(position(gaps, moment)), kind
@@ -131,7 +141,7 @@ def way_of(gaps):
 # ---- a page, section by section
 
 
-def check_tests(page, seen):
+def check_tests(page: Element, seen: Seen) -> None:
     tests = list(tests_of(seen))
     rows = rows_of(section(page, 'tests').one('table'))
     compare_all('tests', (f'{name} {word_of(name, passes)}' for name, passes, _ in tests),
@@ -151,7 +161,7 @@ def check_tests(page, seen):
             f'{told.text()} {told.attributes["class"].split()[1]}')
 
 
-def check_facts(page, seen):
+def check_facts(page: Element, seen: Seen) -> None:
     chain = sum(it.state == 'chain' for it in seen.gaps)
     facts = [
         f'Deposits in the chain: {chain}', f'Objects: {sum(seen.objects.values())}',
@@ -167,7 +177,7 @@ def check_facts(page, seen):
         moment)
 
 
-def check_release(page, seen):
+def check_release(page: Element, seen: Seen) -> None:
     part, gaps = section(page, 'release'), seen.gaps
     compare_all('runs', runs_of(gaps), rows_of(part.one('table')))
     picture = next(it for it in part.all('svg') if it.attributes.get('role') == 'img')
@@ -189,8 +199,8 @@ def check_release(page, seen):
                  for it in part.all('li')))
 
 
-def check_objects(page, seen):
-    def compared(kind):
+def check_objects(page: Element, seen: Seen) -> None:
+    def compared(kind: str) -> str:
         count = seen.counts.get(kind)
         return 'not declared' if count is None else 'as declared' if count == seen.objects[
             kind] else 'otherwise than declared'
@@ -206,7 +216,7 @@ def check_objects(page, seen):
                 (it.attributes['width'] for it in table.all('rect')))
 
 
-def check_counted(what, part, wanted):
+def check_counted(what: str, part: Element, wanted: Mapping[str, list[list[str]]]) -> None:
     """Compares tables of what is found, by the first letters of their headings: how many there are,
     and the first of them."""
     found = counted_tables(part)
@@ -217,7 +227,7 @@ def check_counted(what, part, wanted):
                     (row[:len(wanted[name][0])] for row in rows))
 
 
-def check_lists(page, seen, desk):
+def check_lists(page: Element, seen: Seen, desk: Desk) -> None:
     shown = [(code, [kind, *map(control_spelled, texts)]) for code, kind, *texts in seen.findings]
     check_counted('findings', section(page, 'findings'), {
         f'V{code}': [it for at, it in shown if at == code]
@@ -238,7 +248,7 @@ def check_lists(page, seen, desk):
                 or ['None: each body that is kept is listed.'], rows)
 
 
-def check_page(stage, release, store='a.db'):
+def check_page(stage: Stage, release: Release, store: str = 'a.db') -> bytes:
     """Compares the page of a release's store, which stays as it is, and of which a second page is
     the same. Gives its bytes."""
     release.rebuild(stage, store)
@@ -262,21 +272,21 @@ def check_page(stage, release, store='a.db'):
     return body
 
 
-def test_random_releases(stage):
+def test_random_releases(stage: Stage) -> None:
     """The pages of random releases."""
     for seed in SEEDS:
         with case(f'seed {seed}'):
             check_page(stage, draw_release(seed), f'{seed}.db')
 
 
-def test_told(stage):
+def test_told(stage: Stage) -> None:
     """The page of a release with a TLD and notes."""
     check_page(
         stage,
         release_of((F1, full(F1, tld='example', notes=['unknown: <eppParams> 1', 'left\nout']))))
 
 
-def test_samples(stage):
+def test_samples(stage: Stage) -> None:
     """The pages of the samples."""
     for name, release in SAMPLES.items():
         with case(name):
@@ -291,11 +301,11 @@ HOSTILE = ('<script>alert(1)</script>', '"><img src=x onerror=alert(1)>', "' onl
 F1 = Header('F1', 'FULL', '2024-03-03T00:00:00Z')
 
 
-def has_controls(text, most_lines):
+def has_controls(text: bytes, most_lines: int) -> bool:
     return any(it < 32 and it != 10 for it in text) or text.count(b'\n') != most_lines
 
 
-def test_hostile_texts(stage):
+def test_hostile_texts(stage: Stage) -> None:
     """The page of a registry whose texts look like markup, or have control characters."""
     # A Full in which each of these is a key, a link, a status and a date that is none.
     tables = [
@@ -312,7 +322,7 @@ def test_hostile_texts(stage):
         raise Failed('a text of a deposit stands in the lines of check as it is')
 
 
-def many_places():
+def many_places() -> Release:
     """A release of 4,096 places, where some of the bodies arrive: all from the last Full on."""
     chance, listed, bodies = random.Random(1), [], []
     for at in range(MOST_LISTED):
@@ -325,7 +335,7 @@ def many_places():
     return Release(manifest(listed), numbered(bodies))
 
 
-def test_many_places(stage):
+def test_many_places(stage: Stage) -> None:
     """The page of a release of 4,096 places, of which some are held: it is short, and no mark
     stands close to another one."""
     if len(check_page(stage, many_places())) > 500_000:

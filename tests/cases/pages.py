@@ -8,6 +8,7 @@ import sys
 
 from tests.support import TOP
 from tests.support.stage import Failed
+from tests.support.stage import Stage
 
 BY_HAND = 'docs/RUNBOOK.md'
 # A page that has commands which are run: with what they print, or as scripts.
@@ -19,11 +20,11 @@ OF_ALL = ('OPERATING', 'FORMATS')
 CODE = re.compile(r'\b([A-Z])(\d+)(?: to \1(\d+))?\b')
 
 
-def read_page(name):
+def read_page(name: str) -> str:
     return pathlib.Path(TOP, 'docs', f'{name}.md').read_text('utf-8')
 
 
-def check_page(stage, page):
+def check_page(stage: Stage, page: str) -> None:
     programs = [f'--{name}={stage.programs[name]}' for name in ('restore', 'pack', 'handover')]
     words = [sys.executable, f'{TOP}/samples/run_book', *programs, pathlib.Path(page).stem]
     ran = subprocess.run(words, capture_output=True, text=True)
@@ -31,11 +32,11 @@ def check_page(stage, page):
         raise Failed(f'{ran.stdout}{ran.stderr}')
 
 
-def help_of(stage, program, *words):
+def help_of(stage: Stage, program: str, *words: str) -> str:
     return stage.end(stage.begin([*words, '--help'], program)).out.decode()
 
 
-def codes_of(text):
+def codes_of(text: str) -> set[str]:
     """The codes of the refusals that a help names: each of `U1 to U11`, and S1."""
     told = text.partition('Refusals go to')[2].partition('Status:')[0]
     return {
@@ -45,7 +46,7 @@ def codes_of(text):
     }
 
 
-def test_help(stage):
+def test_help(stage: Stage) -> None:
     """Each command, each code and each status of a program's help has its place on the pages"""
     for program, own in OWN.items():
         text, told = ''.join(map(read_page, {*OF_ALL, own})), help_of(stage, program)

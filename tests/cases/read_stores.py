@@ -3,6 +3,9 @@ a log that was not copied: what they read of the tables alone, and what is teste
 And commands on a store that is not there."""
 import contextlib
 import sqlite3
+from collections.abc import Collection
+from collections.abc import Iterator
+from collections.abc import Mapping
 
 from tests.cases.handovers import names_in
 from tests.support.files import read
@@ -12,6 +15,7 @@ from tests.support.reports import report
 from tests.support.sockets import response_to
 from tests.support.sockets import serve
 from tests.support.stage import Failed
+from tests.support.stage import Stage
 from tests.support.stage import Wanted
 from tests.support.stage import case
 from tests.support.stage import compare
@@ -37,7 +41,7 @@ S1, S3 = Wanted(3, '', 'S1\n'), Wanted(3, '', 'S3\n')
 NO_RECEIPTS = Wanted(0, report('receipts'))
 
 
-def put_files(stage):
+def put_files(stage: Stage) -> None:
     Copy('listed.csv', 'chains.csv').do(stage)
     Folder('deposits').do(stage)
     for number, name in enumerate(BUNDLES, 1):
@@ -46,7 +50,7 @@ def put_files(stage):
     run(stage, 'init --store a.db --manifest listed.csv')
 
 
-def put_store(stage):
+def put_store(stage: Stage) -> dict[str, str]:
     """A store that took them all, and has a moment. Gives what is told of it."""
     put_files(stage)
     run(stage, 'take --store a.db deposits', statuses=(1,))
@@ -54,20 +58,21 @@ def put_store(stage):
     return told_of(stage, 'a.db')
 
 
-def command_of(store, what):
+def command_of(store: str, what: str) -> str:
     return f'{"export" if what in KINDS else "report"} --store {store} {what}'
 
 
-def told_of(stage, store):
+def told_of(stage: Stage, store: str) -> dict[str, str]:
     return {it: run(stage, command_of(store, it)).decode() for it in READ}
 
 
-def check_reports(stage, store, told, refused=()):
+def check_reports(stage: Stage, store: str, told: Mapping[str, str],
+                  refused: Collection[str] = ()) -> None:
     for what, text in told.items():
         stage.check(command_of(store, what), S1 if what in refused else Wanted(0, text))
 
 
-def check_refused(stage, store):
+def check_refused(stage: Stage, store: str) -> None:
     """Whatever has a desk refuses the store, which stays as it is but for its log."""
     before = contents(stage.at(store))[0]
     for line in (f'take --store {store} deposits', f'as-of --store {store} latest',
@@ -107,7 +112,7 @@ FOREIGN = {
 }
 
 
-def test_foreign_rows(stage):
+def test_foreign_rows(stage: Stage) -> None:
     """A row that no store writes is `S1` to each report and export that reads it, which prints
     nothing, and to no other."""
     told = put_store(stage)
@@ -128,14 +133,14 @@ COLUMNS = 'rowid, type, name, tbl_name, rootpage, sql'
 
 
 @contextlib.contextmanager
-def schema_of(path):
+def schema_of(path: str) -> Iterator[sqlite3.Connection]:
     """A database whose list of tables may be written."""
     with contextlib.closing(sqlite3.connect(path)) as database, database:
         database.execute('PRAGMA writable_schema = ON')
         yield database
 
 
-def make_index_lie(path):
+def make_index_lie(path: str) -> None:
     """Gives a receipt another number in the index of numbers alone: in the table too, and there
     back while the table has no index."""
     with schema_of(path) as database:
@@ -152,7 +157,7 @@ def make_index_lie(path):
         database.execute(f'INSERT INTO sqlite_master ({COLUMNS}) VALUES (?, ?, ?, ?, ?, ?)', index)
 
 
-def test_lying_index(stage):
+def test_lying_index(stage: Stage) -> None:
     """An index that has another number than its table is `S1` to each command that has a desk. No
     report or export reads it."""
     told = put_store(stage)
@@ -163,7 +168,7 @@ def test_lying_index(stage):
     check_refused(stage, 'a.db')
 
 
-def test_log_that_was_not_copied(stage):
+def test_log_that_was_not_copied(stage: Stage) -> None:
     """A report of what a stopped command left reads the log, too, and leaves both files as they
     are. A desk, which copies it, says the same."""
     put_files(stage)
@@ -185,7 +190,7 @@ def test_log_that_was_not_copied(stage):
     check_reports(stage, 'stopped.db', told)
 
 
-def test_first_version(stage):
+def test_first_version(stage: Stage) -> None:
     """A store of version 1 is `S3` to each report and export."""
     FirstStore('a.db', 'first.csv', (('n1', 'f1.bundle'),)).do(stage)
     for what in READ:
@@ -200,7 +205,7 @@ COMMANDS = ('take --store {} deposits', 'serve --store {} --port 65535 --count 1
             'as-of --store {} 2024-03-04T00:00:00Z', 'migrate --store {}')
 
 
-def test_no_store_is_made(stage):
+def test_no_store_is_made(stage: Stage) -> None:
     """No command but `init` makes a file where there is no store."""
     Folder('deposits').do(stage)
     Copy('deposits/n1', 'f1.bundle').do(stage)

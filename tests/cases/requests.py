@@ -2,6 +2,7 @@
 their lengths; and requests around an amendment and a moment."""
 import functools
 import hashlib
+from collections.abc import Iterable
 from dataclasses import dataclass
 from dataclasses import replace
 
@@ -30,6 +31,7 @@ from tests.support.messages import get
 from tests.support.messages import put
 from tests.support.messages import response
 from tests.support.reports import status
+from tests.support.stage import Stage
 from tests.support.steps import FirstScript
 from tests.support.steps import Manifest
 
@@ -104,7 +106,7 @@ REPORTS = (
 )
 
 
-def head(lines=0, size=8_192, end=b'\r\n\r\n'):
+def head(lines: int = 0, size: int = 8_192, end: bytes = b'\r\n\r\n') -> bytes:
     """A request for the receipts of so many bytes, with so many short header lines before a long
     one, and this end."""
     front = b'GET /receipts HTTP/1.1\r\n' + lines * b'A: 1\r\n' + b'X: '
@@ -123,7 +125,7 @@ HEADS = (
 )
 
 
-def check_exchanges(stage, exchanges, pieces):
+def check_exchanges(stage: Stage, exchanges: Iterable[Exchange], pieces: Iterable[int]) -> None:
     """Each of these with a new desk, in pieces of so many bytes."""
     list_sample(stage)
     for it in exchanges:
@@ -154,7 +156,7 @@ CASES = {
 }
 
 
-def test_beginnings(stage):
+def test_beginnings(stage: Stage) -> None:
     """No beginning of an arrival arrives, be it one of its head or of its body."""
     list_sample(stage)
     with new_desk(stage) as desk:
@@ -166,7 +168,7 @@ def test_beginnings(stage):
         desk.check_receipts(*RECEIPTS[:1])
 
 
-def test_an_amendment(stage):
+def test_an_amendment(stage: Stage) -> None:
     """Requests to a desk over a migrated store, around an amendment and a moment."""
     Manifest('first.csv', ('F1',)).do(stage)
     Manifest('amended.csv', ('F1', 'D2')).do(stage)

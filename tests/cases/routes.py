@@ -24,6 +24,7 @@ from tests.support.messages import response
 from tests.support.reports import report
 from tests.support.reports import status
 from tests.support.stage import Failed
+from tests.support.stage import Stage
 
 
 @dataclass(frozen=True)
@@ -61,12 +62,12 @@ ROUTES = (
 )
 
 
-def check_streams(stage, piece):
+def check_streams(stage: Stage, piece: int) -> None:
     """A read of each request fails after so many bytes, for each number of them; then a write of
     its response, and the flush; and then nothing."""
     list_sample(stage)
     with new_desk(stage) as desk:
-        def check_route(wire, response, came, receipts):
+        def check_route(wire: Wire, response: bytes, came: str, receipts: int) -> None:
             desk.check_served(wire, response, came=came)
             desk.check_receipts(*RECEIPTS[:receipts])
 
@@ -96,7 +97,7 @@ ONE_PAGE = 'room 8 1'
 REFUSED = (2, 1, 2, 1, 1, 1, 1, 1, 1, 1, 1, 1, 1, 1, 1, 1)
 
 
-def count_answered(desk, most):
+def count_answered(desk: RequestDesk, most: list[int]) -> int:
     """Sends the requests up to one that is refused twice: then the files have to be opened again.
     Notes how often each is refused. Once it has refused one the desk has the receipts of before;
     one that refuses each call tells none."""
@@ -113,7 +114,7 @@ def count_answered(desk, most):
     return len(ROUTES)
 
 
-def has_failed(stage, file, calls, most):
+def has_failed(stage: Stage, file: str, calls: int, most: list[int]) -> bool:
     """Sends all requests to a desk over files, of which the call after so many fails. Whether that
     call came."""
     with RequestDesk(stage) as desk:
@@ -130,7 +131,7 @@ def has_failed(stage, file, calls, most):
         return check(desk, 'failed', 'true\n', 'false\n') == 'true\n'
 
 
-def test_each_call_of_either_file(stage):
+def test_each_call_of_either_file(stage: Stage) -> None:
     """Each call of either file fails once, over the routes."""
     list_sample(stage)
     most = [0] * len(ROUTES)

@@ -2,11 +2,14 @@
 end; all else is by the plain model. Each is played in a new store, and in one that is opened again.
 And what stood before each step of a chain."""
 import contextlib
+from collections.abc import Iterator
+from collections.abc import Sequence
 from typing import NamedTuple
 
 from tests.support.bodies import bytes_of
 from tests.support.bodies import line_of
 from tests.support.bodies import manifest_text
+from tests.support.clients import RequestDesk
 from tests.support.clients import Wire
 from tests.support.clients import new_desk
 from tests.support.clients import table
@@ -16,6 +19,7 @@ from tests.support.first_store import undo_of
 from tests.support.formats import record
 from tests.support.messages import get
 from tests.support.model import Desk
+from tests.support.stage import Stage
 from tests.support.stage import case
 from tests.support.stage import compare
 from tests.support.stage import text_of
@@ -93,7 +97,7 @@ ROWS = (
 
 
 @contextlib.contextmanager
-def desk_of(stage, listed):
+def desk_of(stage: Stage, listed: Sequence[str]) -> Iterator[tuple[RequestDesk, Desk]]:
     """A desk over a new store that lists worked bodies, and the plain model, in a `with`
     statement."""
     stage.write('listed.csv', manifest_text(listed).encode())
@@ -101,20 +105,20 @@ def desk_of(stage, listed):
         yield desk, Desk(manifest_text(listed).encode())
 
 
-def open_again(desk, closing):
+def open_again(desk: RequestDesk, closing: str) -> None:
     """Closes the desk, or its files with it, and opens it again."""
     desk.check(closing, '')
     desk.check('open', 'opened\n')
 
 
-def check_state(desk, model):
+def check_state(desk: RequestDesk, model: Desk) -> None:
     """Compares what a desk tells of itself with the model, and its gaps over HTTP."""
     for line, wanted in state(model).items():
         desk.check(line, wanted)
     desk.check_served(Wire(get('/gaps')), table('gaps', *model.gap_rows()))
 
 
-def check_rows(stage, closing, *closings):
+def check_rows(stage: Stage, closing: str, *closings: str) -> None:
     """Each row in a new store that is closed so and opened again before each arrival, if it is; and
     so in the end."""
     for row in ROWS:
@@ -145,7 +149,7 @@ CASES = {
 }
 
 
-def test_tables_are_moved_and_not_read_again(stage):
+def test_tables_are_moved_and_not_read_again(stage: Stage) -> None:
     """Tables are moved, and not read again."""
     # F1's contact has another registrar since, in the store alone.
     moved = record([('contact', [('id', 'C1'), ('clID', 'R7')])])
@@ -161,7 +165,7 @@ def test_tables_are_moved_and_not_read_again(stage):
         desk.check('tables', text_of([R1, 'contact C1: contact id=C1 clID=R7', DOMAIN_A, DOMAIN_B]))
 
 
-def test_the_empty_body(_):
+def test_the_empty_body(_: Stage) -> None:
     """The empty body is listed by its published digest."""
     compare(
         'row',

@@ -8,6 +8,9 @@ import io
 import os
 import random
 import shutil
+from collections.abc import Iterator
+from collections.abc import Mapping
+from collections.abc import Sequence
 
 from tests.cases.handovers import clear
 from tests.support.bundles import HEADING
@@ -18,6 +21,7 @@ from tests.support.formats import read_record
 from tests.support.model import Desk
 from tests.support.reports import report
 from tests.support.stage import Failed
+from tests.support.stage import Stage
 from tests.support.stage import Wanted
 from tests.support.stage import case
 from tests.support.stage import compare
@@ -28,6 +32,8 @@ from tests.support.unpacking import Described
 from tests.support.unpacking import bundle_in
 from tests.support.unpacking import row_of
 
+# A description and its files.
+Files = tuple[dict[str, object], dict[str, bytes]]
 FULL = {'id': 'F1', 'type': 'FULL', 'watermark': '2024-03-03T00:00:00Z'}
 INCR = {'id': 'I2', 'type': 'INCR', 'watermark': '2024-03-04T00:00:00Z'}
 DOMAINS = [f'd{at}.example' for at in range(8)]
@@ -38,7 +44,8 @@ TABLES = (
 )
 
 
-def described(header, names, word, gone=()):
+def described(header: Mapping[str, object], names: Sequence[str], word: str,
+              gone: Sequence[str] = ()) -> Files:
     """A description, and its files: a registrar, and domains with a word and a status each."""
     contents = [{
         'name': name, 'kind': kind, 'role': role, 'key': fields[0], 'fields': fields,
@@ -53,7 +60,7 @@ def described(header, names, word, gone=()):
     return {**header, 'contents': contents, 'deletes': deletes}, files
 
 
-def made(stage, name, given, *words):
+def made(stage: Stage, name: str, given: Files, *words: str) -> list[bytes]:
     """A folder of parts, of so many rows at most."""
     os.mkdir(stage.at(f'{name}-room'))
     found = Described(stage.at(f'{name}-room'), *given, words)
@@ -63,22 +70,22 @@ def made(stage, name, given, *words):
     return [bundle_in(it) for it in folders_in(stage.at(name))]
 
 
-def made_full(stage, most=6):
+def made_full(stage: Stage, most: int = 6) -> list[bytes]:
     return made(stage, 'F1', described(FULL, DOMAINS, 'R1'), '--part-rows', f'{most}')
 
 
-def manifest_of(bundles):
+def manifest_of(bundles: Sequence[bytes]) -> bytes:
     return (HEADING + ''.join(map(row_of, bundles))).encode()
 
 
-def begin(stage, listed, store='a.db'):
+def begin(stage: Stage, listed: Sequence[bytes], store: str = 'a.db') -> Desk:
     """A new store, and a model of it."""
     stage.write('manifest.csv', manifest_of(listed))
     run(stage, f'init --store {store} --manifest manifest.csv')
     return Desk(manifest_of(listed))
 
 
-def take(stage, model, bundles, store='a.db'):
+def take(stage: Stage, model: Desk, bundles: Sequence[bytes], store: str = 'a.db') -> None:
     """Takes bundles in their order in one run, and compares what is told of the store."""
     shutil.rmtree(stage.at('deposits'), ignore_errors=True)
     os.mkdir(stage.at('deposits'))
@@ -91,30 +98,30 @@ def take(stage, model, bundles, store='a.db'):
     check_store(stage, model, store)
 
 
-def check_store(stage, model, store='a.db'):
+def check_store(stage: Stage, model: Desk, store: str = 'a.db') -> None:
     stage.check(f'report --store {store} status', Wanted(0, state(model)['status']))
     stage.check(f'report --store {store} gaps', Wanted(0, report('gaps', model.gap_rows())))
     compare_all('export', map(str, cells_of(model)), map(str, exported(stage, store)))
 
 
-def exported(stage, store):
+def exported(stage: Stage, store: str) -> Iterator[list[str]]:
     """The cells of all objects, in the order of kinds."""
     for kind in KINDS:
         text = run(stage, f'export --store {store} {kind}').decode()
         yield from list(csv.reader(io.StringIO(text, newline=''), strict=True))[1:]
 
 
-def cells_of(model):
+def cells_of(model: Desk) -> Iterator[list[str]]:
     objects = sorted(model.objects.items(), key=lambda it: (KINDS.index(it[0][0]), it[0][1]))
     for (kind, key), record in objects:
-        count = collections.Counter()
+        count: collections.Counter[str] = collections.Counter()
         for at, (table, cells) in enumerate(read_record(record)):
             count[table] += at > 0
             for field, text in cells:
                 yield [kind, key.decode(), table, f'{count[table] if at else 0}', field, text]
 
 
-def check_manifest(stage, listed):
+def check_manifest(stage: Stage, listed: Sequence[bytes]) -> None:
     """Compares the manifest of what is in the folder of bundles."""
     words = ['manifest', *(f'bundles/{it}' for it in os.listdir(stage.at('bundles')))]
     compare('manifest', manifest_of(listed).decode(), run(stage, ' '.join(words), 'pack').decode())
@@ -123,7 +130,7 @@ def check_manifest(stage, listed):
 # ---- the cases
 
 
-def test_bundles(stage):
+def test_bundles(stage: Stage) -> None:
     """`pack series` writes the bundles of bare files in parts, and a manifest lists them."""
     bundles = made_full(stage)
     os.mkdir(stage.at('bundles'))
@@ -140,7 +147,7 @@ def test_bundles(stage):
     compare_all('names', names[1:], sorted(os.listdir(stage.at('bundles'))))
 
 
-def test_orders(stage):
+def test_orders(stage: Stage) -> None:
     """The bundles of a series in any order, some twice."""
     bundles = made_full(stage)
     for seed in range(4):
@@ -150,7 +157,7 @@ def test_orders(stage):
             take(stage, model, chance.sample(bundles * 2, len(bundles) * 2), f'{seed}.db')
 
 
-def test_runs(stage):
+def test_runs(stage: Stage) -> None:
     """A run ends between two bundles of a series, and the next one goes on."""
     bundles = made_full(stage)
     for name, order in (('first', bundles), ('last', bundles[::-1])):
@@ -171,7 +178,7 @@ GAPS = (
 )
 
 
-def test_missing(stage):
+def test_missing(stage: Stage) -> None:
     """A bundle of a series is missing: `report gaps` and `pack check` name it. It comes later."""
     bundles = made_full(stage)
     for missing in range(len(bundles)):
@@ -187,7 +194,7 @@ def test_missing(stage):
             take(stage, model, [bundles[missing]], store)
 
 
-def test_mixed(stage):
+def test_mixed(stage: Stage) -> None:
     """A folder that has a part of another deposit: its bundle builds on one that is not listed."""
     bundles = made_full(stage)
     header = {**FULL, 'id': 'F2', 'watermark': '2024-03-10T00:00:00Z'}
@@ -205,7 +212,7 @@ def test_mixed(stage):
         raise Failed('the last place is not blocked by the part that is not listed')
 
 
-def check_sent_again(stage, first, second):
+def check_sent_again(stage: Stage, first: int, second: int) -> None:
     before = made_full(stage, first)
     given = described({**FULL, 'resend': 1}, DOMAINS[2:], 'R2')
     after = made(stage, 'again', given, '--part-rows', f'{second}', '--known', stage.at('F1'))
@@ -225,7 +232,7 @@ def check_sent_again(stage, first, second):
     compare('former places that stand', f'{len(before) - 1}', f'{stand}')
 
 
-def test_sent_again(stage):
+def test_sent_again(stage: Stage) -> None:
     """A deposit is sent again as fewer bundles, or more: no former one stays in the chain."""
     for first, second in ((6, 12), (12, 4)):
         with case(f'{first} rows, then {second}'):
@@ -233,7 +240,7 @@ def test_sent_again(stage):
         clear(stage)
 
 
-def test_incremental(stage):
+def test_incremental(stage: Stage) -> None:
     """An Incremental on a Full that is a series builds on the whole of it."""
     full = made_full(stage)
     for name, words in (('one', ()), ('series', ('--part-rows', '6'))):

@@ -4,7 +4,11 @@ import functools
 import os
 import resource
 import socket
+import subprocess
 import time
+from collections.abc import Callable
+from collections.abc import Iterable
+from collections.abc import Sequence
 
 from tests.support.bundles import SAMPLE as CONTACT
 from tests.support.clients import BAD_REQUEST
@@ -36,6 +40,8 @@ from tests.support.sockets import serve
 from tests.support.sockets import serving
 from tests.support.stage import SECONDS
 from tests.support.stage import Failed
+from tests.support.stage import Given
+from tests.support.stage import Stage
 from tests.support.stage import Wanted
 from tests.support.stage import difference
 from tests.support.steps import Copy
@@ -57,14 +63,15 @@ EXCHANGES = (
 )
 
 
-def responses_of(port, requests):
+def responses_of(port: int, requests: Iterable[bytes]) -> list[bytes]:
     """The responses to requests. All requests are sent before a response is read."""
     with contextlib.ExitStack() as calls:
         clients = [calls.enter_context(call(port, it)) for it in requests]
         return list(map(received, clients))
 
 
-def served(stage, count, ask, told='', **streams):
+def served(stage: Stage, count: int, ask: Callable[[int], list[bytes]], told: str = '',
+           **streams: Given) -> list[bytes]:
     """Serves so many connections from a store, and gives the responses, which are asked for at a
     port. Compares what is told of them."""
     child, port = serve(stage, 'a.db', count, **streams)
@@ -73,24 +80,24 @@ def served(stage, count, ask, told='', **streams):
     return responses
 
 
-def compare_responses(exchanges, responses):
+def compare_responses(exchanges: Sequence[tuple[bytes, bytes]], responses: Iterable[bytes]) -> None:
     for (request, wanted), got in zip(exchanges, responses, strict=True):
         if found := difference(f'the response to {request[:60]!r}', wanted.decode(), got):
             raise Failed('\n'.join(found))
 
 
-def check_responses(stage, exchanges):
+def check_responses(stage: Stage, exchanges: Sequence[tuple[bytes, bytes]]) -> None:
     requests = [request for request, _ in exchanges]
     compare_responses(exchanges,
                       served(stage, len(requests), lambda port: responses_of(port, requests)))
 
 
-def set_up(stage):
+def set_up(stage: Stage) -> None:
     Copy('listed.csv', 'with-contact.csv').do(stage)
     stage.check('init --store a.db --manifest listed.csv', Wanted(0, 'listed 1\n'))
 
 
-def test_connections(stage):
+def test_connections(stage: Stage) -> None:
     """Connections are served one after the other."""
     set_up(stage)
     check_responses(stage, EXCHANGES)
@@ -98,7 +105,7 @@ def test_connections(stage):
     stage.check('report --store a.db receipts', Wanted(0, report('receipts', RECEIPTS)))
 
 
-def test_unwanted_body(stage):
+def test_unwanted_body(stage: Stage) -> None:
     """A body that is not wanted is let by."""
     set_up(stage)
     head = b'PUT /nowhere HTTP/1.1\r\nContent-Length: 8900\r\n\r\n'
@@ -112,7 +119,7 @@ BROKEN = (put('n1', b'abc', 4), get('/status'))
 AROUND = (get('/receipts'), table('receipts'))
 
 
-def responses_around_broken(port):
+def responses_around_broken(port: int) -> list[bytes]:
     """The responses to the first request and to the last one. The connections between these break
     while the first one is waited for."""
     with socket.create_connection((HOST, port), SECONDS) as first:
@@ -125,7 +132,7 @@ def responses_around_broken(port):
         return [received(first), *responses_of(port, AROUND[:1])]
 
 
-def test_broken_connections(stage):
+def test_broken_connections(stage: Stage) -> None:
     """Connections that break are told, and the next ones are served.
 
     If standard error fails, too, nothing is told."""
@@ -141,11 +148,11 @@ CELL = 2_000_000 * 'x'
 LONG = table('export', 'contact,C1,contact,0,id,C1', f'contact,C1,contact,0,clID,{CELL}')
 
 
-def response_since(begun, port):
+def response_since(begun: float, port: int) -> tuple[list[bytes], float]:
     return responses_of(port, AROUND[:1]), time.monotonic() - begun
 
 
-def check_time(seconds, moved):
+def check_time(seconds: float, moved: int) -> None:
     """Compares for how long the desk waited for a client that moved so many bytes. (Its own work
     comes on top.)"""
     granted = FIRST_SECONDS + moved // BYTES_A_SECOND
@@ -154,9 +161,9 @@ def check_time(seconds, moved):
             f'a client that is granted {granted} seconds was waited for {seconds:.1f} seconds')
 
 
-def check_silent(stage, said):
+def check_silent(stage: Stage, said: bytes) -> None:
     """A client that came before sends this, and then nothing more."""
-    def ask(port):
+    def ask(port: int) -> list[bytes]:
         begun = time.monotonic()
         with socket.create_connection((HOST, port), SECONDS) as silent:
             silent.sendall(said)
@@ -175,7 +182,7 @@ CASES = {
 }
 
 
-def responses_beside_idle(port):
+def responses_beside_idle(port: int) -> list[bytes]:
     """The response to a request, while a client that came before takes nothing of its own; and what
     there is of that in the end."""
     begun = time.monotonic()
@@ -192,7 +199,7 @@ def responses_beside_idle(port):
     return [*responses, taken]
 
 
-def test_client_that_takes_nothing(stage):
+def test_client_that_takes_nothing(stage: Stage) -> None:
     """A client that takes nothing of a long response is given up in time, and the next one is
     served."""
     set_up(stage)
@@ -219,7 +226,7 @@ AT_LAST = (
 )
 
 
-def test_no_room_for_another_receipt(stage):
+def test_no_room_for_another_receipt(stage: Stage) -> None:
     """No room for another receipt."""
     set_up(stage)
     Parked('a.db', 1).do(stage)
@@ -228,7 +235,7 @@ def test_no_room_for_another_receipt(stage):
     check_responses(stage, AT_LAST)
 
 
-def test_no_room_for_another_parked_body(stage):
+def test_no_room_for_another_parked_body(stage: Stage) -> None:
     """No room for another parked body."""
     set_up(stage)
     Parked('a.db', MOST_PARKED).do(stage)
@@ -236,7 +243,7 @@ def test_no_room_for_another_parked_body(stage):
                             (put('n1', CONTACT), replied('1025,n1,A1,,F1,0,new,0'))])
 
 
-def test_taken_port(stage):
+def test_taken_port(stage: Stage) -> None:
     """A port that is taken."""
     set_up(stage)
     with socket.create_server((HOST, 0)) as listener:
@@ -252,11 +259,11 @@ def test_taken_port(stage):
     stage.compare(line, Wanted(3, 'listening', 'E1 -\n'), got)
 
 
-def open_files(child):
+def open_files(child: subprocess.Popen[bytes]) -> set[int]:
     return {int(it) for it in os.listdir(f'/proc/{child.pid}/fd')}
 
 
-def test_no_more_files(stage):
+def test_no_more_files(stage: Stage) -> None:
     """Once no more files may be open no connection can be accepted, and none is waited for."""
     set_up(stage)
     child, port = serve(stage, 'a.db', 3)

@@ -6,6 +6,9 @@ What a crash then leaves is opened again: all that was written, or what was sync
 stands for what was answered, or for that and what was refused. All that was refused comes again,
 and in the end the desk has what one has that nothing happened to."""
 import functools
+from collections.abc import Callable
+from collections.abc import Mapping
+from collections.abc import Sequence
 from typing import NamedTuple
 
 from tests.support.bodies import bytes_of
@@ -22,21 +25,23 @@ from tests.support.events import put_first_store
 from tests.support.events import query
 from tests.support.events import run
 from tests.support.events import run_line
+from tests.support.first_store import Values
 from tests.support.first_store import first_rows
 from tests.support.first_store import undo_of
 from tests.support.harness import Harness
 from tests.support.model import Desk
 from tests.support.stage import Failed
+from tests.support.stage import Stage
 from tests.support.stage import case
 from tests.support.stage import text_of
 from tests.support.telling import answer
 from tests.support.telling import rows_told
 from tests.support.telling import state
 
-def check_stops(stage, file, play):
+def check_stops(stage: Stage, file: str, play: Callable[[Harness, str, str], bool]) -> None:
     """Plays with a stop after no call of a file, after one, and so on up to a run that nothing
     stops. A crash leaves all that was written, or what was synced alone."""
-    def is_stopped(calls):
+    def is_stopped(calls: int) -> bool:
         is_whole = []
         for left in ('written', 'synced'):
             with case(f'what was {left} is left'), Harness(stage) as desk:
@@ -53,25 +58,25 @@ class Events(NamedTuple):
     amended: tuple
     lines: tuple
 
-    def model_after(self, stage, count):
+    def model_after(self, stage: Stage, count: int) -> tuple[Desk, list[str]]:
         model = Desk(manifest_text(self.first).encode())
         return model, [answer(stage, model, it).text for it in self.lines[:count]]
 
 
-def state_in(desk, *wanted):
+def state_in(desk: Harness, *wanted: Desk) -> int:
     """What the desk has, which must be what one of these models has. Gives which."""
     states = [''.join(state(it).values()) for it in wanted]
     return states.index(
         compare_any('all that it has', ''.join(map(desk.ask, state(wanted[0]))), *states))
 
 
-def check_images(desk, model):
+def check_images(desk: Harness, model: Desk) -> None:
     """What stood before each step of the chain, in the end."""
     check(desk, 'close', '')
     check(desk, query('undo'), rows_told(undo_of(model)))
 
 
-def count_answered(desk, lines, answers):
+def count_answered(desk: Harness, lines: Sequence[str], answers: Sequence[str]) -> int | None:
     """Makes a store, and sends the events one by one up to the first that is refused: how many were
     answered, or None where there is no store."""
     if not is_answered(desk, 'create first.csv', 'created\n'):
@@ -82,14 +87,14 @@ def count_answered(desk, lines, answers):
     return len(lines)
 
 
-def over_events(stage, file, events):
+def over_events(stage: Stage, file: str, events: Events) -> None:
     """Stops a file while a store is made and takes events. What is left stands for those before the
     one that was refused, or for them and that one; where there was no store to begin with it may
     have none, and that is made anew. The others are sent in one run."""
     put_files(stage, first=events.first, amended=events.amended)
     models = [events.model_after(stage, it) for it in range(len(events.lines) + 1)]
 
-    def play(desk, stop, crash):
+    def play(desk: Harness, stop: str, crash: str) -> bool:
         check(desk, stop, '')
         count = count_answered(desk, events.lines, models[-1][1])
         check(desk, crash, '')
@@ -126,13 +131,13 @@ LOST = (('2', 'D2'),)
 AFTER = ('comes 2 D2', 'amend amended.csv')
 
 
-def check_first_tables(desk, rows):
+def check_first_tables(desk: Harness, rows: Mapping[str, Sequence[Values]]) -> None:
     """Compares the rows of the tables that both versions have."""
     for table in FIRST_TABLES:
         check(desk, query(table), rows_told(rows[table]))
 
 
-def check_migrated(stage, desk, model):
+def check_migrated(stage: Stage, desk: Harness, model: Desk) -> None:
     """Compares what an open desk tells with the model, and goes on."""
     state_in(desk, model)
     for line in AFTER:
@@ -141,7 +146,7 @@ def check_migrated(stage, desk, model):
     check_images(desk, model)
 
 
-def over_migration(stage, file, before=()):
+def over_migration(stage: Stage, file: str, before: Sequence[str] = ()) -> None:
     """Stops a file while a store is migrated, which both is still of version 1 and is migrated
     after some stop. These lines come before. What is left has the same rows as ever, is migrated or
     opened, and goes on."""
@@ -151,7 +156,7 @@ def over_migration(stage, file, before=()):
     arrivals = [(number, bytes_of(name)) for number, name in (('1', 'F1'), *LOST)]
     rows, found = first_rows(listed, arrivals), set()
 
-    def play(desk, stop, crash):
+    def play(desk: Harness, stop: str, crash: str) -> bool:
         for line in ('script first.sql', *before, stop):
             check(desk, line, '')
         is_migrated = is_answered(desk, 'migrate', 'migrated\n')

@@ -5,6 +5,7 @@ import os
 from tests.support.outputs import check_narrow
 from tests.support.outputs import run_held_up
 from tests.support.reports import report
+from tests.support.stage import Stage
 from tests.support.stage import Wanted
 from tests.support.steps import Copy
 from tests.support.steps import Folder
@@ -17,14 +18,14 @@ RECEIPTS = 'report --store a.db receipts'
 AMPLE = 10_000
 
 
-def set_up(stage, **bodies):
+def set_up(stage: Stage, **bodies: str) -> None:
     for step in (Copy('listed.csv',
                       'fulls.csv'), Folder('deposits'), *(Copy(f'deposits/{it}', body)
                                                           for it, body in bodies.items())):
         step.do(stage)
 
 
-def test_standard_output_fails(stage):
+def test_standard_output_fails(stage: Stage) -> None:
     """Standard output fails."""
     set_up(stage, n1='f1.bundle', n2='f5.bundle')
     check_narrow(stage, INIT, 0, Wanted(3, '', 'E1 -\n'))
@@ -39,7 +40,7 @@ def test_standard_output_fails(stage):
     check_narrow(stage, '--help', 8, Wanted(3, 'Rebuilds', 'E1 -\n'))
 
 
-def test_whoever_reads_leaves(stage):
+def test_whoever_reads_leaves(stage: Stage) -> None:
     """Whoever reads standard output leaves after the heading."""
     set_up(stage, n1='f1.bundle', n2='f5.bundle')
     stage.check(INIT, Wanted(0, 'listed 2\n'))
@@ -48,7 +49,7 @@ def test_whoever_reads_leaves(stage):
     stage.check(RECEIPTS, Wanted(0, FIRST))
 
 
-def test_standard_error_fails(stage):
+def test_standard_error_fails(stage: Stage) -> None:
     """If standard error fails all else is as usual: the status and standard output."""
     set_up(stage, **{'a b': 'f5.bundle', 'n1': 'f1.bundle'})
     Text('empty.csv', '').do(stage)
@@ -60,7 +61,7 @@ def test_standard_error_fails(stage):
         stage.check(TAKE, Wanted(1, FIRST), err=full)
 
 
-def test_a_file_that_goes(stage):
+def test_a_file_that_goes(stage: Stage) -> None:
     """A file that goes stops its folder."""
     set_up(stage, n1='f1.bundle', n2='f1.bundle', n3='f5.bundle')
     stage.check(INIT, Wanted(0, 'listed 2\n'))

@@ -11,6 +11,8 @@ import resource
 import shutil
 import signal
 import sqlite3
+from collections.abc import Callable
+from collections.abc import Sequence
 
 from tests.cases.handovers import CHILD
 from tests.cases.handovers import FIRST
@@ -26,6 +28,7 @@ from tests.cases.handovers import names_in
 from tests.cases.handovers import played_apart
 from tests.cases.handovers import release_of
 from tests.cases.handovers import store_of
+from tests.support.acceptance import Objects
 from tests.support.bundles import HEADING
 from tests.support.bundles import Table
 from tests.support.documents import csv_text
@@ -39,6 +42,7 @@ from tests.support.outputs import prepared
 from tests.support.releases import SAMPLES
 from tests.support.releases import Release
 from tests.support.stage import Failed
+from tests.support.stage import Stage
 from tests.support.stage import case
 from tests.support.stage import compare
 from tests.support.stage import compare_all
@@ -48,10 +52,12 @@ from tests.support.steps import Text
 from tests.support.stores import change_row
 from tests.support.stores import run
 
+# Whether a table has parent rows, its columns after the key, and its rows.
+Sheet = tuple[bool, list[str], list[tuple[str | None, ...]]]
 BOTH = 'tables --store a.db --sqlite out'
 
 
-def sheet_of(is_parent, rows):
+def sheet_of(is_parent: bool, rows: Sequence[tuple[str, list[tuple[str, str]]]]) -> Sheet:
     """The table of rows, of each the key and its cells: whether it has parent rows, its columns
     after the key, and its rows: of each the key, and the texts, or None where it has no such field.
     A field that stands in it twice has its first text."""
@@ -60,11 +66,12 @@ def sheet_of(is_parent, rows):
                                 for key, cells in rows]
 
 
-def sheets_of(objects):
+def sheets_of(objects: Objects) -> dict[str, Sheet]:
     """The tables of objects, which are records by kind and key, by their names."""
-    sheets = {}
+    sheets: dict[str, Sheet] = {}
     for kind in KINDS:
-        parents, children = [], {}
+        parents = []
+        children: dict[str, list[tuple[str, list[tuple[str, str]]]]] = {}
         for (_, key), it in sorted(it for it in objects.items() if it[0][0] == kind):
             (_, cells), *others = read_record(it)
             parents.append((key.decode(), cells))
@@ -76,7 +83,7 @@ def sheets_of(objects):
     return sheets
 
 
-def check_database(stage, sheets):
+def check_database(stage: Stage, sheets: dict[str, Sheet]) -> None:
     with contextlib.closing(sqlite3.connect(stage.at('out/registry.sqlite'))) as database:
         compare('integrity', 'ok', database.execute('PRAGMA integrity_check').fetchone()[0])
         names = [
@@ -98,7 +105,7 @@ def check_database(stage, sheets):
                 raise Failed(f'{name} is searched without an index: {plan}')
 
 
-def check_tables(stage, objects, line=TABLES):
+def check_tables(stage: Stage, objects: Objects, line: str = TABLES) -> None:
     """Makes the files of a store, and compares them with the tables of these objects. Nothing else
     is made or changed."""
     names, before = {*names_in(stage.room.name), 'a.db-wal', 'out'}, read(stage.at('a.db'))
@@ -120,7 +127,7 @@ def check_tables(stage, objects, line=TABLES):
         raise Failed('the store is changed')
 
 
-def check_release(stage, release, refusal=None):
+def check_release(stage: Stage, release: Release, refusal: str | None = None) -> None:
     """Compares the files of a release, with a database, and without one. There may be a refusal of
     the database, and there are none where there is no chain."""
     release.rebuild(stage)
@@ -135,7 +142,7 @@ def check_release(stage, release, refusal=None):
 
 
 RELEASES = SAMPLES | {f'the release of seed {seed}': some_release(seed) for seed in range(6)}
-CASES = {
+CASES: dict[str, Callable[[Stage], None]] = {
     f'Tables of {name}': functools.partial(check_release, release=it)
     for name, it in RELEASES.items()
 }
@@ -182,7 +189,7 @@ CASES['Tables of all sorts'] = played_apart(
     lambda stage, *given: check_release(stage, release_of(*given[:2]), given[2]), REGISTRIES)
 
 
-def test_cells_that_no_bundle_has(stage):
+def test_cells_that_no_bundle_has(stage: Stage) -> None:
     """Rows that no bundle has: a field that stands in a row twice, and a row without cells."""
     store_of(stage, (FIRST, CHILD))
     rows = [('contact', [('id', 'C1'), ('x', '1'), ('id', 'C2'), ('x', '2')]), ('more', []),
@@ -203,13 +210,13 @@ CASES['Tables of which two would be in one file'] = played_apart(
     functools.partial(check_contents_refused, lines=(TABLES, BOTH)), ALIKE)
 
 
-def test_no_chain(stage):
+def test_no_chain(stage: Stage) -> None:
     """A store without a chain has no tables yet."""
     Release(HEADING.encode(), []).rebuild(stage)
     check_refused(stage, 'H7', TABLES)
 
 
-def test_places(stage):
+def test_places(stage: Stage) -> None:
     """The folder of the files is made, or is empty; else they are not made."""
     store_of(stage, (FIRST,))
     for made in (Folder('full/of'), Text('file', 'text'), Link('link', 'nowhere'), Folder('empty'),
@@ -229,13 +236,13 @@ def test_places(stage):
     check_refused(stage, 'E1 new', TABLES.replace('out', 'new'), 3)
 
 
-def make_long(stage):
+def make_long(stage: Stage) -> None:
     """A store whose first table is short, and whose second one is longer than a log without
     entries."""
     store_of(stage, (contacts(b'C1,%b\n' % (b'x' * 200)),))
 
 
-def test_a_full_disk(stage):
+def test_a_full_disk(stage: Stage) -> None:
     """A file that can't be written whole: nothing is left."""
     make_long(stage)
     check_refused(stage, 'E1 out', TABLES, 3, prepare=no_longer_files(SHORT))
@@ -243,7 +250,7 @@ def test_a_full_disk(stage):
     check_refused(stage, 'E1 out', BOTH, 3, prepare=no_longer_files(1_000))
 
 
-def test_a_stop(stage):
+def test_a_stop(stage: Stage) -> None:
     """A stop in the middle leaves nothing in the folder's place, and the files so far beside it."""
     make_long(stage)
     ends = prepared([(resource.RLIMIT_FSIZE, SHORT), (resource.RLIMIT_CORE, 0)])

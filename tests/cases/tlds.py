@@ -1,9 +1,11 @@
 """What `pack check` and `pack manifest` tell of bundles that name different TLDs."""
 import json
+from collections.abc import Iterable
 
 from tests.support.bundles import HEADING
 from tests.support.bundles import bundle_of
 from tests.support.bundles import row_of
+from tests.support.stage import Stage
 from tests.support.stage import Wanted
 from tests.support.stage import case
 from tests.support.stage import text_of
@@ -30,23 +32,23 @@ RELEASES = (
 OTHERS = '"TLD":"net","tlds":["net"],"notes":["net"],"x":{"tld":"net"}'
 
 
-def envelope_of(number, tld, day=None):
+def envelope_of(number: int, tld: str | None, day: int | None = None) -> bytes:
     """The envelope of a Full of its own, or at a day that another one may have."""
     return (f'{{"id":"F{number}","type":"FULL","watermark":"2024-03-{day or number:02}T00:00:00Z",'
             f'{OTHERS}' + (f',"tld":{tld}}}' if tld else '}')).encode()
 
 
-def row(number, body):
+def row(number: int, body: bytes) -> str:
     return row_of(f'F{number},FULL,2024-03-{number:02}T00:00:00Z,,', body)
 
 
-def told(path, lines):
+def told(path: str, lines: Iterable[tuple[int, str, int, str]]) -> str:
     """The lines of standard error. `path` is what stands before the number of a bundle."""
     return text_of(f'other tld {path}{at}: {tld}, that of {path}{other} is {others}'
                    for at, tld, other, others in lines)
 
 
-def test_bundles_of_other_tlds(stage):
+def test_bundles_of_other_tlds(stage: Stage) -> None:
     """A bundle of another TLD than that of the first one is told, and nothing else changes."""
     for name, tlds, lines in RELEASES:
         files = {f'n{at}': bundle_of(envelope_of(at, tld)) for at, tld in enumerate(tlds, 1)}
@@ -64,7 +66,7 @@ def test_bundles_of_other_tlds(stage):
                         ['manifest', *(f'{folder}/{it}' for it in files)], 'pack')
 
 
-def test_files_that_are_no_deposit_of_another_tld(stage):
+def test_files_that_are_no_deposit_of_another_tld(stage: Stage) -> None:
     """A file that no row lists, a bundle that is no deposit and one that is no bundle."""
     com = bundle_of(envelope_of(1, '"com"'))
     stage.write('files/a', b'{"tld":"net"}')
@@ -84,7 +86,7 @@ def test_files_that_are_no_deposit_of_another_tld(stage):
                 program='pack')
 
 
-def test_bundles_of_other_tlds_that_no_manifest_lists(stage):
+def test_bundles_of_other_tlds_that_no_manifest_lists(stage: Stage) -> None:
     """Two bundles of one place are told for their TLDs, too."""
     for at, tld in enumerate(('com', 'net'), 1):
         stage.write(f'n{at}', bundle_of(envelope_of(at, f'"{tld}"', 3)))

@@ -1,4 +1,6 @@
 """How long the desk waits for slow clients, by a clock that moves only while one is waited for."""
+from collections.abc import Iterable
+
 from tests.support.clients import GET_ONLY
 from tests.support.clients import LENGTH_REQUIRED
 from tests.support.clients import NOT_FOUND
@@ -14,6 +16,7 @@ from tests.support.messages import get
 from tests.support.messages import put
 from tests.support.messages import response
 from tests.support.reports import status
+from tests.support.stage import Stage
 
 GET_STATUS, LONG_REQUEST = get('/status'), put('n1', 700_000 * b'x')
 # The responses to them, where nothing else has come.
@@ -57,7 +60,8 @@ TAKERS = (
 )
 
 
-def check_requests(stage, request, clients, wanted):
+def check_requests(stage: Stage, request: bytes, clients: Iterable[tuple[int, int, str, int]],
+                   wanted: bytes) -> None:
     """A request that comes in parts. There is no response where it doesn't come."""
     list_sample(stage)
     with new_desk(stage) as desk:
@@ -66,7 +70,7 @@ def check_requests(stage, request, clients, wanted):
                               came=came, time=time)
 
 
-def test_refusals(stage):
+def test_refusals(stage: Stage) -> None:
     """A request that is refused by its head is answered once the head has come."""
     for request, refusal in REFUSALS:
         clients = [(400, len(request), SERVED, 400), (40, 1, SERVED, 40 * len(request))]
@@ -80,7 +84,7 @@ CASES = {
 }
 
 
-def test_responses(stage):
+def test_responses(stage: Stage) -> None:
     """A response is waited for as a whole."""
     list_sample(stage)
     stage.write('request', GET_STATUS)

@@ -1,5 +1,6 @@
 """Exports of many objects: by a reader of the store, and by a desk on a port, which walks page by
 page, 256 objects in each."""
+
 from tests.support.bodies import BODIES
 from tests.support.bodies import SHAPES
 from tests.support.bodies import bytes_of
@@ -11,11 +12,12 @@ from tests.support.reports import report
 from tests.support.sockets import response_to
 from tests.support.sockets import serve
 from tests.support.stage import Failed
+from tests.support.stage import Stage
 from tests.support.stage import Wanted
 from tests.support.stores import run
 
 
-def lines_of(table, row):
+def lines_of(table: str, row: str) -> list[str]:
     """The lines of an object that has no child rows, by its parent row."""
     kind, _, fields = SHAPES[table]
     cells = row.split(',')
@@ -25,7 +27,7 @@ def lines_of(table, row):
     ]
 
 
-def check_export(what, wanted, got):
+def check_export(what: str, wanted: bytes, got: bytes) -> None:
     """Compares an export. (`difference` would take long over so many lines.)"""
     if got != wanted:
         pairs = zip(wanted.splitlines(), got.splitlines())
@@ -33,7 +35,7 @@ def check_export(what, wanted, got):
         raise Failed(f'{what}\nof {len(wanted)} bytes came {len(got)}, and others: {first}')
 
 
-def check_exports(stage, *bodies):
+def check_exports(stage: Stage, *bodies: str) -> None:
     for at, it in enumerate(bodies, 1):
         stage.write(f'deposits/{at}', bytes_of(it))
     stage.write('listed.csv', manifest_text(bodies).encode())
@@ -54,11 +56,11 @@ def check_exports(stage, *bodies):
         check_export(f'GET /export/{kind}', table('export', *lines), served[kind])
 
 
-def test_pages(stage):
+def test_pages(stage: Stage) -> None:
     """No object of a kind, one, a page of them, and three pages."""
     check_exports(stage, 'Many')
 
 
-def test_two_large_deposits(stage):
+def test_two_large_deposits(stage: Stage) -> None:
     """More objects than one deposit may have."""
     check_exports(stage, 'Hosts', 'Domains')

@@ -1,4 +1,6 @@
 """The words of manifests and envelopes: the moments of watermarks, places, types, kinds and ids."""
+from collections.abc import Sequence
+
 from tests.support.bundles import bundle_of
 from tests.support.bundles import envelope_of
 from tests.support.bundles import row_of
@@ -6,6 +8,7 @@ from tests.support.bundles import section
 from tests.support.clients import new_desk
 from tests.support.formats import KINDS
 from tests.support.reports import report
+from tests.support.stage import Stage
 from tests.support.stage import Wanted
 from tests.support.stage import case
 from tests.support.stage import compare
@@ -95,14 +98,14 @@ WORDS = (
 )
 
 
-def row_at(name, kind, watermark):
+def row_at(name: str, kind: str, watermark: str) -> str:
     """What a row says of a deposit on another one that is not listed. A watermark may have a
     comma."""
     return f'{name},{kind},"{watermark}",X9,' if ',' in watermark else (f'{name},{kind},'
                                                                         f'{watermark},X9,')
 
 
-def test_moments_that_are_read(stage):
+def test_moments_that_are_read(stage: Stage) -> None:
     """Texts that are moments."""
     stage.write(
         'listed.csv',
@@ -116,7 +119,7 @@ def test_moments_that_are_read(stage):
         stage.check(f'as-of --store a.db {text}', Wanted(0, 'end none\n'))
 
 
-def test_texts_that_are_no_moments(stage):
+def test_texts_that_are_no_moments(stage: Stage) -> None:
     """Texts that are no moments: of a row, and of a command."""
     for text in NO_MOMENTS:
         with case(f'the text {text!r}'):
@@ -126,7 +129,7 @@ def test_texts_that_are_no_moments(stage):
             stage.check(f'as-of --store a.db {text!r}', wanted, ['as-of', '--store', 'a.db', text])
 
 
-def check_gaps(stage, rows, places):
+def check_gaps(stage: Stage, rows: Sequence[str], places: Sequence[tuple[str, str]]) -> None:
     """Compares the report of a store that lists rows, of which none is held."""
     stage.write('listed.csv', text_of_rows((said, at) for at, said in enumerate(rows)))
     stage.check('init --store a.db --manifest listed.csv', Wanted(0, f'listed {len(rows)}\n'))
@@ -134,7 +137,7 @@ def check_gaps(stage, rows, places):
     stage.check('report --store a.db gaps', Wanted(0, report('gaps', lines)))
 
 
-def test_moments_that_are_printed(stage):
+def test_moments_that_are_printed(stage: Stage) -> None:
     """The texts of moments."""
     listed = [*(f'2024-03-03T00:00:00.{nanoseconds:09}Z' for nanoseconds, _ in FRACTIONS), LAST]
     printed = [*(f'2024-03-03T00:00:00{text}Z' for _, text in FRACTIONS), LAST]
@@ -142,20 +145,20 @@ def test_moments_that_are_printed(stage):
                [(it, 'FULL') for it in printed])
 
 
-def test_places_in_their_order(stage):
+def test_places_in_their_order(stage: Stage) -> None:
     """Places are in the order of moments, and at one moment in that of types."""
     rows = [row_at(f'{kind}{at}', kind, watermark) for at, (watermark, kind) in enumerate(PLACES)]
     check_gaps(stage, [rows[at] for at in (2, 3, 1, 0)], PLACES)
 
 
-def test_types_and_ids(stage):
+def test_types_and_ids(stage: Stage) -> None:
     """Words that are types and ids."""
     for name, kind, said in WORDS:
         compare(f'what is said of {name} {kind}', said,
                 said_of(stage, text_of_rows([(row_at(name, kind, FIFTH), 1)])))
 
 
-def test_kinds_in_their_order(stage):
+def test_kinds_in_their_order(stage: Stage) -> None:
     """The words of kinds, and their order."""
     files = {kind: (kind, 'parent', ('key',)) for kind in reversed(KINDS)}
     body = bundle_of(envelope_of(files),
@@ -167,7 +170,7 @@ def test_kinds_in_their_order(stage):
         desk.check('tables', text_of(lines))
 
 
-def test_words_that_are_no_text(stage):
+def test_words_that_are_no_text(stage: Stage) -> None:
     """Words of both programs that are no UTF-8."""
     for program, line in NO_TEXTS:
         stage.check(ascii(line), Wanted(2, '', INVALID), line.split(), program)

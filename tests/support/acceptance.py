@@ -7,11 +7,20 @@ import re
 import time
 import unicodedata
 from collections import Counter
+from collections.abc import Callable
+from collections.abc import Iterable
+from collections.abc import Iterator
+from collections.abc import Mapping
+from collections.abc import Sequence
+from typing import TypeVar
 
 from tests.support import formats
 from tests.support.formats import KINDS
+from tests.support.formats import Declared
 from tests.support.formats import Deposit
+from tests.support.formats import Named
 from tests.support.formats import Refused
+from tests.support.formats import Rows
 from tests.support.formats import counts_in
 from tests.support.formats import envelope_in
 from tests.support.formats import found_in
@@ -19,11 +28,19 @@ from tests.support.formats import in_order
 from tests.support.formats import moment_text
 from tests.support.formats import place_text
 from tests.support.formats import read_record
+from tests.support.model import Desk
 from tests.support.model import made_by
 
+It = TypeVar('It')
+# Of a guide the kind, the child table or none, and the field; of a finding the code, the kind, the
+# key, the field and the value; of a test its name, whether it passes, and what is said of it.
+Guide = tuple[str, str | None, str]
+Finding = tuple[int, str, str, str, str]
+Tested = tuple[str, bool, str]
+Objects = Mapping[Named, bytes]
 # The fields by which links, statuses and dates go: the kind of the objects, the child table, or
 # none where the parent rows have it, and the field.
-GUIDES = (
+GUIDES: tuple[Guide, ...] = (
     ('registrar', None, 'crDate'),
     ('contact', None, 'clID'),
     ('contact', None, 'crDate'),
@@ -80,14 +97,15 @@ STATUSES = {
 }
 
 
-def cells_of(rows, table, field):
+def cells_of(rows: Rows, table: str | None, field: str) -> list[str]:
     """The texts of a field in the rows of a child table, or in the parent row, which is the first
     one; without empty ones."""
     chosen = rows[:1] if table is None else [it for it in rows[1:] if it[0] == table]
     return [text for _, cells in chosen if (text := dict(reversed(cells)).get(field))]
 
 
-def findings_of(kind, key, rows, objects, watermark):
+def findings_of(kind: str, key: str, rows: Rows, objects: Objects,
+                watermark: int) -> Iterator[Finding]:
     for _, table, field in (it for it in GUIDES if it[0] == kind and it[2] in TARGETS):
         for text in cells_of(rows, table, field):
             target = text.lower() if field == 'hostName' else text
@@ -111,7 +129,7 @@ def findings_of(kind, key, rows, objects, watermark):
         yield 6, kind, key, 'exDate', texts['exDate']
 
 
-def findings(objects, watermark, counts):
+def findings(objects: Objects, watermark: int, counts: dict[str, int]) -> list[Finding]:
     """The findings V1 to V7 in objects, which are records by kind and key: code, kind, key, field
     and value, in order."""
     found = {(2, kind, '', 'count', f'{count}')
@@ -122,35 +140,35 @@ def findings(objects, watermark, counts):
                   (it[0], KINDS.index(it[1]), *(text.encode() for text in it[2:])))
 
 
-def count_of(objects, kind):
+def count_of(objects: Iterable[Named], kind: str) -> int:
     return sum(it[0] == kind for it in objects)
 
 
 # ---- names
 
 
-def bare(name):
+def bare(name: str) -> str:
     return ''.join(it for it in name.lower() if it not in '._-')
 
 
-def looks_like(name, wanted):
+def looks_like(name: str, wanted: str) -> bool:
     """Whether a name is another but for case and signs, and an f before it."""
     return bare(name) == wanted.lower() or bare(name[:1]) == 'f' and bare(
         name[1:]) == wanted.lower()
 
 
-def is_disguised(name, wanted):
+def is_disguised(name: str, wanted: str) -> bool:
     return name != wanted and looks_like(name, wanted)
 
 
-def is_table_of(guide, table):
+def is_table_of(guide: Guide, table: Declared) -> bool:
     """Whether a declared table is the one that has the field of a guide."""
     kind, child, _ = guide
     return table['kind'] == kind and (table['role'] == 'parent' if child is None else
                                       (table['role'], table['name']) == ('child', child))
 
 
-def is_under_other_name(guide, tables):
+def is_under_other_name(guide: Guide, tables: Sequence[Declared]) -> bool:
     kind, child, field = guide
     children = [it for it in tables if (it['kind'], it['role']) == (kind, 'child')] if child else []
     fields = [name for it in tables if is_table_of(guide, it) for name in it['fields']]
@@ -159,19 +177,19 @@ def is_under_other_name(guide, tables):
         or child == 'domainNs' and looks_like(it['name'], 'domainNameServers') for it in children)
 
 
-def guide_text(guide):
+def guide_text(guide: Guide) -> str:
     kind, child, field = guide
     return f'{child or kind} {field}'
 
 
-def is_bundle(body):
+def is_bundle(body: bytes) -> bool:
     try:
         return envelope_in(body) is not None
     except Refused:
         return False
 
 
-def has_guide(guide, kind, record):
+def has_guide(guide: Guide, kind: str, record: bytes) -> bool:
     """Whether an object has the field of a guide, if it is of the kind that does: in its parent
     row, or in each row of that child table."""
     rows = read_record(record)
@@ -179,18 +197,18 @@ def has_guide(guide, kind, record):
     return kind != guide[0] or all(guide[2] in dict(cells) for _, cells in rows)
 
 
-def names_stranger(record, objects):
+def names_stranger(record: bytes, objects: Objects) -> bool:
     """Whether a row of an object names a registrar that is not there."""
     return any(text and ('registrar', text.encode()) not in objects
                for _, cells in read_record(record)
                for text in map(dict(reversed(cells)).get, ('crRr', 'upRr', 'reRr', 'acRr')))
 
 
-def roid_of(record):
+def roid_of(record: bytes) -> str:
     return ''.join(cells_of(read_record(record), None, 'roid'))
 
 
-def lacks_required(kind, record):
+def lacks_required(kind: str, record: bytes) -> bool:
     """Whether an object lacks what is required of its kind. That its parent row has a `clID` is
     asked by another test."""
     rows = read_record(record)
@@ -202,11 +220,11 @@ def lacks_required(kind, record):
         kind == 'contact' and not any(all(map(row.get, POSTAL)) for row in postal)))
 
 
-def is_number(text, most):
+def is_number(text: str, most: int) -> bool:
     return re.fullmatch('[0-9]{1,9}', text) is not None and int(text) <= most
 
 
-def is_wrong_ds(cells):
+def is_wrong_ds(cells: list[tuple[str, str]]) -> bool:
     """Whether a row of secDNS has a part of a DS, and is none."""
     tag, algorithm, kind, digest = (dict(reversed(cells)).get(it, '') for it in DS_PARTS)
     if not (tag or algorithm or kind or digest):
@@ -218,7 +236,7 @@ def is_wrong_ds(cells):
     return not (is_long and re.fullmatch('[0-9A-Fa-f]*', digest))
 
 
-def flaws_of(objects, tld):
+def flaws_of(objects: Objects, tld: str | None) -> dict[str, list[Named]]:
     """The objects that break each rule, in order; tld is the one that is known, or None."""
     keys = sorted(objects, key=lambda it: (KINDS.index(it[0]), it[1]))
     roids = Counter((kind, roid) for (kind, _), it in objects.items() if (roid := roid_of(it)))
@@ -241,7 +259,7 @@ class Seen:
     """What is seen of a store where the body of the chain's last deposit is a bundle. (One that
     went bad may have rows of which no deposit is read. It still declares tables.)"""
 
-    def __init__(self, desk):
+    def __init__(self, desk: Desk) -> None:
         bodies = [desk.held[it] for it in desk.steps]
         read = list(map(found_in, bodies))
         deposits = [it for it in read if isinstance(it, Deposit)]
@@ -277,7 +295,7 @@ class Seen:
 # ---- the lines
 
 
-def end_line(seen):
+def end_line(seen: Seen) -> tuple[bool, str]:
     """Whether no place is listed after the end, up to the moment; and what is said of it."""
     if seen.end is None:
         return False, 'there is no chain'
@@ -288,25 +306,26 @@ def end_line(seen):
     return not later, place_text(seen.end) + by + later
 
 
-def control_spelled(text):
+def control_spelled(text: str) -> str:
     """A text as it is shown: if it has control characters, these and its backslashes are
     escaped."""
     controls = {it: f'\\u{{{ord(it):x}}}' for it in text if unicodedata.category(it) == 'Cc'}
     others = {'\t': '\\t', '\n': '\\n', '\r': '\\r', '\\': '\\\\'}
-    return text.translate(str.maketrans(controls | others)) if controls else text
+    signs: dict[str, str | int | None] = {**controls, **others}
+    return text.translate(str.maketrans(signs)) if controls else text
 
 
-def counted(found, words):
+def counted(found: Sequence[It], words: Callable[[It], str]) -> str:
     """How many there are, and these words of the first one."""
     return f'{len(found)}{words(found[0])};' if found else ''
 
 
-def named(found, words):
+def named(found: Iterable[str], words: str) -> str:
     names = ', '.join(found)
     return f'{names} {words}' if names else ''
 
 
-def undeclared(seen):
+def undeclared(seen: Seen) -> list[Guide]:
     """The fields that a test needs and the deposits of the chain don't declare, or not for each
     object."""
     wanted = [it for it in GUIDES
@@ -319,7 +338,7 @@ def undeclared(seen):
             or not all(has_guide(it, kind, of) for (kind, _), of in seen.made.items())]
 
 
-def wrong_gaps(seen):
+def wrong_gaps(seen: Seen) -> dict[str, str]:
     """What is wrong with the chain and the places before its end, by the test."""
     outdated = [it for it in seen.gaps if it.state == 'chain' and it.awaited is not None]
     passed = [it for it in seen.gaps
@@ -341,12 +360,12 @@ def wrong_gaps(seen):
     }
 
 
-def finding_text(finding):
+def finding_text(finding: Finding) -> str:
     code, kind, key, more, *_ = finding
     return ' '.join(filter(None, (f'V{code}', kind, control_spelled(key), more)))
 
 
-def wrong_objects(seen):
+def wrong_objects(seen: Seen) -> dict[str, str]:
     """What is wrong with the objects, by the test."""
     broken = {rule: f'{len(seen.flaws[rule])} {words}' if seen.flaws[rule] else ''
               for rule, words in RULES.items()}
@@ -362,7 +381,7 @@ def wrong_objects(seen):
     }
 
 
-def wrong_bodies(seen):
+def wrong_bodies(seen: Seen) -> dict[str, str]:
     """What is wrong with the bodies that are held, by the test."""
     spoiled = counted(seen.spoiled, lambda it: ' held are gone or have another SHA-256 than '
                       f'listed, the first of row {it + 1}')
@@ -374,7 +393,7 @@ def wrong_bodies(seen):
     }
 
 
-def tests_of(seen):
+def tests_of(seen: Seen) -> Iterator[Tested]:
     """Each test in order: its name, whether it passes, and what its line then begins to say if it
     doesn't. Of the end this is said in any case."""
     tlds = ', '.join(map(control_spelled, seen.tlds)) or 'no held deposit names one'
@@ -384,17 +403,17 @@ def tests_of(seen):
         yield name, not wrong, wrong
 
 
-def is_accepted(tests):
+def is_accepted(tests: Iterable[Tested]) -> bool:
     """Whether the registry may be taken over: each test passes, but for those that are told
     alone."""
     return all(passes or name in TOLD_ALONE for name, passes, _ in tests)
 
 
-def word_of(name, passes):
+def word_of(name: str, passes: bool) -> str:
     return 'ok' if passes else 'told' if name in TOLD_ALONE else 'wrong'
 
 
-def beginning(name, passes, said):
+def beginning(name: str, passes: bool, said: str) -> str:
     """How the line of a test begins, or the whole line where it passes."""
     line = f'{word_of(name, passes)} {name}'
     return f'{line}: {said}' if not passes or name in ('tld', 'end') else line

@@ -3,6 +3,7 @@
 `bytes_of(name)` gives the bytes of a body, and `manifest_text(names, more)` a manifest that lists
 bodies, and then further rows."""
 import functools
+from collections.abc import Iterable
 from dataclasses import dataclass
 from dataclasses import field
 
@@ -37,7 +38,7 @@ class Body:
     counts: dict = field(default_factory=dict)
     raw: bytes | None = None
 
-    def bytes(self):
+    def bytes(self) -> bytes:
         if self.raw is not None:
             return self.raw
         contents = [Table(it, *SHAPES[it], rows.encode()) for it, rows in self.contents.items()]
@@ -49,7 +50,7 @@ class Body:
         return deposit(self.listed, contents, deletes, self.counts)
 
 
-def numbered(count, more=''):
+def numbered(count: int, more: str = '') -> str:
     """Rows whose order isn't that of their keys by bytes."""
     return ''.join(f'n{at}.example,R1{more}\n' for at in range(count))
 
@@ -129,13 +130,13 @@ BODIES = {
 
 
 @functools.cache
-def bytes_of(name):
+def bytes_of(name: str) -> bytes:
     return BODIES[name].bytes()
 
 
-def line_of(name):
+def line_of(name: str) -> str:
     return row_of(BODIES[name].listed, bytes_of(name))
 
 
-def manifest_text(names, more=''):
+def manifest_text(names: Iterable[str], more: str = '') -> str:
     return HEADING + ''.join(map(line_of, names)) + more

@@ -2,6 +2,8 @@
 manifests that list them; and the worked bundle of one contact."""
 import hashlib
 import json
+from collections.abc import Iterable
+from collections.abc import Sequence
 from typing import NamedTuple
 
 # The first lines of a bundle and of a manifest.
@@ -31,19 +33,19 @@ FILES = {
 }
 
 
-def section(name, content):
+def section(name: str, content: bytes) -> bytes:
     return f'{name} {len(content)}\n'.encode() + content + b'\n'
 
 
-def bundle_of(envelope, files=b''):
+def bundle_of(envelope: bytes, files: bytes = b'') -> bytes:
     return FIRST_LINE + section('envelope.json', envelope) + files + b'end\n'
 
 
-def compact(envelope):
+def compact(envelope: object) -> bytes:
     return json.dumps(envelope, separators=(',', ':')).encode()
 
 
-def sealed(envelope, files):
+def sealed(envelope: object, files: Iterable[tuple[str, bytes]]) -> bytes:
     """The bundle of an envelope, a value or its text, and of files: the name and the content of
     each."""
     text = envelope if isinstance(envelope, bytes) else compact(envelope)
@@ -58,7 +60,7 @@ class Header(NamedTuple):
     prev: str = ''
     resend: int = 0
 
-    def __str__(self):
+    def __str__(self) -> str:
         return ','.join(map(str, self))
 
 
@@ -72,7 +74,7 @@ class Table(NamedTuple):
     rows: bytes = b''
     key: str | None = None
 
-    def declared(self, file):
+    def declared(self, file: str) -> dict[str, object]:
         return {
             'name': self.name,
             'kind': self.kind,
@@ -83,7 +85,8 @@ class Table(NamedTuple):
         }
 
 
-def deposit(header, contents=(), deletes=(), counts=None, **besides):
+def deposit(header: object, contents: Sequence[Table] = (), deletes: Sequence[Table] = (),
+            counts: dict[str, int] | None = None, **besides: object) -> bytes:
     """The bundle of a deposit with these tables, which says how many objects of some kinds there
     are, and has these members besides. The header may be its text."""
     name, kind, watermark, prev, resend = str(header).split(',')
@@ -104,7 +107,7 @@ def deposit(header, contents=(), deletes=(), counts=None, **besides):
     return sealed(told, files)
 
 
-def envelope_of(files):
+def envelope_of(files: dict[str, tuple[str, str, tuple[str, ...]]]) -> bytes:
     """The envelope of a Full whose tables are t0, t1 .., each with its file."""
     tables = [
         Table(f't{at}', *declared).declared(file)
@@ -114,9 +117,9 @@ def envelope_of(files):
         {'id': 'F1', 'type': 'FULL', 'watermark': '2024-03-03T00:00:00Z', 'contents': tables})
 
 
-def row_of(header, body):
+def row_of(header: object, body: bytes) -> str:
     return f'{header},{hashlib.sha256(body).hexdigest()}\n'
 
 
-def manifest(deposits):
+def manifest(deposits: Iterable[tuple[object, bytes]]) -> bytes:
     return (HEADING + ''.join(row_of(*it) for it in deposits)).encode()

@@ -2,6 +2,7 @@
 get."""
 import contextlib
 import json
+from collections.abc import Iterator
 from dataclasses import dataclass
 
 from tests.support.bundles import SAMPLE as CONTACT
@@ -11,6 +12,7 @@ from tests.support.harness import Harness
 from tests.support.messages import put
 from tests.support.messages import response
 from tests.support.reports import report
+from tests.support.stage import Stage
 from tests.support.steps import Copy
 
 # More bytes than a request or a response has.
@@ -20,7 +22,7 @@ AMPLE = 10_000_000
 SERVED, READ_FAULT, WRITE_FAULT = 'served', 'read fault', 'write fault'
 
 
-def replied(row):
+def replied(row: str) -> bytes:
     """The response to an arrival, by its row in the report of receipts."""
     receipt, number, verdict, fault, name, resend, copy, orphans = row.split(',')
     told = {
@@ -37,7 +39,7 @@ def replied(row):
                     json.dumps(told, separators=(',', ':')), 'application/json')
 
 
-def table(name, *rows):
+def table(name: str, *rows: str) -> bytes:
     return response(200, report(name, rows), 'text/csv')
 
 
@@ -54,7 +56,7 @@ RECEIPTS = ('1,n1,A1,,F1,0,new,0', '2,n2,A5,,,,,')
 HELD = replied(RECEIPTS[0])
 
 
-def list_sample(stage):
+def list_sample(stage: Stage) -> None:
     Copy('listed.csv', 'with-contact.csv').do(stage)
 
 
@@ -71,21 +73,21 @@ class Wire:
     writable: int = AMPLE
     is_stuck: bool = False
 
-    def line(self):
+    def line(self) -> str:
         if self == Wire(self.request):
             return 'request request'
         end = 'stuck' if self.is_stuck else 'flowing'
         return f'request request {self.pause} {self.piece} {self.readable} {self.writable} {end}'
 
 
-def shown(text):
+def shown(text: bytes) -> str:
     return text.decode(errors='backslashreplace')
 
 
 class RequestDesk(Harness):
     """A desk to which requests are sent, each in the file `request`."""
 
-    def serve(self, wire):
+    def serve(self, wire: Wire) -> str:
         """What comes of a request, and what is written of its response."""
         self.stage.write('request', wire.request)
         answer = self.ask(wire.line())
@@ -94,19 +96,20 @@ class RequestDesk(Harness):
             return f'{came}\n{shown(bytes.fromhex(digits))}'
         return answer
 
-    def check_served(self, wire, *responses, came=SERVED, time=0):
+    def check_served(self, wire: Wire, *responses: bytes, came: str = SERVED,
+                     time: int = 0) -> bool:
         """Sends a request, and compares what comes of it, and after how many milliseconds. Its
         response must be one of these: gives whether it is the first one."""
         wanted = [f'{came} after {time} milliseconds\n{shown(it)}' for it in responses]
         return compare_any(f'{wire.line()}\n{wire.request!r:.400}', self.serve(wire),
                            *wanted) == wanted[0]
 
-    def check_receipts(self, *receipts):
+    def check_receipts(self, *receipts: str) -> None:
         check(self, 'receipts', report('receipts', receipts))
 
 
 @contextlib.contextmanager
-def new_desk(stage):
+def new_desk(stage: Stage) -> Iterator[RequestDesk]:
     """A desk over a new store of the manifest in listed.csv."""
     with RequestDesk(stage) as desk:
         desk.check('create listed.csv', 'created\n')

@@ -1,5 +1,8 @@
 """An agent's bare CSV files at random, with their description, in each form that `pack bundle`
 takes."""
+import random
+from collections.abc import Sequence
+
 from tests.support.formats import KINDS
 
 # What cells are made of: what means something in CSV, and letters of several alphabets.
@@ -14,14 +17,15 @@ NAMES = ('t', 'T', 'more_1', 'domainNs', 'z' * 64)
 class Files:
     """The files of a deposit, and its description."""
 
-    def __init__(self, chance, header, most=12):
-        self.chance, self.most, self.files = chance, most, {}
-        self.description = {**header, 'contents': [], 'deletes': []}
+    def __init__(self, chance: random.Random, header: dict[str, str], most: int = 12) -> None:
+        self.chance, self.most = chance, most
+        self.files: dict[str, bytes] = {}
+        self.description: dict = {**header, 'contents': [], 'deletes': []}
         for kind in chance.sample(KINDS, chance.randint(1, len(KINDS))):
             self.add_kind(kind)
         chance.shuffle(self.description['contents'])
 
-    def add_kind(self, kind):
+    def add_kind(self, kind: str) -> None:
         # A kind may have child tables alone: then each row is an orphan.
         if self.chance.random() < 0.9:
             self.add('contents', f'{kind}_', kind, 'parent')
@@ -30,7 +34,7 @@ class Files:
         for name in self.chance.sample(('gone', 'Gone'), self.chance.choice((0, 0, 1, 2))):
             self.add('deletes', f'{kind}{name}', kind, 'parent')
 
-    def add(self, member, name, kind, role):
+    def add(self, member: str, name: str, kind: str, role: str) -> None:
         """A table of some fields and rows, in one file or several, or in none."""
         pick, number = self.chance, sum(len(self.description[it]) for it in ('contents', 'deletes'))
         fields = [f'f.{at}' for at in range(pick.randint(1, 4))]
@@ -47,7 +51,7 @@ class Files:
             'heading': has_heading
         })
 
-    def text(self, rows):
+    def text(self, rows: Sequence[Sequence[str]]) -> bytes:
         """Rows as an agent may write them: a byte order mark, line ends of one form, quotes, empty
         lines, and no end of the last line."""
         pick = self.chance.choice
@@ -60,7 +64,7 @@ class Files:
         return (text if pick((True, False)) else text.removesuffix(end)).encode()
 
 
-def cell_text(cell, is_quoted):
+def cell_text(cell: str, is_quoted: bool) -> str:
     if is_quoted or any(it in cell for it in ',"\r\n'):
         return '"' + cell.replace('"', '""') + '"'
     return cell

@@ -33,7 +33,7 @@ class Message(NamedTuple):
 
 
 def name_bytes(name: str) -> bytes:
-    labels = [it.encode() for it in name.split('.')] if name else []
+    labels: list[bytes] = [it.encode() for it in name.split('.')] if name else []
     if any(not 0 < len(it) < 64 for it in labels):
         raise ValueError(f'no name: {name}')
     return b''.join(bytes([len(it)]) + it for it in labels) + b'\0'
@@ -41,7 +41,8 @@ def name_bytes(name: str) -> bytes:
 
 def name_at(message: bytes, at: int) -> tuple[str, int]:
     """A name, whose end may stand elsewhere in the message (4.1.4), and where it ends."""
-    labels, end = [], None
+    labels: list[str] = []
+    end = None
     for _ in range(MOST_STEPS):
         length = message[at]
         if length == 0:
@@ -104,7 +105,7 @@ class Server:
     def __enter__(self) -> 'Server':
         return self
 
-    def __exit__(self, *_) -> None:
+    def __exit__(self, *_: object) -> None:
         self.file.close()
         self.socket.close()
 

@@ -8,8 +8,20 @@ import csv
 import io
 import os
 import zlib
+from collections.abc import Callable
+from collections.abc import Iterable
+from collections.abc import Iterator
+from collections.abc import Mapping
+from collections.abc import Sequence
 from xml.sax.saxutils import escape
 from xml.sax.saxutils import quoteattr
+
+# The cells of a row; an object; what gives the rows of a child table; and what makes an element of
+# the parent row and of others.
+Cells = dict[str, str]
+Object = list[tuple[str, Cells]]
+RowsOf = Callable[[str], list[Cells]]
+Made = Callable[[str, Cells, RowsOf], str]
 
 OBJECTS = {
     'registrar': 'rdeRegistrar:registrar',
@@ -41,7 +53,7 @@ URIS = {
 # ---- the XML model
 
 
-def element(tag, text='', /, *, within='', **attributes):
+def element(tag: str, text: str = '', /, *, within: str = '', **attributes: str | None) -> str:
     """An element with a text, or with others within it."""
     said = ''.join(f' {it}={quoteattr(value, LINE_SIGNS)}' for it, value in attributes.items()
                    if value)
@@ -49,7 +61,7 @@ def element(tag, text='', /, *, within='', **attributes):
     return f'<{tag}{said}>{body}</{tag}>' if body else f'<{tag}{said}/>'
 
 
-def some(prefix, cells, *fields):
+def some(prefix: str, cells: Cells, *fields: str) -> str:
     """An element for each of these fields that a row has; an attribute of it is another field of
     the row."""
     return ''.join(
@@ -80,7 +92,7 @@ DS, KEY = {'keyTag': 'keyTag', 'alg': 'dsAlg', 'digestType': 'digestType', 'dige
     'flags': 'flags', 'protocol': 'protocol', 'alg': 'keyAlg', 'pubKey': 'pubKey'}
 
 
-def address(prefix, cells, front=''):
+def address(prefix: str, cells: Cells, front: str = '') -> str:
     own = {it: cells.get(f'{front}{it}') for it in ('city', 'sp', 'pc', 'cc')}
     streets = ''.join(
         element(f'{prefix}:street', cells[it]) for it in (f'{front}street.{at}' for at in range(3))
@@ -88,39 +100,39 @@ def address(prefix, cells, front=''):
     return element(f'{prefix}:addr', within=streets + some(prefix, own, *own))
 
 
-def registrar_postal(prefix, cells, _rows):
+def registrar_postal(prefix: str, cells: Cells, _rows: RowsOf) -> str:
     return ''.join(element(f'{prefix}:postalInfo', within=address(prefix, cells, front), type=form)
                    for form, front in (('int', ''), ('loc', 'loc.')) if cells.get(f'{front}city'))
 
 
-def whois(prefix, cells, _rows):
+def whois(prefix: str, cells: Cells, _rows: RowsOf) -> str:
     return element(f'{prefix}:whoisInfo', within=element(
         f'{prefix}:url', cells['whoisUrl'])) if cells.get('whoisUrl') else ''
 
 
-def each(table, make):
+def each(table: str, make: Callable[[str, Cells], str]) -> Made:
     """What is made of the rows of a child table, one after the other."""
     return lambda prefix, _cells, rows: ''.join(make(prefix, it) for it in rows(table))
 
 
-def postal(prefix, it):
+def postal(prefix: str, it: Cells) -> str:
     return element(f'{prefix}:postalInfo',
                    within=some('contact', it, 'name', 'org') + address('contact', it),
                    type=it['postalType'])
 
 
-def status(prefix, it):
+def status(prefix: str, it: Cells) -> str:
     name = 'rgpStatus' if it.get('rgpStatus') else 'status'
     return element(f'{prefix}:{name}', it.get('statusDescription', ''), s=it[name],
                    lang=it.get('lang'))
 
 
-def transfer(prefix, it):
+def transfer(prefix: str, it: Cells) -> str:
     return element(f'{prefix}:trnData',
                    within=some(prefix, it, *'trStatus reRr reDate acRr acDate exDate'.split()))
 
 
-def disclosed(prefix, it):
+def disclosed(prefix: str, it: Cells) -> str:
     within = ''.join(
         element(f'contact:{name.lower()}', type=form.lower()) for name in ('Name', 'Org', 'Addr')
         for form in ('Int', 'Loc') if it.get(f'disclose{name}{form}'))
@@ -130,15 +142,15 @@ def disclosed(prefix, it):
     return element(f'{prefix}:disclose', within=within, flag=it['discloseFlag'])
 
 
-def contact(prefix, it):
+def contact(prefix: str, it: Cells) -> str:
     return element(f'{prefix}:contact', it['contactId'], type=it['contactType'])
 
 
-def addressed(tag, it):
+def addressed(tag: str, it: Cells) -> str:
     return element(tag, it['addr'], ip=it['addrVersion']) if it.get('addr') else ''
 
 
-def servers(prefix, _cells, rows):
+def servers(prefix: str, _cells: Cells, rows: RowsOf) -> str:
     within = ''.join(element('domain:hostObj', it['hostName']) for it in rows('domainNs'))
     for name in dict.fromkeys(it['hostName'] for it in rows('domainHostAttr')):
         its = ''.join(
@@ -148,7 +160,7 @@ def servers(prefix, _cells, rows):
     return element(f'{prefix}:ns', within=within) if within else ''
 
 
-def secured(prefix, _cells, rows):
+def secured(prefix: str, _cells: Cells, rows: RowsOf) -> str:
     its = rows('secDNS')
     within = some('secDNS', its[0], 'maxSigLife') if its else ''
     for it in its:
@@ -163,7 +175,7 @@ def secured(prefix, _cells, rows):
 
 # Of each kind what its element has, in order: fields of the parent row, and what is made of other
 # rows.
-XML = {
+XML: dict[str, tuple[str | Made, ...]] = {
     'registrar': ('id name gurid status', registrar_postal, 'voice fax email url', whois,
                   'crDate upDate'),
     'idn': ('url urlPolicy',),
@@ -183,11 +195,11 @@ XML = {
 }
 
 
-def object_xml(rows):
+def object_xml(rows: Object) -> str:
     kind, cells = rows[0]
     prefix = OBJECTS[kind].partition(':')[0]
 
-    def children(table):
+    def children(table: str) -> list[Cells]:
         return [it for name, it in rows[1:] if name == table]
 
     within = ''.join(
@@ -196,7 +208,7 @@ def object_xml(rows):
     return element(OBJECTS[kind], within=within, id=cells['idnTableId'] if kind == 'idn' else None)
 
 
-def deleted_xml(deletes):
+def deleted_xml(deletes: Mapping[str, Iterable[str]]) -> Iterator[str]:
     """The deletes of each kind: `{'domain': ['a.example']}`."""
     for kind, keys in deletes.items():
         prefix = OBJECTS[kind].partition(':')[0]
@@ -215,7 +227,7 @@ COMMON = (
     'trDate trStatus idnTableId url').split()
 
 
-def fields(prefix, names):
+def fields(prefix: str, names: str) -> dict[str, str]:
     """Fields, each with the element that defines it."""
     return {
         it: f'{"rdeCsv" if it in COMMON else prefix}:f{it[0].upper()}{it[1:]}'
@@ -223,7 +235,7 @@ def fields(prefix, names):
     }
 
 
-def optional(fields, names):
+def optional(fields: dict[str, str], names: str) -> dict[str, str]:
     """The same fields, of which these may be empty, as the document says: their elements say
     otherwise by themselves."""
     return {
@@ -232,7 +244,7 @@ def optional(fields, names):
     }
 
 
-def placed(loc):
+def placed(loc: bool | None) -> dict[str, str]:
     """The fields of an address; those of the localized form where `loc` is true, of the
     internationalized where it is false."""
     front, form = ('loc.', ' isLoc="true" isRequired="false"') if loc else (
@@ -303,13 +315,13 @@ FILES = {
 }
 
 
-def csv_text(rows, separator):
+def csv_text(rows: Iterable[Sequence[str]], separator: str) -> bytes:
     text = io.StringIO(newline='')
     csv.writer(text, delimiter=separator).writerows(rows)
     return text.getvalue().encode()
 
 
-def rows_of(objects, table, roids):
+def rows_of(objects: Iterable[Object], table: str, roids: Mapping[str, str]) -> Iterator[list[str]]:
     """The rows of a table, in the fields of its files. A host is named by its ROID."""
     fields = FILES[table][2]
     for rows in objects:
@@ -328,9 +340,10 @@ def rows_of(objects, table, roids):
                 yield [named.get(it, '') for it in fields]
 
 
-def csv_model(folder, objects, deletes, roids, day, separator):
+def csv_model(folder: str, objects: Sequence[Object], deletes: Mapping[str, Iterable[str]],
+              roids: Mapping[str, str], day: str, separator: str) -> list[str]:
     """Writes the CSV files, and gives what the document has of the deletes and of the contents."""
-    found = {True: {}, False: {}}
+    found: dict[bool, dict[str, list[str]]] = {True: {}, False: {}}
     tables = [(table, False, list(rows_of(objects, table, roids))) for table in FILES]
     tables += [(kind, True, [[roids[key] if kind == 'host' else key] for key in keys])
                for kind, keys in deletes.items()]
@@ -360,7 +373,9 @@ def csv_model(folder, objects, deletes, roids, day, separator):
 # ---- the document
 
 
-def document(folder, name, header, objects, deletes, counts, model, roids=None, separator=','):
+def document(folder: str, name: str, header: Mapping[str, str], objects: Sequence[Object],
+             deletes: Mapping[str, Iterable[str]], counts: Mapping[str, int], model: str,
+             roids: Mapping[str, str] | None = None, separator: str = ',') -> str:
     """Writes a deposit of one model into a folder, and gives the path of its document. `header` has
     `id`, `type`, `watermark` and, where it has them, `prevId` and `resend`; `roids` are the ROIDs
     of hosts of earlier deposits, by their names."""

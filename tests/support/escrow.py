@@ -4,8 +4,31 @@ import csv
 import json
 import os
 import string
+from collections.abc import Callable
+from collections.abc import Iterable
+from collections.abc import Iterator
+from collections.abc import Sequence
+from random import Random
+from typing import TypedDict
+from typing import TypeVar
 
 from tests.support.documents import KEYS
+from tests.support.documents import Cells
+from tests.support.documents import Object
+
+It = TypeVar('It')
+# The rows of an object in an order of their own, each with its cells that aren't empty.
+Told = list[tuple[str, list[tuple[str, str]]]]
+# A table and a description, as `pack bundle` takes them.
+DescribedTable = TypedDict('DescribedTable', {
+    'name': str, 'kind': str, 'role': str, 'key': str, 'fields': list[str], 'file': str,
+    'from': list[str], 'heading': bool
+})
+Description = TypedDict('Description', {
+    'id': str, 'type': str, 'watermark': str, 'prevId': str, 'tld': str, 'notes': list[str],
+    'counts': dict[str, int], 'series': dict[str, str | int],
+    'contents': list[DescribedTable], 'deletes': list[DescribedTable]
+})
 
 # What texts are made of: letters of several alphabets, and what means something in XML or CSV.
 LETTERS = string.ascii_letters + 'éßЖ漢\U0001f600'
@@ -22,56 +45,56 @@ RGP_STATUSES = ('redemptionPeriod', 'pendingDelete', 'pendingRestore')
 class Maker:
     """Makes objects of a registry, whose keys are each there once."""
 
-    def __init__(self, random):
+    def __init__(self, random: Random) -> None:
         self.random, self.last = random, 0
 
-    def id(self, letter):
+    def id(self, letter: str) -> str:
         self.last += 1
         return f'{letter}{self.last}'
 
-    def text(self, most=12):
+    def text(self, most: int = 12) -> str:
         """A text that doesn't begin or end with white space."""
         pick = self.random.choice
         inner = ''.join(pick(LETTERS + ODD) for _ in range(self.random.randrange(most)))
         return pick(LETTERS) + inner + pick(LETTERS)
 
-    def token(self):
+    def token(self) -> str:
         return ''.join(
             self.random.choice(string.ascii_letters + string.digits)
             for _ in range(self.random.randint(1, 8)))
 
-    def moment(self):
+    def moment(self) -> str:
         pick = self.random.randint
         day = f'{pick(1999, 2030)}-{pick(1, 12):02}-{pick(1, 28):02}'
         return f'{day}T{pick(0, 23):02}:{pick(0, 59):02}:{pick(0, 59):02}.0Z'
 
-    def some(self, **makers):
+    def some(self, **makers: Callable[[], str]) -> Cells:
         """Each of these fields, or not."""
         return {name: make() for name, make in makers.items() if self.random.random() < 0.6}
 
-    def many(self, make, most=3):
+    def many(self, make: Callable[[], It], most: int = 3) -> list[It]:
         return [make() for _ in range(self.random.randint(0, most))]
 
-    def history(self, *more):
+    def history(self, *more: str) -> Cells:
+        dates: dict[str, Callable[[], str]] = dict.fromkeys(
+            ('crDate', 'upDate', 'trDate', *more), self.moment)
         who = self.some(crRr=self.token, upRr=self.token)
         who.update({f'{it[:2]}ID': self.token() for it in list(who) if self.random.random() < 0.5})
         return {
             'clID': self.token(),
             **who,
-            **self.some(**dict.fromkeys(('crDate', 'upDate', 'trDate', *more), self.moment))
+            **self.some(**dates)
         }
 
-    def address(self, front=''):
+    def address(self, front: str = '') -> Cells:
         streets = {f'{front}street.{at}': self.text() for at in range(self.random.randint(0, 3))}
+        others: dict[str, Callable[[], str]] = {f'{front}sp': self.text, f'{front}pc': self.token}
         return {
             **streets, f'{front}city': self.text(),
-            **self.some(**{
-                f'{front}sp': self.text,
-                f'{front}pc': self.token
-            }), f'{front}cc': 'FR'
+            **self.some(**others), f'{front}cc': 'FR'
         }
 
-    def phones(self):
+    def phones(self) -> Cells:
         phones = self.some(voice=self.token, fax=self.token)
         return {
             **phones,
@@ -79,11 +102,11 @@ class Maker:
                for it in list(phones) if self.random.random() < 0.5}
         }
 
-    def statuses(self, values):
+    def statuses(self, values: Sequence[str]) -> list[Cells]:
         return [{'status': it, **self.some(statusDescription=self.text, lang=lambda: 'en')}
                 for it in self.random.sample(values, self.random.randint(1, 3))]
 
-    def transfers(self, **more):
+    def transfers(self, **more: Callable[[], str]) -> list[Cells]:
         if self.random.random() < 0.7:
             return []
         return [{
@@ -95,7 +118,7 @@ class Maker:
             **self.some(reID=self.token, acID=self.token, **more)
         }]
 
-    def registrar(self):
+    def registrar(self) -> Object:
         cells = {
             'id': self.id('R'),
             'name': self.text(),
@@ -109,10 +132,10 @@ class Maker:
                 cells.update(self.address(front))
         return [('registrar', cells)]
 
-    def idn(self):
+    def idn(self) -> Object:
         return [('idn', {'idnTableId': self.id('L'), 'url': self.text()})]
 
-    def contact(self):
+    def contact(self) -> Object:
         cells = {
             'id': self.id('C'),
             'roid': self.id('CR'),
@@ -134,16 +157,16 @@ class Maker:
                      {'discloseFlag': '0', **self.some(**dict.fromkeys(DISCLOSED, lambda: '1'))})
                 ] if self.random.random() < 0.4 else [])]
 
-    def host(self):
+    def host(self) -> Object:
         cells = {'name': f'{self.id("Ns")}.example', 'roid': self.id('HR'), **self.history()}
         return [('host', cells), *(('hostStatuses', it) for it in self.statuses(OTHER_STATUSES)),
                 *(('hostAddresses', {'addr': self.token(), 'addrVersion': 'v4'})
                   for _ in range(self.random.randint(0, 3)))]
 
-    def key_data(self):
+    def key_data(self) -> Cells:
         return {it: self.token() for it in ('flags', 'protocol', 'keyAlg', 'pubKey')}
 
-    def secured(self):
+    def secured(self) -> list[Cells]:
         if self.random.random() < 0.6:
             return []
         life = self.some(maxSigLife=self.token)
@@ -154,7 +177,7 @@ class Maker:
                 for it in ds] if self.random.random() < 0.5 else [self.key_data()]
         return [{**life, **it} for it in rows]
 
-    def served(self, hosts):
+    def served(self, hosts: Sequence[str]) -> Object:
         if self.random.random() < 0.7:
             return [('domainNs', {'hostName': it})
                     for it in self.random.sample(hosts, self.random.randint(0, min(3, len(hosts))))]
@@ -166,7 +189,7 @@ class Maker:
             } if it else {})
         }) for it in self.many(lambda: self.random.random() < 0.5)]
 
-    def domain(self, hosts):
+    def domain(self, hosts: Sequence[str]) -> Object:
         cells = {
             'name': f'{self.id("Dom")}.example',
             'roid': self.id('DR'),
@@ -183,7 +206,7 @@ class Maker:
                 *self.served(hosts), *(('secDNS', it) for it in self.secured()),
                 *(('domainTransfer', it) for it in self.transfers(exDate=self.moment))]
 
-    def nndn(self):
+    def nndn(self) -> Object:
         cells = {
             'aName': f'{self.id("n")}.example',
             'nameState': 'mirrored',
@@ -193,7 +216,7 @@ class Maker:
         return [('nndn', cells)]
 
 
-def some_objects(random, most=6):
+def some_objects(random: Random, most: int = 6) -> list[Object]:
     maker = Maker(random)
     hosts = maker.many(maker.host, most)
     names = [it[0][1]['name'] for it in hosts]
@@ -204,14 +227,14 @@ def some_objects(random, most=6):
     ]
 
 
-def told(rows):
+def told(rows: Iterable[tuple[str, Cells]]) -> Told:
     """The rows of an object, in an order of their own, each with the cells that aren't empty."""
     return sorted((table, sorted((name, value) for name, value in cells.items() if value))
                   for table, cells in rows)
 
 
-def as_written(objects):
-    found = {}
+def as_written(objects: Iterable[Object]) -> dict[tuple[str, str], Told]:
+    found: dict[tuple[str, str], Told] = {}
     for rows in objects:
         kind, parent = rows[0]
         key = {KEYS[kind]: parent[KEYS[kind]]}
@@ -219,7 +242,7 @@ def as_written(objects):
     return found
 
 
-def rows_in(folder, table):
+def rows_in(folder: str, table: DescribedTable) -> Iterator[Cells]:
     """The rows of a declared table, each with its fields by their names."""
     for name in table['from']:
         with open(os.path.join(folder, name), encoding='utf-8', newline='') as file:
@@ -229,22 +252,23 @@ def rows_in(folder, table):
         yield from (dict(zip(table['fields'], row, strict=True)) for row in rows[1:])
 
 
-def description_in(folder):
+def description_in(folder: str) -> Description:
     with open(os.path.join(folder, 'envelope.json'), encoding='utf-8') as file:
         return json.load(file)
 
 
-def folders_in(folder):
+def folders_in(folder: str) -> list[str]:
     """The folders for `pack bundle` in one that was written: itself, or those of its parts in their
     order."""
     parts = sorted(it for it in os.listdir(folder) if it.startswith('part-'))
     return [os.path.join(folder, it) for it in parts] or [folder]
 
 
-def objects_in(folder):
+def objects_in(folder: str) -> tuple[dict[tuple[str, str], Told], dict[str, list[str]]]:
     """The objects that a folder for `pack bundle` has, by kind and key, and the keys of its deletes
     by kind."""
-    described, found = description_in(folder), {}
+    described = description_in(folder)
+    found: dict[tuple[str, str], list[tuple[str, Cells]]] = {}
     for table in described['contents']:
         for row in rows_in(folder, table):
             found.setdefault((table['kind'], row[table['key']]), []).append((table['name'], row))

@@ -1,8 +1,13 @@
 """What desks over files that fail are told, and what they must answer: for the modules whose files
 fail, and those that ask over HTTP."""
 import re
+from collections.abc import Callable
+from collections.abc import Iterable
+from collections.abc import Sequence
 
+from tests.support.harness import Harness
 from tests.support.stage import Failed
+from tests.support.stage import Stage
 from tests.support.stage import case
 from tests.support.stage import difference
 from tests.support.steps import Bodies
@@ -27,7 +32,7 @@ FILES = {'log': 'log', 'database': 'database file'}
 MOST_CALLS = 5_000
 
 
-def put_files(stage, **listed):
+def put_files(stage: Stage, **listed: Sequence[str]) -> None:
     """The bodies that arrive, each in a file of its name, and manifests, each with the bodies that
     it lists."""
     Bodies(('F1', 'D2', 'D2Resent', 'D3', 'F5', 'Abc', 'Empty')).do(stage)
@@ -35,19 +40,19 @@ def put_files(stage, **listed):
         Manifest(f'{name}.csv', names).do(stage)
 
 
-def put_first_store(stage, lost):
+def put_first_store(stage: Stage, lost: Iterable[tuple[str, str]]) -> None:
     """The statements that make a store of version 1, which lists F1, took it as number 1, and then
     gave A2 to bodies, each under its number."""
     Manifest('early.csv', ('F1',)).do(stage)
     FirstScript('first.sql', 'early.csv', (('1', 'F1'), *lost)).do(stage)
 
 
-def query(table):
+def query(table: str) -> str:
     """The line that asks for all rows of a table, where no desk is open."""
     return f'query SELECT * FROM {table} ORDER BY {TABLES[table]}'
 
 
-def compare_any(line, got, *wanted):
+def compare_any(line: str, got: str, *wanted: str) -> str:
     """What came of a line, which must be one of these."""
     if got not in wanted:
         found = [
@@ -58,17 +63,17 @@ def compare_any(line, got, *wanted):
     return got
 
 
-def check(desk, line, *wanted):
+def check(desk: Harness, line: str, *wanted: str) -> str:
     """The answer to a line, without the work of an event. It must be one of these."""
     return compare_any(line, re.sub('; cleared .*', '', desk.ask(line)), *wanted)
 
 
-def is_answered(desk, line, wanted):
+def is_answered(desk: Harness, line: str, wanted: str) -> bool:
     """Whether a line has this answer: a file that fails refuses it by `S1` alone."""
     return check(desk, line, wanted, 'S1\n') == wanted
 
 
-def is_open(desk, make='create listed.csv', made='created\n'):
+def is_open(desk: Harness, make: str = 'create listed.csv', made: str = 'created\n') -> bool:
     """Opens a store, which is made or migrated where there is none of this version. Whether it is
     open: `S1` alone refuses it."""
     answer = check(desk, 'open', 'opened\n', 'S1\n', 'S3\n')
@@ -77,7 +82,7 @@ def is_open(desk, make='create listed.csv', made='created\n'):
     return answer != 'S1\n'
 
 
-def over_calls(file, play):
+def over_calls(file: str, play: Callable[[int], bool]) -> None:
     """Plays with the next call of a file, one after the other, which fails, up to a time that there
     is none: then `play` is false."""
     for calls in range(MOST_CALLS):
@@ -88,12 +93,12 @@ def over_calls(file, play):
         raise Failed(f'{calls} calls of the {FILES[file]} failed')
 
 
-def run_line(events):
+def run_line(events: Sequence[str]) -> str:
     """Events that come in one run, as a failure shows them."""
     return f'run {len(events)}: {", ".join(events)}'
 
 
-def run(desk, events):
+def run(desk: Harness, events: Sequence[str]) -> str:
     *told, last = f'run {len(events)}', *events
     for line in told:
         desk.tell(line)

@@ -2,12 +2,12 @@
 import os
 
 
-def read(path):
+def read(path: str) -> bytes:
     with open(path, 'rb') as file:
         return file.read()
 
 
-def write(path, content):
+def write(path: str, content: bytes) -> str:
     """Writes a file, and its folder where there is none. Gives its path."""
     os.makedirs(os.path.dirname(path), exist_ok=True)
     with open(path, 'wb') as file:

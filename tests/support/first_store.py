@@ -4,12 +4,18 @@ of the program is used."""
 import contextlib
 import random
 import sqlite3
+from collections.abc import Iterable
+from collections.abc import Mapping
+from collections.abc import Sequence
 
 from tests.support.formats import KINDS
 from tests.support.formats import TYPES
-from tests.support.formats import found_in
+from tests.support.formats import Named
+from tests.support.formats import held_in
 from tests.support.model import Desk
 
+# The values of a row.
+Values = tuple[int | str | bytes | None, ...]
 TABLES = {
     'info': 'id INTEGER PRIMARY KEY CHECK (id = 1), version INTEGER NOT NULL',
     'listed': 'row INTEGER PRIMARY KEY, id TEXT NOT NULL, type INTEGER NOT NULL, watermark '
@@ -28,17 +34,18 @@ TABLES = {
 }
 
 
-def undo_of(desk):
+def undo_of(desk: Desk) -> list[tuple[int, int, bytes, bytes | None]]:
     """What stood before each step of a desk's chain: step, kind, key and record."""
-    objects, undo = {}, []
+    objects: dict[Named, bytes | None] = {}
+    undo = []
     for pos, row in enumerate(desk.steps, 1):
-        says = found_in(desk.held[row]).says
+        says = held_in(desk.held[row]).says
         undo += [(pos, KINDS.index(kind), key, objects.get((kind, key))) for kind, key in says]
         objects |= says
     return sorted(undo)
 
 
-def rows_of(desk):
+def rows_of(desk: Desk) -> dict[str, Sequence[Values]]:
     return {
         'info': [(1, 2)],
         'listed': [(at, name, TYPES.index(place[1]), place[0], prev, resend, bytes.fromhex(digest))
@@ -56,14 +63,15 @@ def rows_of(desk):
     }
 
 
-def first_rows(manifest, arrivals):
+def first_rows(manifest: bytes,
+               arrivals: Iterable[tuple[str, bytes]]) -> dict[str, Sequence[Values]]:
     """The rows of a store of version 1 that lists a manifest's rows and took arrivals, numbers with
     bodies."""
     rows = rows_of(Desk(manifest, early=arrivals)) | {'info': [(1, 1)]}
     return {table: rows[table] for table in TABLES}
 
 
-def literal(value):
+def literal(value: int | str | bytes | None) -> str:
     if value is None:
         return 'NULL'
     if isinstance(value, bytes):
@@ -71,13 +79,13 @@ def literal(value):
     return "'{}'".format(value.replace("'", "''")) if isinstance(value, str) else f'{value:d}'
 
 
-def insertion(table, row):
+def insertion(table: str, row: Values) -> str:
     """The statement that inserts a row into a table. Names of columns may follow the table's
     name."""
     return f'INSERT INTO {table} VALUES ({", ".join(map(literal, row))});\n'
 
 
-def first_script(rows):
+def first_script(rows: Mapping[str, Sequence[Values]]) -> str:
     """The statements that make the tables of version 1, with these rows, which come in another
     order than their keys: any history may."""
     made = [f'CREATE TABLE {table} ({columns});\n' for table, columns in TABLES.items()]
@@ -87,7 +95,7 @@ def first_script(rows):
     ])
 
 
-def write_store(store, rows):
+def write_store(store: str, rows: Mapping[str, Sequence[Values]]) -> None:
     """Makes a store of version 1 from the texts of its tables."""
     with contextlib.closing(sqlite3.connect(store)) as database:
         database.executescript(f'BEGIN;\n{first_script(rows)}COMMIT;\n')

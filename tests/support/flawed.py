@@ -1,9 +1,15 @@
 """Small releases at random, with flaws: what an agent may leave out or get wrong, and what it may
 name otherwise. Their deposits may be series, which `unpack_rde --described` makes of them."""
+import functools
 import random
 import tempfile
+from collections.abc import Callable
+from collections.abc import Iterable
+from collections.abc import Iterator
+from collections.abc import Sequence
 
 from tests.support.acceptance import GUIDES
+from tests.support.acceptance import Guide
 from tests.support.bundles import Header
 from tests.support.bundles import manifest
 from tests.support.formats import KINDS
@@ -16,6 +22,8 @@ from tests.support.releases import Release
 from tests.support.releases import numbered
 from tests.support.unpacking import Described
 
+# What makes another name of one.
+Renaming = Callable[[str], str]
 # How many objects of each kind there are at first.
 FIRST = {'registrar': 2, 'idn': 1, 'contact': 3, 'host': 3, 'domain': 4, 'nndn': 1}
 # What may be wrong with a release, beside its names.
@@ -43,7 +51,7 @@ class Contents:
     """The tables of a deposit: of each its kind, its role, and its fields with the rows below
     them."""
 
-    def __init__(self, registry, objects):
+    def __init__(self, registry: Registry, objects: Iterable[tuple[str, str]]) -> None:
         self.tables = {
             name: (kind, role, [[*fields]])
             for name, (kind, role, fields) in TABLES.items()
@@ -52,31 +60,31 @@ class Contents:
             for name, row in registry.objects[kind][key]:
                 self.tables[name][2].append([*row])
 
-    def lines_of(self, guide):
+    def lines_of(self, guide: Guide) -> tuple[list[list[str]], int]:
         """The fields and the rows of a table, and where the field of a guide is in each."""
         lines = self.tables[guide[1] or guide[0]][2]
         return lines, lines[0].index(guide[2])
 
-    def leave_out(self, guide):
+    def leave_out(self, guide: Guide) -> None:
         lines, at = self.lines_of(guide)
         for it in lines:
             del it[at]
 
-    def rename(self, guide, other_name):
+    def rename(self, guide: Guide, other_name: Renaming) -> None:
         lines, at = self.lines_of(guide)
         lines[0][at] = other_name(guide[2])
 
-    def double(self, guide, other_name):
+    def double(self, guide: Guide, other_name: Renaming) -> None:
         """Adds a field under another name beside the one of a guide."""
         lines, _ = self.lines_of(guide)
         for it in lines:
             it.append('')
         lines[0][-1] = other_name(guide[2])
 
-    def rename_table(self, name, other):
+    def rename_table(self, name: str, other: str) -> None:
         self.tables[other] = self.tables.pop(name)
 
-    def spoil_cell(self, guide, text):
+    def spoil_cell(self, guide: Guide, text: str) -> None:
         """Gives a row another text. Of a status there is then a second row, which says `ok`."""
         lines, at = self.lines_of(guide)
         if len(lines) > 1:
@@ -84,7 +92,7 @@ class Contents:
                 lines.append([*lines[1][:at], 'ok', *lines[1][at + 1:]])
             lines[1][at] = text
 
-    def body(self, header, deletes, counts):
+    def body(self, header: Header, deletes: Sequence[str], counts: dict[str, int]) -> bytes:
         tables = {
             name: it
             for name, it in self.tables.items() if len(it[2]) > 1 or header.type == 'FULL'
@@ -103,28 +111,31 @@ class Contents:
              for name, (kind, role, lines) in tables.items()})
 
 
-def day_text(day, hour=0):
+def day_text(day: int, hour: int = 0) -> str:
     return f'2024-03-{day:02}T{hour:02}:00:00Z'
 
 
-def header_of(kind, day):
+def header_of(kind: str, day: int) -> Header:
     return Header(f'{kind[0]}{day}', kind, day_text(day))
 
 
 class Agent:
     """Makes the deposits of a registry, and gets them wrong in these ways."""
 
-    def __init__(self, seed, flaws=()):
+    def __init__(self, seed: int, flaws: Sequence[str] = ()) -> None:
         self.random, self.flaws = random.Random(seed), flaws
         self.registry = Registry(seed, FIRST, words=0)
-        self.deleted, self.last_id, self.listed, self.bodies = [], '', [], []
+        self.last_id = ''
+        self.deleted: list[str] = []
+        self.listed: list[tuple[Header, bytes]] = []
+        self.bodies: list[bytes] = []
         # The field of this guide is misnamed, in this way.
         self.guide, self.other_name = self.random.choice(GUIDES), self.random.choice(TABLE_NAMES)
 
-    def has(self, flaw, share=1.0):
+    def has(self, flaw: str, share: float = 1.0) -> bool:
         return flaw in self.flaws and self.random.random() < share
 
-    def change(self):
+    def change(self) -> tuple[list[tuple[str, str]], list[str]]:
         """Some domains go, and others come. Gives the objects that a Differential has, and those
         that it deletes."""
         keys = self.registry.keys
@@ -138,10 +149,10 @@ class Agent:
             self.registry.change(*it)
         return list(dict.fromkeys(made + changed)), gone
 
-    def all_objects(self):
+    def all_objects(self) -> list[tuple[str, str]]:
         return [(kind, key) for kind, keys in self.registry.keys.items() for key in keys]
 
-    def spoil(self, contents):
+    def spoil(self, contents: Contents) -> None:
         if self.has('cells', 0.7):
             for guide in self.random.sample(GUIDES, 4):
                 contents.spoil_cell(
@@ -159,7 +170,7 @@ class Agent:
         elif self.has('renamed', 0.8):
             contents.rename(self.guide, self.other_name)
 
-    def counts(self):
+    def counts(self) -> dict[str, int]:
         counts = {kind: len(self.registry.keys[kind]) for kind in KINDS}
         if self.has('miscounted', 0.7):
             counts[self.random.choice(KINDS)] += 1
@@ -167,16 +178,17 @@ class Agent:
             return {it: counts[it] for it in self.random.sample(KINDS, self.random.randint(0, 5))}
         return counts
 
-    def body(self, header, objects, deletes):
+    def body(self, header: Header, objects: Iterable[tuple[str, str]],
+             deletes: Sequence[str]) -> bytes:
         contents = Contents(self.registry, objects)
         self.spoil(contents)
         return contents.body(header, deletes, self.counts())
 
-    def bundles(self, header, body):
+    def bundles(self, header: Header, body: bytes) -> list[tuple[Header, bytes]]:
         """A deposit, or the bundles of the series that it is made."""
         return [(header, body)]
 
-    def hand_in(self, header, body, is_awaited):
+    def hand_in(self, header: Header, body: bytes, is_awaited: bool) -> None:
         """Lists a deposit and lets it arrive; or one of both, or no deposit at all."""
         is_late = self.listed != [] or self.random.random() < 0.2
         if is_late and self.has('unlisted', 0.3):
@@ -188,7 +200,8 @@ class Agent:
         if not (is_awaited or is_late and self.has('lost', 0.4)):
             self.bodies.append(body)
 
-    def add(self, kind, day, objects, deletes):
+    def add(self, kind: str, day: int, objects: Sequence[tuple[str, str]],
+            deletes: Sequence[str]) -> None:
         """A deposit of this day, and sometimes a later revision of it, for which the desk may have
         to wait."""
         header = header_of(kind, day)
@@ -201,7 +214,7 @@ class Agent:
                 self.hand_in(its, body, is_awaited and resend > 0)
         self.last_id = header.id
 
-    def add_later(self, day):
+    def add_later(self, day: int) -> None:
         """A deposit of a later day, and sometimes a Full of the same one."""
         kind = self.random.choices(('DIFF', 'INCR', 'FULL'), (6, 2, 1))[0]
         changed, gone = self.change()
@@ -212,7 +225,7 @@ class Agent:
         if kind == 'FULL' or self.has('same day', 0.6):
             self.add('FULL', day, self.all_objects(), [])
 
-    def make(self):
+    def make(self) -> Release:
         last, moment = self.random.randint(1, 6), None
         self.add('FULL', 1, self.all_objects(), [])
         for day in range(2, last + 1):
@@ -226,16 +239,16 @@ class Agent:
 class AgentOfSeries(Agent):
     """An agent whose deposits are series: a bundle has fewer rows or bytes than it may."""
 
-    def __init__(self, seed, flaws=()):
+    def __init__(self, seed: int, flaws: Sequence[str] = ()) -> None:
         super().__init__(seed, flaws)
-        self.full = None  # the folder of the last Full
+        self.full: tempfile.TemporaryDirectory[str] | None = None  # the folder of the last Full
 
-    def limits(self):
+    def limits(self) -> list[str]:
         pick = self.random.randint
         return ['--part-rows', f'{pick(9, 30)}'] if pick(
             0, 1) else ['--part-bytes', f'{pick(900, 2000)}']
 
-    def bundles(self, header, body):
+    def bundles(self, header: Header, body: bytes) -> list[tuple[Header, bytes]]:
         (_, envelope), *files = sections(body)
         folder = tempfile.TemporaryDirectory(prefix='case-')
         known = ['--known', f'{self.full.name}/out'] if self.full else []
@@ -247,33 +260,33 @@ class AgentOfSeries(Agent):
         return [(header_in(it), it) for it in made.bundles()]
 
 
-def header_in(body):
+def header_in(body: bytes) -> Header:
     """The header of a bundle."""
     told = envelope_in(body)
     resend = told['resend'].whole() if 'resend' in told else 0
     return Header(told['id'], told['type'], told['watermark'], told.get('prevId', ''), resend)
 
 
-def draw_flaws(chance, flaws):
+def draw_flaws(chance: random.Random, flaws: Sequence[str]) -> list[str]:
     """Of some there are none, of most a few, and half of them have wrong names."""
     names = [chance.choice(
         ('left out', 'doubled', 'renamed', 'renamed table'))] if chance.random() < 0.5 else []
     return names + chance.sample(flaws, chance.randint(0, 6))
 
 
-def draw_series(seed):
+def draw_series(seed: int) -> Release:
     """The release of a seed whose deposits are series. (The last bundle of a Full would be a
     Differential of the same day.)"""
     chance = random.Random(f'series {seed}')
     return AgentOfSeries(seed, draw_flaws(chance, [it for it in FLAWS if it != 'same day'])).make()
 
 
-def draw_release(seed):
+def draw_release(seed: int) -> Release:
     """The release of a seed."""
     return Agent(seed, draw_flaws(random.Random(seed), FLAWS)).make()
 
 
-def some_release(seed):
+def some_release(seed: int) -> Release:
     """The release of a seed whose tables are all there, and may not be right."""
     return Agent(seed, ('revised', 'lost', 'same day', 'cells', 'orphans', 'unlisted')).make()
 
@@ -281,14 +294,14 @@ def some_release(seed):
 # ---- releases with other names
 
 
-def empty(contents, kind, *guides):
+def empty(contents: Contents, kind: str, *guides: Guide) -> None:
     """Takes the objects of a kind away, and the fields of guides."""
     del contents.tables[kind][2][1:]
     for it in guides:
         contents.leave_out(it)
 
 
-def add_elsewhere(contents):
+def add_elsewhere(contents: Contents) -> None:
     """Adds names that look like those of guides to tables of other kinds."""
     contents.tables |= {
         'domain_ns': ('host', 'child', [['name']]),
@@ -298,7 +311,7 @@ def add_elsewhere(contents):
         contents.double(guide, lambda _: 'fRegistrant')
 
 
-def full_release(change):
+def full_release(change: Callable[[Contents], object]) -> Release:
     """A release of one Full without a flaw but what is changed in its contents."""
     agent = Agent(1)
     contents = Contents(agent.registry, agent.all_objects())
@@ -308,15 +321,18 @@ def full_release(change):
     return Release(manifest([(header, body)]), numbered([body]))
 
 
-def each(change, *more):
+def each(change: Callable[..., None], *more: Renaming) -> Callable[[Contents], object]:
     return lambda contents: [change(contents, it, *more) for it in GUIDES]
 
 
-def renamed_tables(names, other_name):
-    return lambda contents: [contents.rename_table(it, other_name(it)) for it in names]
+def renamed_tables(names: Iterable[str], other_name: Renaming) -> Callable[[Contents], object]:
+    def change(contents: Contents) -> None:
+        for it in names:
+            contents.rename_table(it, other_name(it))
+    return change
 
 
-def misnamed_releases():
+def misnamed_releases() -> Iterator[tuple[str, Release]]:
     """Releases of one Full each, with what is changed in it: fields of all guides are left out, or
     have other names, or tables have."""
     children = sorted({it[1] for it in GUIDES if it[1]})
@@ -330,7 +346,7 @@ def misnamed_releases():
             renamed_tables(children, other_name))
     for other in ('domainNameServers', 'fdomain_nameservers', 'domainNameServer'):
         yield f'hosts in {other}', full_release(
-            renamed_tables(['domainNs'], lambda _, other=other: other))
+            functools.partial(Contents.rename_table, name='domainNs', other=other))
     # A parent table may have any name.
     yield 'parent tables', full_release(renamed_tables(KINDS, lambda it: f'my_{it}'))
     yield 'names in tables of other kinds', full_release(add_elsewhere)

@@ -10,8 +10,14 @@ import json
 import math
 import re
 import struct
+from collections.abc import Mapping
+from collections.abc import Sequence
 from datetime import datetime
 from datetime import timedelta
+from typing import Literal
+from typing import NoReturn
+from typing import TypedDict
+from typing import cast
 
 from tests.support.limits import MOST_BYTES
 from tests.support.limits import MOST_COUNT
@@ -36,15 +42,50 @@ HEADING = b'id type watermark prevId resend sha256'.split()
 ENVELOPE, FORM = 'section 1 envelope.json', 'missing, or not of its form'
 
 
+# Of a place the moment in nanoseconds and the type; of an object the kind and the key; the rows of
+# an object, each its table and its cells; and the row of a manifest: id, place, prevId, resend,
+# digest.
+Place = tuple[int, str]
+Named = tuple[str, bytes]
+Rows = list[tuple[str, list[tuple[str, str]]]]
+Listed = tuple[str, Place, str | None, int, str]
+# Where an envelope has tables.
+Member = Literal['contents', 'deletes']
+
+
+class Declared(TypedDict):
+    """A table, as an envelope declares it."""
+    name: str
+    kind: str
+    role: str
+    key: str
+    fields: list[str]
+    file: str
+
+
+class Envelope(TypedDict, total=False):
+    """What an envelope has, if its deposit reads."""
+    id: str
+    type: str
+    watermark: str
+    prevId: str
+    resend: 'Number'
+    tld: str
+    notes: list[str]
+    counts: dict[str, 'Number']
+    contents: list[Declared]
+    deletes: list[Declared]
+
+
 class Refused(Exception):
     """A refusal: its number, and where it is: in a body in words, in a manifest by the row."""
 
-    def __init__(self, code, where):
+    def __init__(self, code: int, where: str | int) -> None:
         super().__init__(code, where)
         self.code, self.where = code, where
 
 
-def need(holds, code, where):
+def need(holds: object, code: int, where: str | int) -> None:
     if not holds:
         raise Refused(code, where)
 
@@ -52,18 +93,18 @@ def need(holds, code, where):
 # ---- words
 
 
-def is_id(text):
+def is_id(text: str) -> bool:
     return re.fullmatch(f'[A-Za-z0-9._-]{{1,{MOST_ID}}}', text) is not None
 
 
-def is_utf8(text):
+def is_utf8(text: bytes) -> bool:
     try:
         return text.decode() is not None
     except UnicodeDecodeError:
         return False
 
 
-def moment(text):
+def moment(text: str) -> int | None:
     """The nanoseconds of a watermark, or None."""
     found = re.fullmatch(
         r'([0-9]{4}-[0-9]{2}-[0-9]{2}T[0-9]{2}:[0-9]{2}:[0-9]{2})(?:\.([0-9]{1,9}))?Z', text)
@@ -76,22 +117,22 @@ def moment(text):
     return (at - EPOCH) // timedelta(seconds=1) * 10**9 + int((found[2] or '').ljust(9, '0'))
 
 
-def moment_text(nanoseconds):
+def moment_text(nanoseconds: int) -> str:
     seconds, fraction = divmod(nanoseconds, 10**9)
     point = f'.{fraction:09}'.rstrip('0') if fraction else ''
     return f'{EPOCH + timedelta(seconds=seconds):{SECONDS}}{point}Z'
 
 
-def place_text(place):
+def place_text(place: Place) -> str:
     return f'{moment_text(place[0])} {place[1]}'
 
 
-def in_order(place):
+def in_order(place: Place) -> tuple[int, int]:
     """By what places are in order."""
     return place[0], TYPES.index(place[1])
 
 
-def records(text):
+def records(text: bytes) -> list[list[bytes]]:
     """The records of a CSV text: commas, double quotes, no trimming, no empty lines."""
     lines = io.StringIO(text.removeprefix(b'\xef\xbb\xbf').decode('latin-1'), newline='')
     return [[field.encode('latin-1') for field in row] for row in csv.reader(lines) if row]
@@ -100,11 +141,12 @@ def records(text):
 # ---- the sections of a bundle
 
 
-def sections(body):
+def sections(body: bytes) -> list[tuple[str, bytes]]:
     """The sections of a bundle, the name and the bytes of each. U1 to U4."""
     need(len(body) <= MOST_BYTES, 4, f'more than {MOST_BYTES:,} bytes')
     need(body.startswith(FIRST_LINE), 1, 'the first line is not "escrow-bundle 1"')
-    found, at = [], len(FIRST_LINE)
+    found: list[tuple[str, bytes]] = []
+    at = len(FIRST_LINE)
     while not body.startswith(b'end\n', at):
         name, content = section(body, at, [name for name, _ in found])
         found.append((name, content))
@@ -114,7 +156,7 @@ def sections(body):
     return found
 
 
-def section(body, at, before):
+def section(body: bytes, at: int, before: list[str]) -> tuple[str, bytes]:
     """The section that begins here, after those of these names."""
     number = len(before) + 1
     line = re.compile(rb'([^\n ]*) (0|[1-9][0-9]*)\n').match(body, at)
@@ -141,48 +183,48 @@ def section(body, at, before):
 class Number:
     """A JSON number by its text, which fits a float."""
 
-    def __init__(self, text):
+    def __init__(self, text: str) -> None:
         if not math.isfinite(float(text)):
             raise ValueError(text)
         self.text = text
 
-    def whole(self):
+    def whole(self) -> int | None:
         """Its value if it is digits alone, up to 18446744073709551615."""
         is_whole = re.fullmatch('[0-9]{1,20}', self.text) and int(self.text) <= MOST_COUNT
         return int(self.text) if is_whole else None
 
 
-def is_whole(value, most=MOST_COUNT):
+def is_whole(value: object, most: int = MOST_COUNT) -> bool:
     return isinstance(value, Number) and value.whole() is not None and value.whole() <= most
 
 
-def check_texts(value):
+def check_texts(value: object) -> None:
     """A text with half a surrogate pair is no text. (A value has no such text where one can write
     it.)"""
     json.dumps(value, ensure_ascii=False, default=lambda number: number.text).encode()
 
 
-def members(pairs):
+def members(pairs: list[tuple[str, object]]) -> dict[str, object]:
     check_texts(pairs)
     return dict(pairs)
 
 
-def no_constant(text):
+def no_constant(text: str) -> NoReturn:
     raise ValueError(text)
 
 
-def json_of(text):
+def json_of(text: bytes) -> Envelope:
     """The value of a JSON text. U5 where it is none, nests deeper than 127 or has a number that no
     float is near. (Where in the text it is wrong isn't known here.)"""
     try:
-        text = text.decode()
+        said = text.decode()
         deep = deepest = 0
-        for bracket in re.findall(r'[][{}]', re.sub(r'"(?:[^"\\]|\\.)*"', '', text, flags=re.S)):
+        for bracket in re.findall(r'[][{}]', re.sub(r'"(?:[^"\\]|\\.)*"', '', said, flags=re.S)):
             deep += 1 if bracket in '[{' else -1
             deepest = max(deep, deepest)
         if deepest > 127:
             raise ValueError('too deep')
-        value = json.loads(text, parse_int=Number, parse_float=Number, parse_constant=no_constant,
+        value = json.loads(said, parse_int=Number, parse_float=Number, parse_constant=no_constant,
                            object_pairs_hook=members)
         check_texts(value)
         return value
@@ -190,19 +232,20 @@ def json_of(text):
         raise Refused(5, f'{ENVELOPE}: no JSON') from None
 
 
-def envelope_in(body):
+def envelope_in(body: bytes) -> Envelope:
     return json_of(dict(sections(body))['envelope.json'])
 
 
-def counts_in(envelope):
+def counts_in(envelope: Envelope) -> dict[str, int]:
     return {kind: it.whole() for kind, it in envelope.get('counts', {}).items() if kind in KINDS}
 
 
-def header_of(value):
+def header_of(value: Envelope) -> tuple[str, Place, str | None, int]:
     """The header of an envelope: id, watermark and type, prevId, resend. U6, for the first of these
     members that is wrong."""
-    told = value if isinstance(value, dict) else {}
-    name, watermark, prev, resend = map(told.get, ('id', 'watermark', 'prevId', 'resend'))
+    told = value if isinstance(value, dict) else Envelope()
+    name, watermark = told.get('id', ''), told.get('watermark', '')
+    prev, resend = told.get('prevId'), told.get('resend')
     counts = told.get('counts', {})
     right = {
         'id': isinstance(name, str) and is_id(name),
@@ -220,20 +263,21 @@ def header_of(value):
     return name, (moment(watermark), told['type']), prev or None, resend.whole() if resend else 0
 
 
-def tables_of(value, member, roles):
+def tables_of(value: Envelope, member: Member, roles: tuple[str, ...]) -> list[Declared]:
     """The tables of what is, or of what was deleted, whose roles are these. U7, for the first table
     and the first member that is wrong."""
-    before = []
+    before: list[Declared] = []
     for number, table in enumerate(value.get(member, []), 1):
-        here, told = f'{ENVELOPE}, {member} table {number}', table if isinstance(table,
-                                                                                 dict) else {}
+        here = f'{ENVELOPE}, {member} table {number}'
+        told: Mapping[str, object] = {**table} if isinstance(table, dict) else {}
         texts = {
-            name: told[name]
-            for name in ('name', 'kind', 'role', 'key', 'file') if isinstance(told.get(name), str)
+            name: text
+            for name in ('name', 'kind', 'role', 'key', 'file')
+            if isinstance(text := told.get(name), str)
         }
-        fields = told.get('fields')
-        are_fields = isinstance(fields, list) and all(
-            isinstance(it, str) and is_id(it) for it in fields)
+        listed = told.get('fields')
+        fields = listed if isinstance(listed, list) else []
+        are_fields = all(isinstance(it, str) and is_id(it) for it in fields)
         right = {
             'name': re.fullmatch(f'[A-Za-z0-9_]{{1,{MOST_TABLE}}}', texts.get('name', '')),
             'kind': texts.get('kind') in KINDS,
@@ -261,16 +305,18 @@ class Deposit:
     """What a bundle is that reads: its header, how many objects it says there are, its tables of
     what is and of what was deleted, and the records of each file."""
 
-    def __init__(self, header, counts, contents, deletes, files):
+    def __init__(self, header: tuple[str, Place, str | None, int], counts: dict[str, int],
+                 contents: list[Declared], deletes: list[Declared],
+                 files: dict[str, list[list[bytes]]]) -> None:
         self.name, self.place, self.prev, self.resend = header
         self.counts, self.contents, self.deletes, self.files = counts, contents, deletes, files
 
-    def rows(self, tables):
+    def rows(self, tables: list[Declared]) -> list[tuple[Declared, list[bytes]]]:
         """The rows of tables, each with its table."""
         return [(table, row) for table in tables for row in self.files[table['file']]]
 
     @functools.cached_property
-    def orphans(self):
+    def orphans(self) -> int:
         """How many child rows have no parent row."""
         rows = self.rows(self.contents)
         parents = {key(table, row) for table, row in rows if table['role'] == 'parent'}
@@ -278,11 +324,12 @@ class Deposit:
             key(table, row) not in parents for table, row in rows if table['role'] == 'child')
 
     @functools.cached_property
-    def says(self):
+    def says(self) -> dict[Named, bytes | None]:
         """Of each key that it mentions the record of the object, or None for one that there is no
         more."""
         said = {} if self.place[1] == 'FULL' else {key(*it): None for it in self.rows(self.deletes)}
-        objects, children = {}, {}
+        objects: dict[Named, tuple[bytes, list[tuple[bytes, bytes]]]] = {}
+        children: dict[Named, list[tuple[bytes, list[tuple[bytes, bytes]]]]] = {}
         for table, row in self.rows(self.contents):
             made = table['name'].encode(), [(field.encode(), cell)
                                             for field, cell in zip(table['fields'], row)]
@@ -297,20 +344,20 @@ class Deposit:
         }
 
 
-def key(table, row):
+def key(table: Declared, row: list[bytes]) -> Named:
     text = row[table['fields'].index(table['key'])]
     return table['kind'], text.lower() if table['kind'] in ('domain', 'host') else text
 
 
-def deposit(body):
+def deposit(body: bytes) -> Deposit:
     """The deposit that a bundle is. U1 to U11."""
-    (_, text), *files = sections(body)
+    (_, text), *others = sections(body)
     value = json_of(text)
     header = header_of(value)
     contents, deletes = tables_of(value, 'contents',
                                   ('parent', 'child')), tables_of(value, 'deletes', ('parent',))
     # The files of tables are sections, and each section is the file of one table. U8.
-    names, named = [name for name, _ in files], [table['file'] for table in [*contents, *deletes]]
+    names, named = [name for name, _ in others], [table['file'] for table in [*contents, *deletes]]
     for member, tables in (('contents', contents), ('deletes', deletes)):
         for number, table in enumerate(tables, 1):
             need(table['file'] in names, 8,
@@ -318,12 +365,12 @@ def deposit(body):
     for number, name in enumerate(names, 2):
         need(name in named, 8, f'section {number} {name}: the file of no table')
         need(named.count(name) == 1, 8, f'section {number} {name}: the file of two tables')
-    files = {name: records(content) for name, content in files}
+    files = {name: records(content) for name, content in others}
     check_rows({table['file']: table for table in [*contents, *deletes]}, files)
     return Deposit(header, counts_in(value), contents, deletes, files)
 
 
-def check_rows(tables, files):
+def check_rows(tables: dict[str, Declared], files: dict[str, list[list[bytes]]]) -> None:
     """The rows of files, each the file of a table. U9 to U11."""
     rows = [(f'section {number} {name}, row {row}', tables[name], fields)
             for number, (name, its) in enumerate(files.items(), 2)
@@ -345,7 +392,7 @@ def check_rows(tables, files):
 
 
 @functools.lru_cache(32)
-def found_in(body):
+def found_in(body: bytes) -> 'Deposit | Refused':
     """The deposit that a body is, or its refusal."""
     try:
         return deposit(body)
@@ -353,7 +400,12 @@ def found_in(body):
         return refused
 
 
-def verdict(body, row):
+def held_in(body: bytes) -> Deposit:
+    """The deposit that a body is, of which it is known that it is one."""
+    return cast(Deposit, found_in(body))
+
+
+def verdict(body: bytes, row: Listed) -> tuple[str, str]:
     """What a body is that this row lists: the verdict, and the fault or an empty text."""
     found = found_in(body)
     if isinstance(found, Refused):
@@ -366,16 +418,16 @@ def verdict(body, row):
 # ---- the record of an object
 
 
-def number_bytes(value):
+def number_bytes(value: int) -> bytes:
     return struct.pack('>I', value)
 
 
-def text_bytes(value):
+def text_bytes(value: str | bytes) -> bytes:
     value = value.encode() if isinstance(value, str) else value
     return number_bytes(len(value)) + value
 
 
-def record(rows):
+def record(rows: Sequence[tuple[str | bytes, Sequence[tuple[str | bytes, str | bytes]]]]) -> bytes:
     """The bytes of an object: rows of a table's name with its cells, the parent first."""
     made = [number_bytes(len(rows))]
     for table, cells in rows:
@@ -384,14 +436,14 @@ def record(rows):
     return b''.join(made)
 
 
-def read_record(bytes_):
+def read_record(bytes_: bytes) -> Rows:
     """The rows of an object, of each its table and its cells, as texts."""
     file = io.BytesIO(bytes_)
 
-    def number():
+    def number() -> int:
         return struct.unpack('>I', file.read(4))[0]
 
-    def text():
+    def text() -> str:
         return file.read(number()).decode()
 
     return [(text(), [(text(), text()) for _ in range(number())]) for _ in range(number())]
@@ -400,7 +452,7 @@ def read_record(bytes_):
 # ---- manifests
 
 
-def row_of(record):
+def row_of(record: list[bytes]) -> Listed:
     """A manifest's row by its record: id, place, prevId, resend, digest, with None for what is not
     of its form."""
     name, kind, watermark, prev, resend, digest = (field.decode() if is_utf8(field) else '\ufffd'
@@ -421,7 +473,7 @@ FORMS = (
 )
 
 
-def manifest(text):
+def manifest(text: bytes) -> list[Listed]:
     """The rows of a manifest. M1 to M13."""
     found = records(text)
     need(len(text) <= MOST_MANIFEST and len(found) <= 1 + MOST_LISTED, 1, 0)
@@ -437,10 +489,13 @@ def manifest(text):
     return rows
 
 
-def fault_among(rows):
+def fault_among(rows: list[Listed]) -> tuple[int, int] | None:
     """The least fault of rows of the right forms against each other, M10 to M13, and its row; or
     None."""
-    places, revisions, digests, faults = {}, set(), set(), []
+    places: dict[str, Place] = {}
+    revisions: set[tuple[Place, int]] = set()
+    digests: set[str] = set()
+    faults: list[tuple[int, int]] = []
     for index, (name, place, prev, resend, digest) in enumerate(rows, 1):
         faults += [(10, index)] if (place, resend) in revisions else []
         faults += [(11, index)] if places.setdefault(name, place) != place else []

@@ -9,6 +9,8 @@ from tests.support.limits import MOST_BYTES
 from tests.support.limits import MOST_HEAD
 from tests.support.limits import MOST_LINES
 
+# What an input asks for, or the status, the text and the allowed method of its refusal.
+Asked = tuple[str, str, bytes] | tuple[str, str] | tuple[int, str, str | None]
 TOKEN = rb"[A-Za-z0-9!#$%&'*+\-.^_`|~]+"
 HEAD = re.compile(rb'(?:\r?\n)*(' + TOKEN + rb') ([\x21-\x7e\x80-\xff]+) HTTP/1\.[01]\r?\n((?:' +
                   TOKEN + rb':[\t\x20-\x7e\x80-\xff]*\r?\n)*)\r?\n')
@@ -27,17 +29,18 @@ PATHS = ('/status', '/gaps', '/links', '/receipts', '/parked', *(f'/export/{kind
                                                                  for kind in KINDS))
 
 
-def get(path, fields=''):
+def get(path: str, fields: str = '') -> bytes:
     return f'GET {path} HTTP/1.1\r\n{fields}\r\n'.encode()
 
 
-def put(number, body, length=None):
+def put(number: str, body: bytes, length: int | None = None) -> bytes:
     """An arrival, which may say another length than it has."""
     said = len(body) if length is None else length
     return f'PUT /arrivals/{number} HTTP/1.1\r\nContent-Length: {said}\r\n\r\n'.encode() + body
 
 
-def response(status, text, type='text/plain', allow=None):
+def response(status: int, text: str | bytes, type: str = 'text/plain',
+             allow: str | None = None) -> bytes:
     body = text if isinstance(text, bytes) else text.encode()
     lines = [
         f'HTTP/1.1 {status} {REASONS[status]}', f'Content-Type: {type}',
@@ -47,7 +50,7 @@ def response(status, text, type='text/plain', allow=None):
     return ''.join(f'{line}\r\n' for line in [*lines, '']).encode() + body
 
 
-def asked(text):
+def asked(text: bytes) -> Asked:
     """What an input asks for: (`PUT`, number, body), (`GET`, path), or the status, the text and the
     allowed method of its refusal."""
     head = HEAD.match(text)
@@ -64,7 +67,7 @@ def asked(text):
     return arrival_in(arrival[1], lines, text[head.end():]) if arrival else ('GET', path)
 
 
-def arrival_in(number, lines, rest):
+def arrival_in(number: str, lines: list[tuple[bytes, bytes, bytes]], rest: bytes) -> Asked:
     if not is_id(number):
         return 400, 'N1\n', None
     named = [(name.lower(), value.strip(b' \t')) for name, _, value in lines]

@@ -1,5 +1,6 @@
 """Pages of HTML as a browser reads them: their elements, which have to be balanced, and what stands
 in them."""
+from collections.abc import Iterator
 from dataclasses import dataclass
 from dataclasses import field
 from html.parser import HTMLParser
@@ -26,26 +27,26 @@ class Element:
     attributes: dict = field(default_factory=dict)
     inside: list = field(default_factory=list)
 
-    def elements(self):
+    def elements(self) -> list['Element']:
         return [it for it in self.inside if isinstance(it, Element)]
 
-    def all(self, *names):
+    def all(self, *names: str) -> Iterator['Element']:
         """The elements in it that have one of these names, in order."""
         for it in self.elements():
             if it.name in names:
                 yield it
             yield from it.all(*names)
 
-    def one(self, name):
+    def one(self, name: str) -> 'Element':
         found = list(self.all(name))
         if len(found) != 1:
             raise Failed(f'{len(found)} elements {name} in {self.name} {self.attributes}')
         return found[0]
 
-    def text(self):
+    def text(self) -> str:
         return ''.join(it if isinstance(it, str) else it.text() for it in self.inside)
 
-    def written(self):
+    def written(self) -> str:
         """Its text, where an attribute's value is in double quotes and each of five signs is
         escaped."""
         front = self.name + ''.join(f' {name}="{escaped(value)}"'
@@ -56,12 +57,12 @@ class Element:
         return f'<{front}>{"".join(inside)}</{self.name}>'
 
 
-def escaped(text):
+def escaped(text: str) -> str:
     return ''.join(SIGNS.get(it, it) for it in text)
 
 
 class Reader(HTMLParser):
-    def __init__(self, text):
+    def __init__(self, text: str) -> None:
         super().__init__(convert_charrefs=True)
         self.root = Element('page')
         self.open = [self.root]
@@ -70,7 +71,7 @@ class Reader(HTMLParser):
         if len(self.open) != 1:
             raise Failed(f'{self.open[-1].name} has no end')
 
-    def handle_starttag(self, tag, attrs):
+    def handle_starttag(self, tag: str, attrs: list[tuple[str, str | None]]) -> None:
         made = Element(tag, dict(attrs))
         if len(made.attributes) != len(attrs) or tag not in ELEMENTS or set(
                 made.attributes) - set(ATTRIBUTES):
@@ -79,25 +80,26 @@ class Reader(HTMLParser):
         if tag not in VOID:
             self.open.append(made)
 
-    def handle_endtag(self, tag):
+    def handle_endtag(self, tag: str) -> None:
         if self.open[-1].name != tag:
             raise Failed(f'{tag} ends in {self.open[-1].name}')
         self.open.pop()
 
-    def handle_data(self, data):
+    def handle_data(self, data: str) -> None:
         self.open[-1].inside.append(data)
 
-    def handle_decl(self, decl):
+    def handle_decl(self, decl: str) -> None:
         if decl != 'DOCTYPE html' or self.root.inside:
             raise Failed(f'declared: {decl}')
 
-    def refuse(self, what, *_):
+    def refuse(self, what: str, _: object = None) -> None:
         raise Failed(f'this is none of a page: {what}')
 
-    handle_startendtag = handle_comment = handle_pi = unknown_decl = refuse
+    handle_startendtag = refuse  # type: ignore[assignment]
+    handle_comment = handle_pi = unknown_decl = refuse  # type: ignore[assignment]
 
 
-def read_page(body):
+def read_page(body: bytes) -> Element:
     """The element html of a page, which has to be written as `written` does, and to have what every
     page must."""
     text = body.decode()
@@ -111,14 +113,14 @@ def read_page(body):
     return page
 
 
-def check_links(page):
+def check_links(page: Element) -> None:
     ids = [it.attributes['id'] for it in page.all(*ELEMENTS) if 'id' in it.attributes]
     links = {it.attributes['href'] for it in page.all(*ELEMENTS) if 'href' in it.attributes}
     if len(set(ids)) != len(ids) or links - {f'#{it}' for it in ids}:
         raise Failed(f'ids {ids}, links {links}')
 
 
-def check_safety(page):
+def check_safety(page: Element) -> None:
     """A page loads and runs nothing."""
     style = page.one('style').text()
     if any(it in style for it in ('url(', '@import', 'expression', '<', '>', '&', '"', "'")):
@@ -129,7 +131,7 @@ def check_safety(page):
         raise Failed(f'policy {policy}')
 
 
-def check_headings(page):
+def check_headings(page: Element) -> None:
     """A page can be listened to: one first heading, and none is left out between."""
     levels = [int(it.name[1]) for it in page.all('h1', 'h2', 'h3')]
     skips = any(later > level + 1 for level, later in zip(levels, levels[1:]))
@@ -137,7 +139,7 @@ def check_headings(page):
         raise Failed(f'headings {levels}')
 
 
-def check_tables(page):
+def check_tables(page: Element) -> None:
     for it in page.all('th'):
         if it.attributes.get('scope') not in ('col', 'row'):
             raise Failed(f'a heading of a table without a scope: {it.text()}')
@@ -148,7 +150,7 @@ def check_tables(page):
             raise Failed(f'rows of {it.one("caption").text()}')
 
 
-def check_pictures(page):
+def check_pictures(page: Element) -> None:
     """A picture has words, or is left out where a page is listened to."""
     for it in page.all('svg'):
         is_hidden = it.attributes.get('aria-hidden') == 'true'
@@ -157,18 +159,18 @@ def check_pictures(page):
             raise Failed('a picture without words')
 
 
-def section(page, name):
+def section(page: Element, name: str) -> Element:
     found = [it for it in page.all('section') if it.attributes.get('id') == name]
     if len(found) != 1:
         raise Failed(f'{len(found)} sections {name}')
     return found[0]
 
 
-def rows_of(table):
+def rows_of(table: Element) -> list[list[str]]:
     return [[cell.text() for cell in row.elements()] for row in table.one('tbody').all('tr')]
 
 
-def counted_tables(part):
+def counted_tables(part: Element) -> dict[str, tuple[int, list[list[str]]]]:
     """The tables of a section by their headings: the number in the heading, and the rows."""
     found = {}
     for heading, frame in zip(part.all('h3'), part.all('div')):

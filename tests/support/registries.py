@@ -12,7 +12,8 @@ __all__ = ('NUMBERS', 'TABLES', 'Registry', 'csv_text', 'delta', 'deposit', 'ful
 ROWS = 95_500
 
 
-def full(seed, rows, id, watermark, flat=False, words=0):
+def full(seed: int | float, rows: int, id: str, watermark: str, flat: bool = False,
+         words: int = 0) -> tuple[Registry, bytes]:
     """A registry of a seed, and a Full of its objects with so many rows, or a few less. Where it is
     flat each row is an object."""
     objects = sum(NUMBERS.values())
@@ -28,9 +29,11 @@ def full(seed, rows, id, watermark, flat=False, words=0):
     return registry, deposit({'id': id, 'type': 'FULL', 'watermark': watermark}, tables, {}, counts)
 
 
-def delta(registry, header, touch):
+def delta(registry: Registry, header: dict[str, object], touch: int) -> bytes:
     """A deposit of so many objects: a half changed, a third new, the rest deleted."""
-    there, gone, done = {}, {}, set()
+    there: dict[str, list[str]] = {}
+    gone: dict[str, list[str]] = {}
+    done = set()
     for _ in range(touch):
         kind = registry.random.choices(['domain', 'contact', 'host'], [6, 3, 1])[0]
         share = registry.random.random()

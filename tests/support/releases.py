@@ -1,12 +1,14 @@
 """Releases, the stores that `restore` rebuilds from them, and what the plain model keeps of
 them."""
 import os
+from collections.abc import Iterable
 from typing import NamedTuple
 
 from tests.support import TOP
 from tests.support.files import read
 from tests.support.formats import moment
 from tests.support.model import Desk
+from tests.support.stage import Stage
 from tests.support.stores import run
 
 
@@ -14,13 +16,14 @@ class Release(NamedTuple):
     """A manifest, the bodies that arrive with their numbers, of which not each may be held, and the
     moment that is set, or none."""
     manifest: bytes
-    arrivals: list
+    arrivals: list[tuple[str, bytes]]
     moment: str | None = None
 
-    def desk(self):
-        return Desk(self.manifest, sorted(self.arrivals), self.moment and moment(self.moment))
+    def desk(self) -> Desk:
+        latest = moment(self.moment) if self.moment else None
+        return Desk(self.manifest, sorted(self.arrivals), latest)
 
-    def rebuild(self, stage, store='a.db'):
+    def rebuild(self, stage: Stage, store: str = 'a.db') -> None:
         folder = f'{store}-deposits'
         os.makedirs(stage.at(folder))
         stage.write(f'{store}.csv', self.manifest)
@@ -32,15 +35,15 @@ class Release(NamedTuple):
             run(stage, f'as-of --store {store} {self.moment}')
 
 
-def numbered(bodies):
+def numbered(bodies: Iterable[bytes]) -> list[tuple[str, bytes]]:
     return [(f'{at:04}', body) for at, body in enumerate(bodies)]
 
 
-def sample(path):
+def sample(path: str) -> bytes:
     return read(f'{TOP}/samples/{path}')
 
 
-def folder(path):
+def folder(path: str) -> list[tuple[str, bytes]]:
     """The files of a sample's folder, by their names."""
     return [(name, sample(f'{path}/{name}'))
             for name in sorted(os.listdir(f'{TOP}/samples/{path}'))]

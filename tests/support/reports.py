@@ -1,4 +1,6 @@
 """The reports of a desk, as a program prints them and a desk responds with them."""
+from collections.abc import Iterable
+
 from tests.support.formats import KINDS
 from tests.support.stage import text_of
 
@@ -11,11 +13,11 @@ HEADINGS = {
 }
 
 
-def report(name, rows=()):
+def report(name: str, rows: Iterable[str] = ()) -> str:
     return text_of([HEADINGS[name], *rows])
 
 
-def status(listed, held, receipts, chain, end, **objects):
+def status(listed: int, held: int, receipts: int, chain: int, end: str, **objects: int) -> str:
     """The numbers of a desk, where its chain ends, and how many objects it has of a kind."""
     told = {'listed': listed, 'held': held, 'receipts': receipts, 'chain': chain, 'end': end}
     told |= dict.fromkeys(KINDS, 0) | objects

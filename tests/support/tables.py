@@ -4,6 +4,9 @@ An object is a list of rows, as in documents.py: a table and its cells, the pare
 import csv
 import io
 import os
+from collections.abc import Callable
+from collections.abc import Iterable
+from collections.abc import Sequence
 
 from tests.support.documents import KEYS
 from tests.support.escrow import description_in
@@ -13,6 +16,8 @@ LETTERS = {ord(it): it.lower() for it in 'ABCDEFGHIJKLMNOPQRSTUVWXYZ'}
 LOWERED = ('domain', 'host')
 
 Row = tuple[str, dict[str, str]]
+# The rows of each table, by the key of their object.
+Tables = dict[str, dict[str, list[dict[str, str]]]]
 
 
 def key_of(kind: str, cells: dict[str, str]) -> str:
@@ -20,10 +25,10 @@ def key_of(kind: str, cells: dict[str, str]) -> str:
     return key.translate(LETTERS) if kind in LOWERED else key
 
 
-def in_tables(objects: list[list[Row]]) -> dict[str, dict[str, list[dict[str, str]]]]:
+def in_tables(objects: Iterable[Sequence[Row]]) -> Tables:
     """The rows of each table by the key of their object, each with its own key and the cells that
     aren't empty."""
-    found: dict[str, dict[str, list[dict[str, str]]]] = {}
+    found: Tables = {}
     for rows in objects:
         kind, parent = rows[0]
         own = {KEYS[kind]: parent.get(KEYS[kind], '')}
@@ -33,16 +38,18 @@ def in_tables(objects: list[list[Row]]) -> dict[str, dict[str, list[dict[str, st
     return found
 
 
-def quoted_rows(rows) -> str:
+def quoted_rows(rows: Iterable[Sequence[str]]) -> str:
     """Rows of CSV with each field in quotes: without, Python's writer leaves a CR bare."""
     text = io.StringIO(newline='')
     csv.writer(text, lineterminator='\n', quoting=csv.QUOTE_ALL).writerows(rows)
     return text.getvalue()
 
 
-def write_tables(folder: str, objects: list[list[Row]], order=sorted) -> None:
+def write_tables(folder: str, objects: Iterable[Sequence[Row]],
+                 order: Callable[[Iterable[str]], Iterable[str]] = sorted) -> None:
     """Writes a folder of `handover tables`, with the keys of each table in this order."""
-    tables = {**{kind: {} for kind in KEYS}, **in_tables(objects)}
+    none: Tables = {kind: {} for kind in KEYS}
+    tables = none | in_tables(objects)
     for table, rows in tables.items():
         fields = list(dict.fromkeys(name for its in rows.values() for row in its for name in row))
         os.makedirs(folder, exist_ok=True)
@@ -53,9 +60,9 @@ def write_tables(folder: str, objects: list[list[Row]], order=sorted) -> None:
                                        for row in rows[key]))
 
 
-def tables_in(folder: str) -> dict[str, dict[str, list[dict[str, str]]]]:
+def tables_in(folder: str) -> Tables:
     """The same of a folder that `unpack_rde` wrote of a Full."""
-    found: dict[str, dict[str, list[dict[str, str]]]] = {}
+    found: Tables = {}
     for table in description_in(folder)['contents']:
         for row in rows_in(folder, table):
             key = row[table['key']]

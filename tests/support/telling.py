@@ -1,16 +1,21 @@
 """What a desk answers and tells, by the plain model."""
+from collections.abc import Iterable
+from collections.abc import Sequence
 from typing import NamedTuple
 
 from tests.support.files import read
 from tests.support.formats import KINDS
+from tests.support.formats import Deposit
 from tests.support.formats import Refused
-from tests.support.formats import found_in
+from tests.support.formats import held_in
 from tests.support.formats import moment
 from tests.support.formats import moment_text
 from tests.support.formats import place_text
 from tests.support.formats import read_record
+from tests.support.model import Desk
 from tests.support.reports import report
 from tests.support.reports import status
+from tests.support.stage import Stage
 from tests.support.stage import text_of
 
 
@@ -21,11 +26,11 @@ class Answer(NamedTuple):
     cost: str = ''
     writes: int = 0
 
-    def whole(self):
+    def whole(self) -> str:
         return f'{self.text}{self.cost}\n'
 
 
-def answer(stage, model, line):
+def answer(stage: Stage, model: Desk, line: str) -> Answer:
     """The answer to a line, whose file is in the folder: a body that comes, a manifest that amends,
     or a moment."""
     old, held = model.steps, model.held
@@ -43,29 +48,29 @@ def answer(stage, model, line):
     model.settle()
     front = max(count for count in range(len(old) + 1) if old[:count] == model.steps[:count])
     cleared = front == 0 and old != []
-    undone = [] if cleared else [held[it] for it in old[front:]]
+    undone: list[bytes] = [] if cleared else [held[it] for it in old[front:]]
     applied = [model.held[it] for it in model.steps[front:]]
-    writes = sum(len(found_in(it).says) for it in undone + applied)
+    writes = sum(len(held_in(it).says) for it in undone + applied)
     cost = (f'; cleared {str(cleared).lower()}, {len(undone)} undone, {len(applied)} applied, '
             f'{writes} written, {writes} counted')
     return Answer(text, cost, writes)
 
 
-def object_text(kind, key, record):
+def object_text(kind: str, key: bytes, record: bytes) -> str:
     rows = [' '.join([table, *(f'{field}={text}' for field, text in cells)])
             for table, cells in read_record(record)]
     return f'{kind} {key.decode()}: ' + '; '.join(rows)
 
 
-def end_lines(end):
+def end_lines(end: Deposit) -> list[str]:
     counts = (f'{it} {end.counts[it]}' for it in KINDS if it in end.counts)
     return [moment_text(end.place[0]), *counts]
 
 
-def state(model):
+def state(model: Desk) -> dict[str, str]:
     """All that a desk tells of itself: its answer to each question."""
     places = [f'{place_text(model.place(it))} {model.listed[it][3]}' for it in model.steps]
-    end = found_in(model.held[model.steps[-1]]) if places else None
+    end = held_in(model.held[model.steps[-1]]) if places else None
     objects = sorted(model.objects.items(), key=lambda it: (KINDS.index(it[0][0]), it[0][1]))
     kinds = [kind for (kind, _), _ in objects]
     return {
@@ -82,13 +87,13 @@ def state(model):
     }
 
 
-def shown(value):
+def shown(value: object) -> str:
     """A value as a query tells it."""
     if value is None:
         return 'none'
     return f'x{value.hex()}' if isinstance(value, bytes) else str(value)
 
 
-def rows_told(rows):
+def rows_told(rows: Iterable[Sequence[object]]) -> str:
     """Rows of a table as a query tells them."""
     return text_of(' '.join(map(shown, it)) for it in rows)

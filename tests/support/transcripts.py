@@ -37,11 +37,15 @@ line of standard error after its mark."""
 import json
 import os
 import re
+from collections.abc import Callable
+from collections.abc import Iterator
+from collections.abc import Sequence
 from dataclasses import dataclass
 from dataclasses import field
 
 from tests.support.bodies import BODIES
 from tests.support.harness import Harness
+from tests.support.stage import Stage
 from tests.support.stage import Wanted
 from tests.support.stage import case
 from tests.support.steps import FILES
@@ -54,6 +58,7 @@ from tests.support.steps import Link
 from tests.support.steps import Manifest
 from tests.support.steps import Parked
 from tests.support.steps import Statements
+from tests.support.steps import Step
 from tests.support.steps import Text
 from tests.support.steps import Zeros
 from tests.support.steps import step
@@ -66,12 +71,17 @@ RUN, MARKS = ('restore', 'pack', 'handover'), '~!?'
 TOLD, ESCAPE = '> ', '\\'
 
 
+# A line with its place.
+Placed = tuple[str, str]
+
+
 class Misread(Exception):
     """A line of a transcript is none of its form."""
 
 
 @step
-def Command(stage, place, program, line, words, wanted):
+def Command(stage: Stage, place: str, program: str, line: str, words: Sequence[str],
+            wanted: Wanted) -> None:
     """A run of a program on words, and what it must give."""
     with case(place):
         stage.check(line, wanted, words, program)
@@ -85,14 +95,14 @@ class Exchange:
     told: list
     answer: list = field(default_factory=list)
 
-    def is_told(self):
+    def is_told(self) -> bool:
         """Whether all events are there."""
         run = re.fullmatch('run ([0-9]+)', self.told[0])
         return len(self.told) == 1 + (int(run[1]) if run else 0)
 
 
 @step
-def Talk(stage, exchanges):
+def Talk(stage: Stage, exchanges: Sequence[Exchange]) -> None:
     """A run of desk_harness: what it is told, and what it must answer."""
     with Harness(stage) as desk:
         for exchange in exchanges:
@@ -106,12 +116,12 @@ class Transcript:
     title: str
     steps: list = field(default_factory=list)
 
-    def play(self, stage):
+    def play(self, stage: Stage) -> None:
         for it in self.steps:
             it.do(stage)
 
 
-def words_of(text):
+def words_of(text: str) -> list[str]:
     """The words of a line as they are written, those in quotes with these."""
     words, at = [], 0
     while at < len(text):
@@ -123,39 +133,39 @@ def words_of(text):
     return words
 
 
-def plain(word):
+def plain(word: str) -> str:
     try:
         return json.loads(word) if word.startswith('"') else word
     except ValueError as error:
         raise Misread(f'{word}: {error}') from None
 
 
-def named(name):
+def named(name: str) -> str:
     """The name of a file of tests/files, which must be there."""
     if not os.path.isfile(f'{FILES}/{name}'):
         raise Misread(f'there is no file tests/files/{name}')
     return name
 
 
-def count_of(word):
+def count_of(word: str) -> int:
     if not re.fullmatch('[0-9]+', word):
         raise Misread(f'{word} is no count')
     return int(word)
 
 
-def worked(name):
+def worked(name: str) -> str:
     if name not in BODIES:
         raise Misread(f'there is no worked body {name}')
     return name
 
 
-def body_of(word, known):
+def body_of(word: str, known: Callable[[str], str]) -> tuple[str, str]:
     """A number and the name of a body, which must be known."""
     number, _, name = word.partition(':')
     return number, known(name)
 
 
-def step_of(line):
+def step_of(line: str) -> Step:
     """The step of a line that is no command."""
     match words_of(line):
         case ['folder', path]:
@@ -187,11 +197,11 @@ def step_of(line):
     raise Misread(f'this is no line of a transcript: {line}')
 
 
-def text_of(lines):
+def text_of(lines: Sequence[str]) -> str:
     return ''.join(f'{it[1:] if it.startswith(ESCAPE) else it}\n' for it in lines)
 
 
-def wanted_of(lines):
+def wanted_of(lines: Sequence[str]) -> Wanted:
     """What a run must give, by the lines below it."""
     marked = {mark: [it[2:] for it in lines if it.startswith(f'{mark} ')] for mark in MARKS}
     out = [it for it in lines if it[0] not in MARKS]
@@ -206,9 +216,9 @@ def wanted_of(lines):
     return Wanted(count_of(statuses[0]) if statuses else 0, text_of(out), told, *parts)
 
 
-def exchanges_of(below):
+def exchanges_of(below: Sequence[Placed]) -> list[Exchange]:
     """What a desk is told, and what it must answer, by the lines below a run of desk_harness."""
-    found = []
+    found: list[Exchange] = []
     for place, line in below:
         is_told = bool(found) and found[-1].is_told()
         if line.startswith(TOLD) and (is_told or not found):
@@ -224,7 +234,7 @@ def exchanges_of(below):
     return found
 
 
-def run_of(lines):
+def run_of(lines: Sequence[Placed]) -> Step:
     """A run of a program, by its line and those below it, each with its place."""
     (place, line), *below = lines
     if line == '$ desk_harness':
@@ -236,10 +246,10 @@ def run_of(lines):
                    wanted_of([it for _, it in below]))
 
 
-def blocks_of(lines):
+def blocks_of(lines: Sequence[Placed]) -> Iterator[list[Placed]]:
     """Lines, each with its place: those that stand alone, and a run of a program with those below
     it up to an empty one."""
-    run = []
+    run: list[Placed] = []
     for place, line in lines:
         if run and (not line or line.startswith(('$', '=='))):
             yield run
@@ -250,7 +260,7 @@ def blocks_of(lines):
             yield [(place, line)]
 
 
-def read_transcripts(path):
+def read_transcripts(path: str) -> list[Transcript]:
     name, cases = os.path.basename(path), []
     with open(path, encoding='utf-8', newline='\n') as file:
         numbered = enumerate([*file.read().split('\n'), ''], 1)

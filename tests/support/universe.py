@@ -2,13 +2,18 @@
 by which a desk is told of it."""
 import random
 from collections.abc import Callable
+from collections.abc import Collection
+from collections.abc import Iterable
+from collections.abc import Sequence
 from typing import NamedTuple
+from typing import TypeVar
 
 from tests.support.bundles import Table
 from tests.support.bundles import deposit
 from tests.support.bundles import manifest
 from tests.support.formats import TYPES
 
+It = TypeVar('It')
 # The keys of objects, in their order, and names of some that are the same keys.
 CONTACTS, DOMAINS = ('C1', 'C2'), ('a.example', 'b.example', 'c.example')
 KEYS = CONTACTS + DOMAINS
@@ -29,7 +34,7 @@ class Header(NamedTuple):
     prev: int | None = None
     resend: int = 0
 
-    def __str__(self):
+    def __str__(self) -> str:
         prev = '' if self.prev is None else f'N{self.prev}'
         return f'N{self.id},{self.type},{moment_text(2 * self.day)},{prev},{self.resend}'
 
@@ -53,11 +58,12 @@ class History:
     the events then, with the files that they name. The store of a history with any such arrival is
     of version 1, and is migrated after them."""
 
-    def __init__(self, bodies, first):
+    def __init__(self, bodies: Sequence[Body], first: Iterable[Row]) -> None:
         self.files = {it.name: it.bytes for it in bodies} | {'first.csv': manifest_text(first)}
-        self.early, self.events = [], []
+        self.early: list[str] = []
+        self.events: list[str] = []
 
-    def shown(self):
+    def shown(self) -> str:
         """The lines, and the manifests among them."""
         lines = ['create first.csv', *self.early, 'and then', *self.events]
         return ''.join(f'- {it}\n' +
@@ -65,12 +71,12 @@ class History:
                        for it in lines)
 
 
-def moment_text(half):
+def moment_text(half: int | None) -> str:
     """A moment, in half days of the month, or `latest`."""
     return 'latest' if half is None else f'2024-03-{half // 2:02}T{half % 2 * 12:02}:00:00Z'
 
 
-def manifest_text(rows):
+def manifest_text(rows: Iterable[Row]) -> bytes:
     return manifest((it.header, it.body.bytes) for it in rows)
 
 
@@ -88,37 +94,37 @@ class Chance:
         """A number below a count, or 0."""
         return self.number_below(count) if count else 0
 
-    def low_below(self, count):
+    def low_below(self, count: int) -> int:
         """A number below a count, or 0: low ones more often."""
         return min(self.below(count), self.below(count))
 
-    def is_one_in(self, count):
+    def is_one_in(self, count: int) -> bool:
         """Whether it comes so, as in one of so many cases."""
         return self.below(count) == 0
 
-    def one_of(self, items):
+    def one_of(self, items: Sequence[It]) -> It | None:
         """One of some items, or None where there is none."""
         at = self.below(len(items))
         return items[at] if items else None
 
-    def low_one_of(self, items):
+    def low_one_of(self, items: Sequence[It]) -> It:
         """One of some items: the first ones more often."""
         return items[self.low_below(len(items))]
 
-    def day(self):
+    def day(self) -> int:
         return self.below(8) + 1
 
 
-def id_of(day, type):
+def id_of(day: int, type: str) -> int:
     return day * 10 + TYPES.index(type)
 
 
-def draw_full(chance):
+def draw_full(chance: Chance) -> Header:
     day = chance.day()
     return Header(id_of(day, 'FULL'), day, 'FULL')
 
 
-def draw_beside(chance, before):
+def draw_beside(chance: Chance, before: Header) -> Header:
     """A deposit after another one, another revision of it, which may have another previous id, or a
     Full: as it is before its resend is drawn, and its id anew."""
     type = ('FULL', 'INCR', 'INCR', *['DIFF'] * 5)[chance.below(8)]
@@ -133,7 +139,7 @@ def draw_beside(chance, before):
     return Header(id_of(day, type), day, type, before.id)
 
 
-def draw_header(chance, drawn):
+def draw_header(chance: Chance, drawn: Sequence[Body]) -> Header:
     before = chance.one_of(drawn)
     if before is None:
         return draw_full(chance)
@@ -146,12 +152,12 @@ def draw_header(chance, drawn):
                            100) if chance.is_one_in(8) else header
 
 
-def rows_of(lines, keys, word):
+def rows_of(lines: Iterable[tuple[str, int]], keys: Collection[str], word: str) -> str:
     """The rows of some keys, of each its key and its number after a word."""
     return ''.join(f'{key},{word}{mark}\n' for key, mark in lines if key in keys)
 
 
-def draw_body(chance, drawn):
+def draw_body(chance: Chance, drawn: Sequence[Body]) -> Body:
     """A body, from which sometimes no deposit reads. What it counts is its index, so that no two
     bodies are the same."""
     index, header = len(drawn), draw_header(chance, drawn)
@@ -179,10 +185,10 @@ def draw_body(chance, drawn):
         made[:-1] if fault == 1 else made.replace(b'{"id"', b'["id"', 1) if fault == 5 else made)
 
 
-def drawn(chance):
+def drawn(chance: Chance) -> tuple[list[Body], list[Row]]:
     """The bodies that there are, and the rows: those that say of each body
     what it is, and then some with one of their values changed."""
-    bodies = []
+    bodies: list[Body] = []
     for _ in range(BODIES):
         bodies.append(draw_body(chance, bodies))
     rows, wrong = [Row(it.header, it) for it in bodies], []
@@ -194,14 +200,14 @@ def drawn(chance):
     return bodies, rows + wrong
 
 
-def draw_first(chance, rows):
+def draw_first(chance: Chance, rows: Sequence[Row]) -> Row:
     """The row that is listed first: that of a Full, since a row that contradicts itself makes no
     store."""
     row = rows[chance.low_below(BODIES)]
     return row if row.header.type == 'FULL' else rows[0]
 
 
-def draw_arrival(chance, bodies, events):
+def draw_arrival(chance: Chance, bodies: Sequence[Body], events: Sequence[str]) -> str:
     """An arrival: any body under any number, or as often the one whose turn it is; or one of those
     that came, under the same number or another one; or another body under its number."""
     number = f'n{chance.below(7) + 1}'
@@ -215,7 +221,8 @@ def draw_arrival(chance, bodies, events):
     return f'comes {number} {body}'
 
 
-def draw_event(chance, bodies, rows, history, closes):
+def draw_event(chance: Chance, bodies: Sequence[Body], rows: Sequence[Row], history: History,
+               closes: bool) -> str:
     """An event that comes after others. An amendment lists some of the rows, each once."""
     case = chance.below(16)
     if case == 0 and closes:
@@ -230,7 +237,7 @@ def draw_event(chance, bodies, rows, history, closes):
     return draw_arrival(chance, bodies, history.early + history.events)
 
 
-def draw_history(chance, count, closes):
+def draw_history(chance: Chance, count: int, closes: bool) -> History:
     """A history with so many events, and whether the store is closed now and then."""
     bodies, rows = drawn(chance)
     history = History(bodies, [draw_first(chance, rows)])

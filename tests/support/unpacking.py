@@ -8,13 +8,18 @@ import os
 import runpy
 import tempfile
 import unittest
+from collections.abc import Iterable
+from collections.abc import Mapping
+from collections.abc import Sequence
 
 from tests.support import TOP
 from tests.support.bundles import HEADING
 from tests.support.bundles import sealed
 from tests.support.documents import URIS
+from tests.support.documents import Cells
 from tests.support.documents import csv_text
 from tests.support.documents import element
+from tests.support.escrow import DescribedTable
 from tests.support.escrow import description_in
 from tests.support.escrow import folders_in
 from tests.support.escrow import rows_in
@@ -36,7 +41,8 @@ MENU = element('rde:rdeMenu',
 WATERMARK = element('rde:watermark', '2024-03-03T00:00:00Z')
 
 
-def deposit(contents='', deletes='', watermark=WATERMARK, menu=MENU, header=HEADER):
+def deposit(contents: str = '', deletes: str = '', watermark: str = WATERMARK, menu: str = MENU,
+            header: Mapping[str, str] = HEADER) -> bytes:
     """A document with each section on a line of its own: the watermark on line 2, the menu on 3,
     the deletes on 4, the contents on 5."""
     sections = element('rde:deletes', within=deletes), element('rde:contents', within=contents)
@@ -45,36 +51,37 @@ def deposit(contents='', deletes='', watermark=WATERMARK, menu=MENU, header=HEAD
             element('rde:deposit', within=within, **header, **SPACES)).encode()
 
 
-def registrar(more='', id='R1'):
+def registrar(more: str = '', id: str = 'R1') -> str:
     return element(
         'rdeRegistrar:registrar',
         within=element('rdeRegistrar:id', id) + element('rdeRegistrar:name', 'One') + more)
 
 
-def domain(name, more=''):
+def domain(name: str, more: str = '') -> str:
     return element('rdeDomain:domain', within=element('rdeDomain:name', name) + more)
 
 
-def counted(number, kind='Domain', **more):
+def counted(number: str, kind: str = 'Domain', **more: str) -> str:
     return element('rdeHeader:header', within=element('rdeHeader:count', number,
                                                       uri=URIS[f'rde{kind}'], **more))
 
 
-def csv_definition(name, fields, *files, **more):
+def csv_definition(name: str, fields: Iterable[str], *files: str, **more: str) -> str:
     within = element('rdeCsv:fields', within=''.join(f'<{it}/>' for it in fields))
     return element('rdeCsv:csv', within=within + element('rdeCsv:files', within=''.join(files)),
                    name=name, **more)
 
 
-def file_of(name, **more):
+def file_of(name: str, **more: str) -> str:
     return element('rdeCsv:file', name, **more)
 
 
-def in_files(prefix, *definitions, word='contents'):
+def in_files(prefix: str, *definitions: str, word: str = 'contents') -> str:
     return element(f'{prefix}:{word}', within=''.join(definitions))
 
 
-def idns(file=file_of('i.csv'), fields=('rdeCsv:fIdnTableId', 'rdeCsv:fUrl'), **more):
+def idns(file: str = file_of('i.csv'),
+         fields: Iterable[str] = ('rdeCsv:fIdnTableId', 'rdeCsv:fUrl'), **more: str) -> str:
     """The contents of a deposit with one definition, of a file of two fields."""
     return in_files('csvIDN', csv_definition('idnLanguage', fields, file, **more))
 
@@ -90,14 +97,17 @@ class Unpacked:
     """What the program does with a document and the files beside it, in a folder of its own."""
     source = 'd.xml'
 
-    def __init__(self, folder, text, files=None, words=()):
+    def __init__(self, folder: str, text: bytes, files: Mapping[str, bytes] | None = None,
+                 words: Sequence[str] = ()) -> None:
         self.folder, self.out = folder, os.path.join(folder, 'out')
-        self.status, self.lines, self.printed = None, [], ''
+        self.status: int | str | None = None
+        self.lines: list[str] = []
+        self.printed = ''
         for name, data in {'d.xml': text, **(files or {})}.items():
             write(os.path.join(folder, name), data)
         self.run(words)
 
-    def run(self, words):
+    def run(self, words: Sequence[str]) -> None:
         before, out, err = os.getcwd(), io.StringIO(), io.StringIO()
         os.chdir(self.folder)
         try:
@@ -109,7 +119,7 @@ class Unpacked:
             os.chdir(before)
         self.lines, self.printed = err.getvalue().splitlines(), out.getvalue()
 
-    def bundles(self):
+    def bundles(self) -> list[bytes]:
         """The bundles of what was written."""
         return [bundle_in(it) for it in folders_in(self.out)]
 
@@ -118,32 +128,34 @@ class Described(Unpacked):
     """The same with files and their description, a value or its text, in the folder `files`."""
     source = 'files'
 
-    def __init__(self, folder, description, files, words=()):
+    def __init__(self, folder: str, description: object, files: Mapping[str, bytes],
+                 words: Sequence[str] = ()) -> None:
         text = description if isinstance(description, bytes) else json.dumps(description).encode()
         super().__init__(folder, b'', {f'files/{name}': data
                                        for name, data in {**files, 'envelope.json': text}.items()},
                          ['--described', *words])
 
-    def given(self):
+    def given(self) -> bytes:
         """The bundle that one may make of them by the words of docs/PACK.md, however large."""
         folder = os.path.join(self.folder, 'files')
         described = description_in(folder)
-        tables = [it for word in ('contents', 'deletes') for it in described.get(word, [])]
+        tables = [*described.get('contents', []), *described.get('deletes', [])]
         return sealed(read(os.path.join(folder, 'envelope.json')),
                       [(it['file'], given_rows(folder, it)) for it in tables])
 
 
-def given_rows(folder, table):
+def given_rows(folder: str, table: DescribedTable) -> bytes:
     """The rows of the files of a table, without headings."""
     names, has_heading = table.get('from', [table['file']]), table.get('heading', False)
     rows = [row for it in names for row in records(read(os.path.join(folder, it)))[has_heading:]]
     return csv_text([[cell.decode() for cell in row] for row in rows], ',')
 
 
-def bundle_in(folder):
+def bundle_in(folder: str) -> bytes:
     """The bundle of a folder for `pack bundle`: its description, and the rows of each table without
     their heading."""
-    tables = [table for word in ('contents', 'deletes') for table in description_in(folder)[word]]
+    described = description_in(folder)
+    tables = [*described['contents'], *described['deletes']]
     files = [(table['file'],
               b''.join(read(os.path.join(folder, it)).split(b'\n', 1)[1]
                        for it in table['from']))
@@ -151,7 +163,7 @@ def bundle_in(folder):
     return sealed(read(os.path.join(folder, 'envelope.json')), files)
 
 
-def row_of(bundle):
+def row_of(bundle: bytes) -> str:
     """The row of a manifest that lists a bundle."""
     told = envelope_in(bundle)
     front = [
@@ -161,7 +173,7 @@ def row_of(bundle):
     return ','.join([*front, hashlib.sha256(bundle).hexdigest()]) + '\n'
 
 
-def desk(listed, arrived=None):
+def desk(listed: Sequence[bytes], arrived: Sequence[bytes] | None = None) -> Desk:
     """A desk that lists bundles, and to which these came, in their order; all of them if none are
     named."""
     manifest = HEADING + ''.join(map(row_of, listed))
@@ -170,18 +182,20 @@ def desk(listed, arrived=None):
 
 
 class Case(unittest.TestCase):
-    def unpacked(self, *given, **more):
+    def unpacked(self, text: bytes, files: Mapping[str, bytes] | None = None,
+                 words: Sequence[str] = ()) -> Unpacked:
         folder = tempfile.TemporaryDirectory(prefix='case-')
         self.addCleanup(folder.cleanup)
-        return Unpacked(folder.name, *given, **more)
+        return Unpacked(folder.name, text, files, words)
 
-    def written(self, *given, **more):
+    def written(self, text: bytes, files: Mapping[str, bytes] | None = None,
+                words: Sequence[str] = ()) -> Unpacked:
         """What is unpacked of a deposit that is taken, and says nothing."""
-        found = self.unpacked(*given, **more)
+        found = self.unpacked(text, files, words)
         self.assertEqual((found.status, found.lines), (0, []))
         return found
 
-    def rows(self, found, table):
+    def rows(self, found: Unpacked, table: str) -> list[Cells]:
         """The rows of a table, each with the cells that aren't empty."""
         declared = [it for it in description_in(found.out)['contents'] if it['name'] == table]
         return [{name: value

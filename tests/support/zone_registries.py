@@ -2,6 +2,7 @@
 what a zone leaves out, tells or takes from elsewhere."""
 import random
 from collections.abc import Sequence
+from typing import TypeVar
 
 from tests.support.tables import Row
 from tests.support.zone_rows import OUT1
@@ -15,6 +16,7 @@ from tests.support.zone_rows import host
 from tests.support.zone_rows import key
 from tests.support.zone_rows import mirrored
 
+It = TypeVar('It')
 OUTSIDE = (OUT1, OUT2, 'NS3.Provider.NET', 'dns.other.org.', 'a.b.c.test')
 ODD_LABELS = ('_srv{}', '*', '-a{}', 'a{}-', 'a..b{}', '$ttl{}', '@', 'a;b{}', 'bücher{}', 'A{}')
 ODD_SERVERS = ('ns_1.b.net', '192.0.2.1', 'bücher.net', '*.b.net', 'a..net')
@@ -40,7 +42,7 @@ class Maker:
     def chance(self, share: float) -> bool:
         return self.random.random() < share
 
-    def pick(self, of: Sequence) -> object:
+    def pick(self, of: Sequence[It]) -> It:
         return self.random.choice(of)
 
     def add(self, rows: list[Row]) -> None:

@@ -2,6 +2,7 @@
 import pathlib
 import re
 import unittest
+from collections.abc import Iterator
 
 from tests.support.crates import listed
 
@@ -33,7 +34,7 @@ CRATE = re.compile(r'\b(?:esc_\w+|(?:core|desk|store)_(?:tests|lines|harness))\b
 FILE = re.compile(r'`((?:crates|tests|trials|bench|samples|packaging|docs)/[a-z0-9_./-]+)')
 
 
-def prose(text):
+def prose(text: str) -> list[str]:
     """The lines of a document, those of fenced code left empty."""
     fence, lines = None, []
     for line in text.splitlines():
@@ -46,10 +47,10 @@ def prose(text):
     return lines
 
 
-def anchors(text):
+def anchors(text: str) -> set[str]:
     """The anchors of a document's headings, as GitHub makes them: in lower case, without
     punctuation, dashes for spaces, and a number after one that was there before."""
-    found = {}
+    found: dict[str, int] = {}
     for heading in filter(None, map(HEADING.match, prose(text))):
         title = re.sub(r'\[([^\]]*)\]\([^)]*\)', r'\1', heading[1])
         name = re.sub(r'[^\w\- ]', '', title.lower()).replace(' ', '-')
@@ -59,7 +60,7 @@ def anchors(text):
     return set(found)
 
 
-def links(text):
+def links(text: str) -> Iterator[tuple[int, str]]:
     """The targets of a document's links to other files and to headings, each with its line."""
     text = CODE_SPAN.sub(lambda span: re.sub(r'[^\n]', ' ', span[0]), '\n'.join(prose(text)))
     for found in LINK.finditer(text):
@@ -68,7 +69,7 @@ def links(text):
             yield text.count('\n', 0, found.end()) + 1, target
 
 
-def fault_of(document, target):
+def fault_of(document: pathlib.Path, target: str) -> str | None:
     """What is wrong with a link of a document, or None."""
     path, _, anchor = target.partition('#')
     file = (document.parent / path).resolve() if path else document
@@ -82,21 +83,21 @@ def fault_of(document, target):
 class Documents(unittest.TestCase):
     maxDiff = None
 
-    def test_links_lead_somewhere(self):
+    def test_links_lead_somewhere(self) -> None:
         self.assertEqual([], [
             f'{document.name}:{number}: {target}: {fault}' for document in DOCUMENTS
             for number, target in links(document.read_text('utf-8'))
             if (fault := fault_of(document, target))
         ])
 
-    def test_readme_fits(self):
+    def test_readme_fits(self) -> None:
         lines = prose((TOP / 'README.md').read_text('utf-8'))
         self.assertEqual([], [
             f'{number}: {len(line)} columns' for number, line in enumerate(lines, 1)
             if not line.startswith('|') and len(line) > MOST_COLUMNS
         ])
 
-    def test_each_code_has_its_place(self):
+    def test_each_code_has_its_place(self) -> None:
         operating = (TOP / 'docs/OPERATING.md').read_text('utf-8').splitlines()
         formats = (TOP / 'docs/FORMATS.md').read_text('utf-8').splitlines()
         for letter, most in CODES.items():
@@ -106,19 +107,19 @@ class Documents(unittest.TestCase):
                     self.assertEqual(sum(it.startswith(f'| {code} |') for it in formats),
                                      int(letter in LISTED), code)
 
-    def test_crates_are_there(self):
+    def test_crates_are_there(self) -> None:
         named = {(it.name, crate)
                  for it in DOCUMENTS for crate in CRATE.findall(it.read_text('utf-8'))}
         self.assertEqual({it for it in named if it[1] not in listed()}, set())
 
-    def test_files_are_there(self):
+    def test_files_are_there(self) -> None:
         named = {(it.name, file)
                  for it in DOCUMENTS for file in FILE.findall(it.read_text('utf-8'))}
         self.assertEqual({it
                           for it in named if '/out' not in it[1] and not (TOP / it[1]).exists()},
                          set())
 
-    def test_words(self):
+    def test_words(self) -> None:
         counts = {
             it.name: len(WORD.findall('\n'.join(prose(it.read_text('utf-8')))))
             for it in DOCUMENTS
@@ -136,14 +137,14 @@ class Reading(unittest.TestCase):
         '`words`](<c.md>) and [out](https://example.org).', '[word]: d.md'
     ])
 
-    def test_anchors(self):
+    def test_anchors(self) -> None:
         self.assertEqual(anchors(self.TEXT), {'what-to-do-when', 's1-and-s2', 'twice', 'twice-1'})
 
-    def test_links(self):
+    def test_links(self) -> None:
         self.assertEqual(list(links(self.TEXT)), [(2, '#a'), (9, 'a.md#b'), (10, 'c.md'),
                                                   (11, 'd.md')])
 
-    def test_faults(self):
+    def test_faults(self) -> None:
         readme = TOP / 'README.md'
         self.assertIsNone(fault_of(readme, 'docs'))
         self.assertEqual(fault_of(readme, 'docs/no-such-page.md'), 'there is no such file')

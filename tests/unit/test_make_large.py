@@ -32,7 +32,7 @@ def filled(record: bytes) -> list:
 
 
 class Thick(unittest.TestCase):
-    def test_its_bundles_and_its_document_have_the_same_objects(self):
+    def test_its_bundles_and_its_document_have_the_same_objects(self) -> None:
         with tempfile.TemporaryDirectory() as folder:
             out = made(folder, '--domains', '150')
             bodies = [read(f'{out}/deposits/{it}') for it in sorted(os.listdir(f'{out}/deposits'))]
@@ -53,7 +53,7 @@ class Thick(unittest.TestCase):
                   for (kind, key), record in desk.objects.items()}
         self.assertEqual(objects, wanted)
 
-    def test_links_lead_to_objects(self):
+    def test_links_lead_to_objects(self) -> None:
         with tempfile.TemporaryDirectory() as folder:
             (document,) = os.listdir(made(folder, '--domains', '40', '--xml'))
             found = Unpacked(folder, read(f'{folder}/made/{document}'))

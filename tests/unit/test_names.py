@@ -14,7 +14,7 @@ DEFINITION = re.compile(
 
 
 class Names(unittest.TestCase):
-    def test_each_is_defined_once(self):
+    def test_each_is_defined_once(self) -> None:
         places = collections.defaultdict(set)
         for path in pathlib.Path(TOP).glob('crates/*/specs/**/*.antt'):
             for name in DEFINITION.findall(path.read_text()):

@@ -12,19 +12,27 @@ import sys
 import tempfile
 import unittest
 import xml.etree.ElementTree as trees
+from collections.abc import Callable
+from collections.abc import Iterable
+from collections.abc import Mapping
+from collections.abc import Sequence
 from typing import NamedTuple
 
 from tests.support import TOP
 from tests.support.bundles import sealed
 from tests.support.documents import KEYS
 from tests.support.documents import URIS
+from tests.support.documents import Cells
+from tests.support.documents import Object
+from tests.support.escrow import Description
 from tests.support.escrow import description_in
 from tests.support.escrow import some_objects
 from tests.support.files import read
 from tests.support.files import write
-from tests.support.registries import Registry
 from tests.support.registries import TABLES
+from tests.support.registries import Registry
 from tests.support.registries import deposit
+from tests.support.tables import Tables
 from tests.support.tables import in_tables
 from tests.support.tables import quoted_rows
 from tests.support.tables import tables_in
@@ -65,7 +73,7 @@ PARENTS = {'contactStatuses': 'contact', 'contactPostal': 'contact', 'contactTra
                             'domainTransfer', 'domainNotes'), 'domain')}
 
 
-def with_rows(table, *rows, objects=VALID):
+def with_rows(table: str, *rows: Cells, objects: Sequence[Object] = VALID) -> list[Object]:
     """Objects of which one has these rows in a table: in place of its child rows, or of cells of
     its parent row, which an empty text removes."""
     found = copy.deepcopy(list(objects))
@@ -78,7 +86,8 @@ def with_rows(table, *rows, objects=VALID):
     return found
 
 
-def run(main, *words):
+def run(main: Callable[[list[str]], int],
+        *words: object) -> tuple[int | str | None, list[str]]:
     """The status of a program, and its lines on standard error."""
     err = io.StringIO()
     try:
@@ -89,7 +98,7 @@ def run(main, *words):
     return status, err.getvalue().splitlines()
 
 
-def as_named(tables):
+def as_named(tables: Tables) -> Tables:
     """Tables in which the policies of IDN tables have their own name, which the CSV model lacks."""
     for rows in tables.get('idn', {}).values():
         for row in rows:
@@ -102,7 +111,8 @@ class Packed:
     """What the program does with objects that are in a folder of `handover tables`, in a folder of
     its own."""
 
-    def __init__(self, folder, objects, *words, model='xml', order=sorted):
+    def __init__(self, folder: str, objects: Sequence[Object], *words: object, model: str = 'xml',
+                 order: Callable[[Iterable[str]], Iterable[str]] = sorted) -> None:
         self.folder, self.model = folder, model
         self.tables, self.out = os.path.join(folder, 'tables'), os.path.join(folder, 'deposit')
         write_tables(self.tables, objects, order)
@@ -110,10 +120,10 @@ class Packed:
         self.lines = [it for it in lines if model == 'xml' or not it.startswith(RENAMED)]
 
     @property
-    def document(self):
+    def document(self) -> str:
         return self.out if self.model == 'xml' else os.path.join(self.out, 'deposit.xml')
 
-    def back(self):
+    def back(self) -> tuple[Tables, list[str]]:
         """The tables that `unpack_rde` makes of it, and what it tells."""
         out = os.path.join(self.folder, 'back')
         status, lines = run(UNPACK_MAIN, '--strict', self.document, out)
@@ -125,15 +135,16 @@ class Packed:
 class Case(unittest.TestCase):
     maxDiff = None
 
-    def folder(self):
+    def folder(self) -> str:
         folder = tempfile.TemporaryDirectory(prefix='case-')
         self.addCleanup(folder.cleanup)
         return folder.name
 
-    def packed(self, objects=VALID, *words, **more):
-        return Packed(self.folder(), objects, *words, **more)
+    def packed(self, objects: Sequence[Object] = VALID, *words: object, model: str = 'xml',
+               order: Callable[[Iterable[str]], Iterable[str]] = sorted) -> Packed:
+        return Packed(self.folder(), objects, *words, model=model, order=order)
 
-    def check_back(self, found, objects):
+    def check_back(self, found: Packed, objects: Sequence[Object]) -> list[str]:
         """It is written, and read back as these objects; what it says."""
         self.assertEqual(found.status, 0, found.lines)
         self.assertEqual(found.back(), (in_tables(objects), []))
@@ -141,7 +152,7 @@ class Case(unittest.TestCase):
 
 
 class RoundTrips(Case):
-    def test_odd_texts_at_random_come_back_in_both_models(self):
+    def test_odd_texts_at_random_come_back_in_both_models(self) -> None:
         for seed in range(12):
             objects = some_objects(random.Random(seed))
             for model in MODELS:
@@ -152,12 +163,12 @@ class RoundTrips(Case):
                     self.assertEqual([it for it in lines
                                       if not it.startswith(('invalid: ', 'missing: '))], [])
 
-    def test_a_valid_registry_comes_back_without_a_word(self):
+    def test_a_valid_registry_comes_back_without_a_word(self) -> None:
         for model in MODELS:
             with self.subTest(model):
                 self.assertEqual(self.check_back(self.packed(model=model), VALID), [])
 
-    def test_rows_in_any_order_give_the_same_deposit(self):
+    def test_rows_in_any_order_give_the_same_deposit(self) -> None:
         objects = some_objects(random.Random(1))
         for model in MODELS:
             with self.subTest(model):
@@ -165,7 +176,7 @@ class RoundTrips(Case):
                                      for it in (sorted, lambda keys: sorted(keys, reverse=True)))
                 self.assertEqual((sorted_one.lines, sorted_one.back()), (other.lines, other.back()))
 
-    def test_no_object_at_all_is_a_deposit(self):
+    def test_no_object_at_all_is_a_deposit(self) -> None:
         for model in MODELS:
             with self.subTest(model):
                 self.assertEqual(self.check_back(self.packed((), model=model), ()), [])
@@ -296,19 +307,20 @@ ODD = (
 
 
 class OddRows(Case):
-    def objects(self, odd, rows):
+    def objects(self, odd: Odd, rows: Sequence[Cells]) -> list[Object]:
         """The valid objects, of which one has these rows. A domain has its servers in one table."""
         objects = with_rows('domainNs') if odd.table == 'domainHostAttr' else VALID
         return with_rows(odd.table, *rows, objects=objects)
 
-    def check(self, odd, model, told, back):
+    def check(self, odd: Odd, model: str, told: Sequence[str],
+              back: Sequence[Cells] | None) -> None:
         found = self.packed(self.objects(odd, odd.rows), model=model)
         objects = self.objects(odd, odd.rows)
         if back is not None:
             objects = with_rows(odd.table, *back, objects=objects)
         self.assertEqual(self.check_back(found, objects), list(told))
 
-    def test_they_come_back_as_they_are_or_it_is_told(self):
+    def test_they_come_back_as_they_are_or_it_is_told(self) -> None:
         for it in ODD:
             with self.subTest(it.title):
                 self.check(it, 'xml', it.told, it.back)
@@ -395,46 +407,46 @@ OF_XML = (
 
 
 class Faults(Case):
-    def check_refused(self, line, *changed, model='xml'):
-        found = self.packed(with_rows(*changed), model=model)
+    def check_refused(self, line: str, table: str, *rows: Cells, model: str = 'xml') -> None:
+        found = self.packed(with_rows(table, *rows), model=model)
         self.assertEqual((found.status, found.lines[:-1]), (1, [line]))
         self.assertRegex(found.lines[-1],
                          f'^pack_rde: {re.escape(found.out)}: 1 faults: it is not written')
         self.assertEqual(os.listdir(found.folder), ['tables'])
 
-    def test_what_is_missing_or_invalid_is_refused_with_its_object(self):
+    def test_what_is_missing_or_invalid_is_refused_with_its_object(self) -> None:
         for line, *changed in OF_BOTH:
             for model in MODELS:
                 with self.subTest(line, model=model):
                     self.check_refused(line, *changed, model=model)
 
-    def test_hosts_of_one_roid_are_refused_where_it_names_them(self):
+    def test_hosts_of_one_roid_are_refused_where_it_names_them(self) -> None:
         objects = [*VALID, with_rows('host', {'name': 'ns2.example'})[3]]
         self.assertEqual(self.check_back(self.packed(objects), objects), [])
         found = self.packed(objects, model='csv')
         self.assertEqual((found.status, found.lines[0]),
                          (1, "invalid: host.roid of ns2.example: 'H1-EX' of another"))
 
-    def test_what_has_no_room_in_xml_is_refused_there_alone(self):
+    def test_what_has_no_room_in_xml_is_refused_there_alone(self) -> None:
         for line, *changed in OF_XML:
             with self.subTest(line):
                 self.check_refused(line, *changed)
                 objects = with_rows(*changed)
                 self.assertEqual(self.check_back(self.packed(objects, model='csv'), objects), [])
 
-    def test_it_is_written_anyway_where_that_is_asked(self):
+    def test_it_is_written_anyway_where_that_is_asked(self) -> None:
         objects = with_rows('domain', {'clID': ''})
         lines = self.check_back(self.packed(objects, '--anyway'), objects)
         self.assertEqual(lines, ['missing: domain.clID of a.example'])
 
-    def test_of_many_objects_with_a_fault_some_are_named(self):
+    def test_of_many_objects_with_a_fault_some_are_named(self) -> None:
         objects = [[('nndn', {'aName': f'n{it:02}.example'})] for it in range(25)]
         lines = self.packed(objects).lines
         self.assertEqual(lines[:-1], sorted([*(f'missing: nndn.nameState of n{it:02}.example'
                                                for it in range(10)),
                                              'missing: nndn.nameState of 15 more']))
 
-    def test_a_key_with_control_characters_is_told_in_one_line(self):
+    def test_a_key_with_control_characters_is_told_in_one_line(self) -> None:
         objects = [[('nndn', {'aName': 'n\n\x1b.example', 'nameState': 'blocked'})]]
         self.assertEqual(self.packed(objects).lines[0],
                          "invalid: nndn.aName of 'n\\n\\x1b.example': U+001B, "
@@ -458,7 +470,7 @@ FILLED = (
 
 
 class Fillings(Case):
-    def test_what_is_filled_is_told_and_comes_back(self):
+    def test_what_is_filled_is_told_and_comes_back(self) -> None:
         for words, told, table, lacking, filled_table, filled in FILLED:
             with self.subTest(words, table=table):
                 found = self.packed(with_rows(table, *lacking), *words)
@@ -471,7 +483,7 @@ class Fillings(Case):
                 else:
                     self.assertEqual(back[filled_table], rows)
 
-    def test_it_is_filled_in_files_too(self):
+    def test_it_is_filled_in_files_too(self) -> None:
         lacking = with_rows('hostStatuses', objects=with_rows('host', {'roid': ''}))
         found = self.packed(lacking, '--roid', 'EX', '--status', model='csv')
         self.assertEqual((found.status, found.lines),
@@ -481,24 +493,24 @@ class Fillings(Case):
                          {'ns1.example': [{'name': 'ns1.example', 'status': 'ok'}]})
         self.assertEqual(back['hostAddresses'], in_tables(VALID)['hostAddresses'])
 
-    def test_a_domain_without_servers_is_inactive(self):
+    def test_a_domain_without_servers_is_inactive(self) -> None:
         lacking = with_rows('domainStatuses', objects=with_rows('domainNs'))
         found = self.packed(lacking, '--status')
         self.assertEqual(found.lines, ['filled: domainStatuses.status with inactive 1'])
 
-    def test_roids_are_the_same_each_time_and_differ_by_kind_and_key(self):
+    def test_roids_are_the_same_each_time_and_differ_by_kind_and_key(self) -> None:
         objects = [[('host', {'name': it, **HISTORY}), ('hostStatuses', {'status': 'ok'})]
                    for it in ('a', 'b')]
         first, second = (self.packed(objects, '--roid', 'EX').back()[0]['host'] for _ in range(2))
         self.assertEqual(first, second)
         self.assertNotEqual(*(its[0]['roid'] for its in first.values()))
 
-    def test_nothing_is_filled_where_it_is_there(self):
+    def test_nothing_is_filled_where_it_is_there(self) -> None:
         words = ('--roid', 'EX', '--status', '--idn-policy', 'https://a.example/')
         self.assertEqual(self.check_back(self.packed(VALID, *words), VALID), [])
 
 
-def tag(prefix, name):
+def tag(prefix: str, name: str) -> str:
     return f'{{{URIS[prefix]}}}{name}'
 
 
@@ -512,12 +524,13 @@ REST = f'''<?xml version="1.0" encoding="UTF-8"?>
 
 
 class Documents(Case):
-    def tree(self, *words, model='xml', objects=VALID):
+    def tree(self, *words: object, model: str = 'xml',
+             objects: Sequence[Object] = VALID) -> trees.Element:
         found = self.packed(objects, *words, model=model)
         self.assertEqual((found.status, found.lines), (0, []))
         return trees.parse(found.document).getroot()
 
-    def test_the_header_counts_the_objects_of_all_kinds(self):
+    def test_the_header_counts_the_objects_of_all_kinds(self) -> None:
         for model, front in (('xml', 'rde'), ('csv', 'csv')):
             with self.subTest(model):
                 root = self.tree(model=model)
@@ -530,7 +543,7 @@ class Documents(Case):
                 self.assertEqual(menu, [URIS[it]
                                         for it in ('rdeHeader', *(f'{front}{it}' for it in kinds))])
 
-    def test_the_deposit_says_what_it_is(self):
+    def test_the_deposit_says_what_it_is(self) -> None:
         root = self.tree('--resend', '2')
         self.assertEqual((root.tag, root.attrib),
                          (tag('rde', 'deposit'), {'type': 'FULL', 'id': ID, 'resend': '2'}))
@@ -539,7 +552,7 @@ class Documents(Case):
         self.assertEqual(root[0].text, WATERMARK)
         self.assertNotIn('resend', self.tree().attrib)
 
-    def test_what_unpack_rde_knows_of_it_is_what_was_said(self):
+    def test_what_unpack_rde_knows_of_it_is_what_was_said(self) -> None:
         for model in MODELS:
             with self.subTest(model):
                 found = self.packed(VALID, '--resend', '7', model=model)
@@ -551,12 +564,12 @@ class Documents(Case):
                                   'tld': 'example',
                                   'counts': dict.fromkeys(KINDS, 1)})
 
-    def test_what_is_referred_to_comes_first(self):
+    def test_what_is_referred_to_comes_first(self) -> None:
         order = [it.tag.partition('}')[2] for it in self.tree()[2]]
         self.assertEqual(order, ['header', 'registrar', 'idnTableRef', 'contact', 'host', 'domain',
                                  'NNDN'])
 
-    def test_objects_of_a_file_are_written_again_and_counted(self):
+    def test_objects_of_a_file_are_written_again_and_counted(self) -> None:
         rest = os.path.join(self.folder(), 'rest.xml')
         write(rest, REST.encode())
         wanted = [trees.canonicalize(trees.tostring(it), rewrite_prefixes=True)
@@ -573,7 +586,7 @@ class Documents(Case):
                 self.assertEqual([it.text for it in root.iter(tag('rde', 'objURI'))][-3:],
                                  [EPP, POLICY, 'urn:own'])
 
-    def test_files_have_their_checksums_and_fields(self):
+    def test_files_have_their_checksums_and_fields(self) -> None:
         found = self.packed(model='csv')
         text = read(found.document).decode()
         self.assertIn('<rdeCsv:fields><rdeCsv:fRoid parent="true"/><csvHost:fAddr/>'
@@ -582,7 +595,7 @@ class Documents(Case):
         self.assertEqual(read(os.path.join(found.out, 'hostAddresses-20240304.csv')),
                          b'H1-EX,192.0.2.1,v4\n')
 
-    def test_a_field_that_a_row_lacks_is_not_mandatory(self):
+    def test_a_field_that_a_row_lacks_is_not_mandatory(self) -> None:
         objects = [*VALID, [('registrar', {'id': 'RAR-2', 'name': 'Two'})]]
         text = read(self.packed(objects, model='csv').document).decode()
         self.assertIn('<csvRegistrar:fId/><csvRegistrar:fName/>'
@@ -613,7 +626,7 @@ RESTS = (
 
 
 class Words(Case):
-    def test_other_files_of_objects_are_refused(self):
+    def test_other_files_of_objects_are_refused(self) -> None:
         for text, words in RESTS:
             with self.subTest(text):
                 folder = self.folder()
@@ -623,7 +636,7 @@ class Words(Case):
                 self.assertIn(words, found.lines[-1])
                 self.assertEqual(sorted(os.listdir(folder)), ['rest.xml', 'tables'])
 
-    def test_other_words_are_told_the_usage(self):
+    def test_other_words_are_told_the_usage(self) -> None:
         for words in (('--id', 'F-1'), ('--id', 'F' * 14), ('--watermark', '2024-03-04'),
                       ('--watermark', '2024-03-04T00:00:00+00:00'),
                       ('--tld', ''), ('--resend', '65536'), ('--resend', '-1'), ('--roid', 'E-X'),
@@ -633,7 +646,7 @@ class Words(Case):
                 found = self.packed(VALID, *words)
                 self.assertEqual((found.status, os.listdir(found.folder)), (2, ['tables']))
 
-    def test_what_the_tables_do_not_say_has_to_be_said(self):
+    def test_what_the_tables_do_not_say_has_to_be_said(self) -> None:
         folder = self.folder()
         write_tables(f'{folder}/tables', VALID)
         for at in (0, 2, 4):
@@ -643,7 +656,7 @@ class Words(Case):
                              (2, f'pack_rde: error: {WORDS[at]} is needed: the tables '
                                                  'do not have it'))
 
-    def test_nothing_is_written_over(self):
+    def test_nothing_is_written_over(self) -> None:
         for taken in ('deposit', 'deposit.part'):
             for model in MODELS:
                 with self.subTest(taken, model=model):
@@ -654,7 +667,7 @@ class Words(Case):
                                      (3, b'mine'))
                     self.assertEqual(sorted(os.listdir(folder)), sorted([taken, 'tables']))
 
-    def test_what_cannot_be_read_or_written_stops_it(self):
+    def test_what_cannot_be_read_or_written_stops_it(self) -> None:
         folder = self.folder()
         write_tables(f'{folder}/tables', VALID)
         for words in ((f'{folder}/none', f'{folder}/out'),
@@ -664,7 +677,7 @@ class Words(Case):
                 status, lines = run(MAIN, *WORDS, *words)
                 self.assertEqual((status, len(lines), os.listdir(folder)), (3, 1, ['tables']))
 
-    def test_other_folders_are_refused(self):
+    def test_other_folders_are_refused(self) -> None:
         heading, row = 'key,id,name\n', 'RAR-1,RAR-1,One\n'
         for name, text, words in (
                 ('envelope.json', '{}', 'it is no folder of handover tables'),
@@ -683,7 +696,7 @@ class Words(Case):
                 self.assertEqual((status, os.listdir(folder)), (1, ['tables']))
                 self.assertIn(words, lines[-1])
 
-    def test_rows_without_their_object_are_told(self):
+    def test_rows_without_their_object_are_told(self) -> None:
         folder = self.folder()
         write_tables(f'{folder}/tables', VALID)
         for at, key in enumerate(('0.example', 'z.example')):
@@ -695,7 +708,7 @@ class Words(Case):
             self.assertEqual((status, lines),
                              (0, [f'orphan: rows of domainNs of no domain {at + 1}']))
 
-    def test_credentials_are_left_out(self):
+    def test_credentials_are_left_out(self) -> None:
         objects = with_rows('domain', {'authInfo': 'x', 'custom.password': 'y'})
         for model in MODELS:
             with self.subTest(model):
@@ -703,7 +716,7 @@ class Words(Case):
                 self.assertEqual(found.back()[0], in_tables(VALID))
                 self.assertEqual(len(found.lines), 2)
 
-    def test_lines_of_an_operator_are_written_as_they_are_read(self):
+    def test_lines_of_an_operator_are_written_as_they_are_read(self) -> None:
         own = ('what,name,becomes,section\nnamespace,own,urn:x,mine\n'
                'cell,rdeDomain:domain/own:colour,domain.colour,mine\n'
                'field,domain/own:fColour,colour,mine\n')
@@ -721,7 +734,7 @@ class Words(Case):
                 self.assertEqual(as_named(tables_in(os.path.join(folder, 'back'))),
                                  in_tables(objects))
 
-    def test_it_says_how_far_it_is_and_has_an_example(self):
+    def test_it_says_how_far_it_is_and_has_an_example(self) -> None:
         self.assertEqual(self.packed(VALID, '--progress').status, 0)
         out = io.StringIO()
         with contextlib.redirect_stdout(out), self.assertRaises(SystemExit):
@@ -729,7 +742,8 @@ class Words(Case):
         self.assertIn('Example:', out.getvalue())
 
 
-def bundle(header, objects=(), deletes=None):
+def bundle(header: Mapping[str, str], objects: Sequence[Object] = (),
+           deletes: Mapping[str, Sequence[str]] | None = None) -> bytes:
     """The bundle of a deposit of objects, with the rows in the order of the objects."""
     declared, files = [], []
     for table, its in in_tables(objects).items():
@@ -754,13 +768,14 @@ def bundle(header, objects=(), deletes=None):
 FULL = {'id': 'F1', 'type': 'FULL', 'watermark': WATERMARK}
 
 
-def following(number, previous):
+def following(number: int, previous: str) -> dict[str, str]:
     return {'id': f'D{number}', 'type': 'DIFF', 'watermark': f'2024-03-04T00:00:00.{number:09}Z',
             'prevId': previous}
 
 
 class Bundles(Case):
-    def packed(self, *bodies, words=(), model='xml'):
+    def packed(self, *bodies: bytes, words: Sequence[str] = (),
+               model: str = 'xml') -> tuple[int, list[str], str]:
         folder = self.folder()
         paths = [os.path.join(folder, f'n{at}') for at in range(len(bodies))]
         for path, body in zip(paths, bodies):
@@ -771,12 +786,12 @@ class Bundles(Case):
         document = self.out if model == 'xml' else os.path.join(self.out, 'deposit.xml')
         return status, lines, document
 
-    def back(self, document):
+    def back(self, document: str) -> tuple[Tables, Description]:
         out = f'{self.out}.back'
         self.assertEqual(run(UNPACK_MAIN, '--strict', document, out), (0, []))
         return as_named(tables_in(out)), description_in(out)
 
-    def test_a_bundle_is_written_as_its_tables(self):
+    def test_a_bundle_is_written_as_its_tables(self) -> None:
         for model in MODELS:
             with self.subTest(model):
                 status, lines, document = self.packed(bundle(FULL, VALID), model=model)
@@ -786,7 +801,7 @@ class Bundles(Case):
                 self.assertEqual((described['id'], described['watermark'], described['tld']),
                                  ('F1', WATERMARK, 'example'))
 
-    def test_random_registries_in_series_are_written_as_their_tables(self):
+    def test_random_registries_in_series_are_written_as_their_tables(self) -> None:
         for seed in range(6):
             maker = random.Random(seed)
             objects = some_objects(maker)
@@ -804,7 +819,7 @@ class Bundles(Case):
                 self.assertEqual(tables, in_tables(objects))
                 self.assertEqual(described['id'], f'D{len(parts) - 1}')
 
-    def test_later_objects_take_the_place_of_earlier_ones_whole(self):
+    def test_later_objects_take_the_place_of_earlier_ones_whole(self) -> None:
         later = with_rows('domain', {'name': 'a.EXAMPLE'}, objects=with_rows('domainNs'))
         gone = {'nndn': ['n.example'], 'host': ['NS1.example'], 'domain': ['a.example']}
         status, lines, document = self.packed(bundle(FULL, VALID, {'contact': ['C1-EX']}),
@@ -812,16 +827,16 @@ class Bundles(Case):
         self.assertEqual((status, lines), (0, []))
         self.assertEqual(self.back(document)[0], in_tables([*VALID[:3], later[4]]))
 
-    def test_the_last_of_two_rows_of_a_key_counts(self):
+    def test_the_last_of_two_rows_of_a_key_counts(self) -> None:
         twice = [VALID[0], [('registrar', {'id': 'RAR-1', 'name': 'Two'})]]
         _, _, document = self.packed(bundle(FULL, twice))
         self.assertEqual(self.back(document)[0]['registrar']['RAR-1'][0]['name'], 'Two')
 
-    def test_rows_without_their_object_are_told(self):
+    def test_rows_without_their_object_are_told(self) -> None:
         body = bundle(FULL, VALID).replace(b'"A.example","ns1', b'"B.example","ns1')
         self.assertEqual(self.packed(body)[:2], (0, ['orphan: rows of domainNs of no domain 1']))
 
-    def test_other_files_are_refused(self):
+    def test_other_files_are_refused(self) -> None:
         whole = bundle(FULL, VALID)
         for words, bodies in (
                 ('its first line is not "escrow-bundle 1"', [b'hello\n']),
@@ -848,14 +863,14 @@ class Bundles(Case):
                 self.assertEqual((status, os.path.exists(self.out)), (1, False), lines)
                 self.assertIn(words, lines[-1])
 
-    def test_the_words_come_before_what_the_bundle_says(self):
+    def test_the_words_come_before_what_the_bundle_says(self) -> None:
         _, _, document = self.packed(bundle({**FULL, 'id': 'F-1'}),
                                      words=['--id', 'F2', '--tld', 'other'])
         described = self.back(document)[1]
         self.assertEqual((described['id'], described['tld'], described['watermark']),
                          ('F2', 'other', WATERMARK))
 
-    def test_a_registry_that_looks_real_needs_no_filling(self):
+    def test_a_registry_that_looks_real_needs_no_filling(self) -> None:
         registry = Registry(7, {'registrar': 5, 'contact': 30, 'host': 20, 'domain': 60, 'idn': 3,
                                 'nndn': 4})
         body = deposit(FULL, registry.rows_of(registry.objects), {}, {})
@@ -878,12 +893,12 @@ class Memory(Case):
                 'subprocess.run(sys.argv[1:], check=True, stdout=subprocess.DEVNULL)\n'
                 'print(resource.getrusage(resource.RUSAGE_CHILDREN).ru_maxrss)')
 
-    def most_memory(self, sources, folder):
+    def most_memory(self, sources: Sequence[str], folder: str) -> int:
         words = [sys.executable, '-c', self.MEASURED, sys.executable, PROGRAM, *WORDS, *sources,
                  f'{folder}/out']
         return int(subprocess.run(words, check=True, capture_output=True, text=True).stdout)
 
-    def of_tables(self, count):
+    def of_tables(self, count: int) -> int:
         with tempfile.TemporaryDirectory() as folder:
             write_tables(f'{folder}/tables', ())
             with open(f'{folder}/tables/registrar.csv', 'w') as file:
@@ -891,7 +906,7 @@ class Memory(Case):
                 file.writelines(f'R-{it:06},R-{it:06},One,{"x" * 1_000}\n' for it in range(count))
             return self.most_memory([f'{folder}/tables'], folder)
 
-    def of_bundles(self, count):
+    def of_bundles(self, count: int) -> int:
         with tempfile.TemporaryDirectory() as folder:
             paths = []
             for at in range(3):
@@ -902,7 +917,7 @@ class Memory(Case):
                                         objects))
             return self.most_memory(paths, folder)
 
-    def test_memory_does_not_grow_with_the_registry(self):
+    def test_memory_does_not_grow_with_the_registry(self) -> None:
         # The larger ones have 25 MB.
         self.assertLess(self.of_tables(25_000) - self.of_tables(100), 4_000)
         self.assertLess(self.of_bundles(8_000) - self.of_bundles(50), 8_000)

@@ -11,8 +11,11 @@ import subprocess
 import sys
 import tempfile
 import unittest
+from collections.abc import Sequence
 
 from tests.support import TOP
+from tests.support.documents import Cells
+from tests.support.documents import Object
 from tests.support.files import read
 from tests.support.files import write
 from tests.support.rdap import Expected
@@ -93,13 +96,13 @@ SECOND_REGISTRAR = {
 }
 
 
-def registered(*events):
+def registered(*events: tuple[str, str]) -> list[dict[str, str]]:
     """The events of an object of HISTORY (RFC 9083 4.5)."""
     created = {'eventAction': 'registration', 'eventDate': '2021-05-01T08:00:00.0Z'}
     return [created, *({'eventAction': action, 'eventDate': date} for action, date in events), LAST]
 
 
-def links(path):
+def links(path: str) -> list[dict[str, str]]:
     return [{'value': f'https://rdap.nic.example/{path}', 'rel': 'self',
              'href': f'https://rdap.nic.example/{path}', 'type': 'application/rdap+json'}]
 
@@ -208,7 +211,8 @@ ANSWERS = {
 }
 
 
-def with_cells(table, cells, objects=REGISTRY, at=0):
+def with_cells(table: str, cells: Cells, objects: Sequence[Object] = REGISTRY,
+               at: int = 0) -> list[Object]:
     """The objects, of which the row of this number in a table has these cells, too."""
     found = copy.deepcopy(list(objects))
     rows = [(its, place) for its in found for place, row in enumerate(its) if row[0] == table]
@@ -217,7 +221,7 @@ def with_cells(table, cells, objects=REGISTRY, at=0):
     return found
 
 
-def run(*words):
+def run(*words: object) -> tuple[int, str, list[str]]:
     """The status of the program, its standard output, and its lines on standard error."""
     out, err = io.StringIO(), io.StringIO()
     try:
@@ -228,7 +232,7 @@ def run(*words):
     return status, out.getvalue(), err.getvalue().splitlines()
 
 
-def files_in(folder):
+def files_in(folder: str) -> dict[str, bytes]:
     """The bytes of all files in a folder, by their names."""
     return {os.path.relpath(os.path.join(top, it), folder): read(os.path.join(top, it))
             for top, _, names in os.walk(folder) for it in names}
@@ -237,47 +241,49 @@ def files_in(folder):
 class Made:
     """What the program makes of objects and a zone, in a folder of its own."""
 
-    def __init__(self, folder, objects=REGISTRY, zone=ZONE, words=()):
+    def __init__(self, folder: str, objects: Sequence[Object] = REGISTRY, zone: str = ZONE,
+                 words: Sequence[str] = ()) -> None:
         self.folder, self.tables, self.zone = folder, f'{folder}/tables', f'{folder}/zone'
         self.out = f'{folder}/answers'
         write_tables(self.tables, objects)
         write(self.zone, zone.encode())
         self.run(*words)
 
-    def run(self, *words):
+    def run(self, *words: str) -> None:
         found = run(*WORDS, *words, self.tables, self.zone, self.out)
         self.status, self.printed, self.lines = found
 
-    def answers(self):
+    def answers(self) -> dict[str, dict[str, object]]:
         return {name: json.loads(text) for name, text in files_in(self.out).items()}
 
 
 class Case(unittest.TestCase):
     maxDiff = None
 
-    def folder(self):
+    def folder(self) -> str:
         folder = tempfile.TemporaryDirectory(prefix='rdap-')
         self.addCleanup(folder.cleanup)
         return folder.name
 
-    def made(self, *given, **more):
-        return Made(self.folder(), *given, **more)
+    def made(self, objects: Sequence[Object] = REGISTRY, zone: str = ZONE,
+             words: Sequence[str] = ()) -> Made:
+        return Made(self.folder(), objects, zone, words)
 
-    def check_files(self, found):
+    def check_files(self, found: Made) -> None:
         """All files are those that SQL finds."""
         answers, wanted = found.answers(), Expected(found.tables, found.zone, BASE, UPDATED).files()
         self.assertEqual(sorted(answers), sorted([*wanted, 'help', '404.json']))
         for name, members in wanted.items():
             self.assertEqual(answers[name], members, name)
 
-    def check_refused(self, found, words, status=1):
+    def check_refused(self, found: Made, words: str, status: int = 1) -> None:
         self.assertEqual((found.status, found.printed), (status, ''), found.lines)
         self.assertIn(words, found.lines[-1])
         self.assertEqual(sorted(os.listdir(found.folder)), ['tables', 'zone'])
 
 
 class Answers(Case):
-    def test_the_answers_by_hand_are_those_of_the_registry_and_there_are_no_others(self):
+    def test_the_answers_by_hand_are_those_of_the_registry_and_there_are_no_others(self) -> None:
         found = self.made()
         self.assertEqual((found.status, found.lines), (0, []))
         self.assertEqual(found.printed, 'domain 3\nnameserver 2\nentity 2\n')
@@ -287,23 +293,23 @@ class Answers(Case):
                 self.assertEqual(answers.get(name), wanted)
         self.assertEqual(sorted(answers), sorted(ANSWERS))
 
-    def test_names_of_a_zone_are_compared_in_small_letters(self):
+    def test_names_of_a_zone_are_compared_in_small_letters(self) -> None:
         zone = ZONE.replace('signed.example. 3600 IN DS', 'Signed.EXAMPLE. 3600 IN DS')
         zone = zone.replace('example. 3600 IN SOA', 'Example. 3600 IN SOA', 1)
         self.assertEqual(self.made(zone=zone).answers()['domain/signed.example'], SIGNED)
 
-    def test_no_text_of_a_contact_is_in_a_file(self):
+    def test_no_text_of_a_contact_is_in_a_file(self) -> None:
         texts = ('C1-EX', 'mail.example', 'Jan', 'Delft', 'client-7', 'client-8', 'court', '555',
                  'desk@', 'Springfield', 'reserved')
         for name, content in files_in(self.made().out).items():
             with self.subTest(name):
                 self.assertEqual([it for it in texts if it in content.decode()], [])
 
-    def test_the_same_input_makes_the_same_bytes(self):
+    def test_the_same_input_makes_the_same_bytes(self) -> None:
         first, second = self.made(), self.made()
         self.assertEqual(files_in(first.out), files_in(second.out))
 
-    def test_a_registry_without_objects_has_help_alone(self):
+    def test_a_registry_without_objects_has_help_alone(self) -> None:
         found = self.made(())
         self.assertEqual((found.status, found.lines), (0, []))
         self.assertEqual(found.printed, 'domain 0\nnameserver 0\nentity 0\n')
@@ -311,7 +317,7 @@ class Answers(Case):
         self.assertEqual(sorted(os.listdir(found.out)),
                          ['404.json', 'domain', 'entity', 'help', 'nameserver'])
 
-    def test_a_slash_at_the_end_of_its_name_changes_nothing(self):
+    def test_a_slash_at_the_end_of_its_name_changes_nothing(self) -> None:
         found = self.made()
         found.out = f'{found.folder}/other/'
         found.run()
@@ -319,12 +325,12 @@ class Answers(Case):
                          (0, files_in(f'{found.folder}/answers')))
         self.assertEqual(sorted(os.listdir(found.folder)), ['answers', 'other', 'tables', 'zone'])
 
-    def test_the_base_may_have_a_path_and_needs_no_slash(self):
+    def test_the_base_may_have_a_path_and_needs_no_slash(self) -> None:
         found = self.made(words=('--base', 'http://a.example:8080/rdap'))
         self.assertEqual(found.answers()['entity/1001']['links'][0]['href'],
                          'http://a.example:8080/rdap/entity/1001')
 
-    def test_notices_are_in_each_answer_with_links_of_that_answer(self):
+    def test_notices_are_in_each_answer_with_links_of_that_answer(self) -> None:
         folder = self.folder()
         terms = {'title': 'Terms', 'description': ['Be kind.', 'Zoë'],
                  'links': [{'rel': 'terms-of-service', 'href': 'https://a.example/terms'}]}
@@ -373,14 +379,14 @@ ODD_NAMES = ('*.example', 'a/b.example', '../x.example', '.htaccess', 'a b.examp
 
 
 class Odd(Case):
-    def test_texts_of_another_form_are_left_out_and_told(self):
+    def test_texts_of_another_form_are_left_out_and_told(self) -> None:
         for table, cells, line in ODD:
             with self.subTest(line):
                 found = self.made(with_cells(table, cells))
                 self.assertEqual((found.status, found.lines), (0, [line]))
                 self.check_files(found)
 
-    def test_names_that_are_none_of_files_are_left_out_and_told(self):
+    def test_names_that_are_none_of_files_are_left_out_and_told(self) -> None:
         for name in ODD_NAMES:
             for table, kind in (('domain', 'domain'), ('host', 'nameserver')):
                 with self.subTest(name, kind=kind):
@@ -394,13 +400,13 @@ class Odd(Case):
                     self.assertEqual(sorted(os.listdir(found.folder)),
                                      ['answers', 'tables', 'zone'])
 
-    def test_a_name_has_at_most_255_bytes(self):
+    def test_a_name_has_at_most_255_bytes(self) -> None:
         for size, names in ((255, 4), (256, 3)):
             found = self.made(with_cells('domain', {'name': 'a' * size}, at=2))
             self.assertEqual(len(os.listdir(f'{found.out}/domain')), names - 1)
             self.assertEqual(found.lines, [f'invalid: name of domain {"a" * size}'] * (size > 255))
 
-    def test_a_registrar_of_an_odd_id_has_no_file_and_its_domains_have_it(self):
+    def test_a_registrar_of_an_odd_id_has_no_file_and_its_domains_have_it(self) -> None:
         objects = with_cells('domain', {'clID': '../R'}, with_cells('registrar', {'id': '../R'},
                                                                     at=1), at=1)
         found = self.made(objects)
@@ -408,7 +414,7 @@ class Odd(Case):
         self.assertEqual(found.answers()['domain/held.example']['entities'],
                          [{**SECOND_REGISTRAR, 'handle': '../R'}])
 
-    def test_registrars_of_one_gurid_go_by_their_ids(self):
+    def test_registrars_of_one_gurid_go_by_their_ids(self) -> None:
         found = self.made(with_cells('registrar', {'gurid': '1001'}, at=1))
         self.assertEqual(found.lines, [f"invalid: registrar.gurid of {it}: '1001' of another"
                                        for it in ('RAR-1', 'RAR-2')])
@@ -419,14 +425,14 @@ class Odd(Case):
             self.assertEqual((answers[f'entity/{it}']['handle'],
                               answers[f'entity/{it}']['publicIds'][0]['identifier']), (it, '1001'))
 
-    def test_a_gurid_that_is_the_id_of_another_is_no_handle(self):
+    def test_a_gurid_that_is_the_id_of_another_is_no_handle(self) -> None:
         objects = with_cells('registrar', {'id': '1001'}, at=1)
         found = self.made(with_cells('domain', {'clID': '1001'}, objects, at=1))
         self.assertEqual(found.lines, ["invalid: registrar.gurid of RAR-1: '1001' of another"])
         self.assertEqual(sorted(it for it in found.answers() if it.startswith('entity')),
                          ['entity/1001', 'entity/RAR-1'])
 
-    def test_rows_without_their_object_are_told(self):
+    def test_rows_without_their_object_are_told(self) -> None:
         found = self.made()
         path = f'{found.tables}/domainStatuses.csv'
         write(path, read(path) + b'z.example,z.example,ok,,\n')
@@ -435,7 +441,7 @@ class Odd(Case):
         self.assertEqual((found.status, found.lines),
                          (0, ['orphan: rows of domainStatuses of no domain 1']))
 
-    def test_a_labels_that_have_no_one_u_label_stay_alone(self):
+    def test_a_labels_that_have_no_one_u_label_stay_alone(self) -> None:
         # A sign that stands for others, ASCII alone, a mark at the front, signs that no text has; a
         # capital, a sign in two pieces, and more bytes than a name of a file has.
         texts = ('bÜcher', 'bu\u0308cher', '漢' * 86)
@@ -449,7 +455,7 @@ class Odd(Case):
 
 
 class Refusals(Case):
-    def refused(self, name, text, words, zone=ZONE):
+    def refused(self, name: str, text: str, words: str, zone: str = ZONE) -> None:
         """A folder of tables of which one file has this text, or is not there, is refused."""
         folder = self.folder()
         found = Made(folder, zone=zone)
@@ -463,7 +469,7 @@ class Refusals(Case):
         found.run()
         self.check_refused(found, words)
 
-    def test_other_tables_are_refused(self):
+    def test_other_tables_are_refused(self) -> None:
         heading, row = 'key,name,roid,clID,crDate,exDate\n', 'a.example,a.example,D,RAR-1,,\n'
         for name, text, words in (
                 ('domain.csv', None, 'it is no folder of handover tables'),
@@ -499,7 +505,7 @@ class Refusals(Case):
             with self.subTest(name, words=words):
                 self.refused(name, text, words)
 
-    def test_a_table_under_another_name_is_refused(self):
+    def test_a_table_under_another_name_is_refused(self) -> None:
         for table, other in (('domainNs', 'domainNameServers'), ('domainStatuses', 'domain_status'),
                              ('domainHostAttr', 'domainNameServersAddresses'),
                              ('hostAddresses', 'HostAddresses'), ('hostStatuses', 'fHostStatuses')):
@@ -513,7 +519,7 @@ class Refusals(Case):
                 else:
                     self.check_refused(found, f'{other} looks like {table}')
 
-    def test_other_zones_are_refused(self):
+    def test_other_zones_are_refused(self) -> None:
         record = 'it is no record of the form NAME. TTL IN TYPE DATA'
         for zone, words in (
                 ('', 'it has no record'),
@@ -533,7 +539,7 @@ class Refusals(Case):
             with self.subTest(zone[-60:], words=words):
                 self.check_refused(self.made(zone=zone), words)
 
-    def test_a_zone_that_is_not_there_stops_it(self):
+    def test_a_zone_that_is_not_there_stops_it(self) -> None:
         for name in ('none', 'tables'):
             found = self.made()
             shutil.rmtree(found.out)
@@ -542,7 +548,7 @@ class Refusals(Case):
             self.assertEqual((found.status, len(found.lines)), (3 if name == 'none' else 1, 1))
             self.assertEqual(sorted(os.listdir(found.folder)), ['tables', 'zone'])
 
-    def test_other_notices_are_refused(self):
+    def test_other_notices_are_refused(self) -> None:
         for text in ('', '{', '3', '[3]', '{}', '{"description":"x"}', '{"description":[]}',
                      '{"description":[3]}', '{"description":["x"],"title":3}',
                      '{"description":["x"],"links":{}}', '{"description":["x"],"links":[{}]}',
@@ -555,7 +561,7 @@ class Refusals(Case):
                 self.check_refused(self.made(words=('--notice', f'{folder}/notice')),
                                    f'{folder}/notice: ')
 
-    def test_nothing_is_written_over(self):
+    def test_nothing_is_written_over(self) -> None:
         for taken in ('answers', 'answers.part'):
             with self.subTest(taken):
                 folder = self.folder()
@@ -565,13 +571,13 @@ class Refusals(Case):
                 self.assertEqual(files_in(f'{folder}/{taken}'), {'mine': b'mine'})
                 self.assertEqual(sorted(os.listdir(folder)), sorted([taken, 'tables', 'zone']))
 
-    def test_a_folder_of_its_place_has_to_be_there(self):
+    def test_a_folder_of_its_place_has_to_be_there(self) -> None:
         found = self.made()
         found.out = f'{found.folder}/none/answers'
         found.run()
         self.assertEqual((found.status, len(found.lines)), (3, 1))
 
-    def test_other_words_are_told_the_usage(self):
+    def test_other_words_are_told_the_usage(self) -> None:
         for words in (('--base', 'rdap.nic.example'), ('--base', 'ftp://a.example/'),
                       ('--base', 'https://a.example/?x'), ('--base', 'https://a b/'),
                       ('--updated', '2024-03-04'), ('--updated', '2024-02-30T00:00:00Z'),
@@ -583,7 +589,7 @@ class Refusals(Case):
         for at in (0, 2):
             self.assertEqual(run(*WORDS[at:at + 2], 'tables', 'zone', 'answers')[0], 2)
 
-    def test_it_says_how_far_it_is_and_has_an_example(self):
+    def test_it_says_how_far_it_is_and_has_an_example(self) -> None:
         self.assertEqual(self.made(words=('--progress',)).status, 0)
         self.assertIn('Example:', run('--help')[1])
 
@@ -597,7 +603,7 @@ class AtRandom(Case):
             'invalid: domainStatuses.rgpStatus of ', 'invalid: hostAddresses.addr of ',
             'invalid: domainHostAttr.addr of ')
 
-    def test_all_files_are_those_that_sql_finds_in_the_tables(self):
+    def test_all_files_are_those_that_sql_finds_in_the_tables(self) -> None:
         for seed in range(10):
             with self.subTest(seed):
                 found = self.made(*some_registry(seed, 60))
@@ -605,7 +611,7 @@ class AtRandom(Case):
                 self.check_files(found)
                 self.assertEqual([it for it in found.lines if not it.startswith(self.TOLD)], [])
 
-    def test_no_text_of_a_contact_is_in_a_file(self):
+    def test_no_text_of_a_contact_is_in_a_file(self) -> None:
         objects, zone = some_registry(1, 60)
         contacts = {text for rows in objects if rows[0][0] == 'contact' for _, cells in rows
                     for name, text in cells.items()
@@ -621,7 +627,7 @@ class Memory(Case):
                 'subprocess.run(sys.argv[1:], check=True, stdout=subprocess.DEVNULL)\n'
                 'print(resource.getrusage(resource.RUSAGE_CHILDREN).ru_maxrss)')
 
-    def most_memory(self, count):
+    def most_memory(self, count: int) -> int:
         folder = self.folder()
         write_tables(f'{folder}/tables', ())
         with open(f'{folder}/tables/domain.csv', 'w') as file, open(f'{folder}/zone', 'w') as zone:
@@ -635,6 +641,6 @@ class Memory(Case):
                  f'{folder}/tables', f'{folder}/zone', f'{folder}/answers']
         return int(subprocess.run(words, check=True, capture_output=True, text=True).stdout)
 
-    def test_memory_does_not_grow_with_the_registry(self):
+    def test_memory_does_not_grow_with_the_registry(self) -> None:
         # The larger one has 8 MB of rows and 4 MB of DS records.
         self.assertLess(self.most_memory(4_000) - self.most_memory(50), 5_500)

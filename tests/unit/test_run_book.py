@@ -37,7 +37,7 @@ $$ no command
 '''
 
 
-def run_page(text):
+def run_page(text: str) -> tuple[tuple[bool, int, int], str]:
     """Whether a page has what is printed, how many of its blocks are run, and how many are for
     hands; and what is told."""
     with tempfile.TemporaryDirectory() as folder, contextlib.redirect_stdout(io.StringIO()) as told:
@@ -47,10 +47,10 @@ def run_page(text):
 
 
 class Pages(unittest.TestCase):
-    def test_blocks_are_run_and_those_for_hands_counted(self):
+    def test_blocks_are_run_and_those_for_hands_counted(self) -> None:
         self.assertEqual(run_page(PAGE)[0], (True, 3, 1))
 
-    def test_another_output_is_told(self):
+    def test_another_output_is_told(self) -> None:
         for text in (PAGE.replace('\ntwo', '\nthree'), PAGE.replace('\n4\n', '\n5\n'),
                      PAGE.replace('touch made', 'touch no/folder'), PAGE.replace('print',
                                                                                  'raise ')):
@@ -59,7 +59,7 @@ class Pages(unittest.TestCase):
                 self.assertEqual(ends[0], False)
                 self.assertIn('something else', told)
 
-    def test_what_stands_for_gpg_makes_no_key_and_copies(self):
+    def test_what_stands_for_gpg_makes_no_key_and_copies(self) -> None:
         with tempfile.TemporaryDirectory() as folder:
             text, sent = pathlib.Path(folder, 'text'), pathlib.Path(folder, 'sent')
             text.write_text('sent\n')

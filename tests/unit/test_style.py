@@ -1,5 +1,5 @@
-"""The style of the Python files, as pyproject.toml has it: columns, imports, and what a linter
-finds; and that functions are short."""
+"""The style of the Python files, as pyproject.toml has it: columns, imports, types, and what a
+linter finds; and that functions are short."""
 import ast
 import functools
 import importlib.util
@@ -17,6 +17,8 @@ FOLDERS = ('packaging', 'samples', 'trials', 'tests', 'bench')
 CONFIGURATION = pathlib.Path(TOP, 'pyproject.toml').read_text('utf-8')
 MOST_COLUMNS = int(re.search(r'^line-length = (\d+)$', CONFIGURATION, re.M)[1])
 MOST_LINES = 40  # of a function
+# The files whose signatures may lack types.
+UNTYPED = ('trials/', 'samples/run_book', 'packaging/package')
 
 
 def is_python(path: pathlib.Path) -> bool:
@@ -48,6 +50,14 @@ def joined_imports(path: str) -> Iterator[int]:
             yield it.lineno
 
 
+def lacks_type(function: ast.FunctionDef) -> bool:
+    """Whether a parameter has no type, but for the object itself, or the result has none."""
+    its = function.args
+    named = [it for it in (*its.posonlyargs, *its.args, *its.kwonlyargs, its.vararg, its.kwarg)
+             if it and it.arg not in ('self', 'cls')]
+    return function.returns is None or any(it.annotation is None for it in named)
+
+
 def linter() -> list[str] | None:
     """The command of a linter, if there is one."""
     if shutil.which('ruff'):
@@ -58,27 +68,32 @@ def linter() -> list[str] | None:
 
 
 class Style(unittest.TestCase):
-    def test_lines_have_their_columns(self):
+    def test_lines_have_their_columns(self) -> None:
         wide = [f'{it}:{number}' for it in files()
                 for number, line in enumerate(text_of(it).split('\n'), 1)
                 if len(line) > MOST_COLUMNS]
         self.assertEqual(wide, [])
 
-    def test_there_is_one_import_a_line(self):
+    def test_there_is_one_import_a_line(self) -> None:
         joined = [f'{it}:{line}' for it in files() for line in joined_imports(it)]
         self.assertEqual(joined, [])
 
-    def test_functions_are_short(self):
+    def test_functions_are_short(self) -> None:
         long = [f'{path}:{it.lineno}' for path in files() for it in nodes_of(path)
                 if isinstance(it, ast.FunctionDef) and it.end_lineno - it.lineno >= MOST_LINES]
         self.assertEqual(long, [])
 
-    def test_no_state_is_global(self):
+    def test_signatures_have_types(self) -> None:
+        untyped = [f'{path}:{it.lineno}' for path in files() if not path.startswith(UNTYPED)
+                   for it in nodes_of(path) if isinstance(it, ast.FunctionDef) and lacks_type(it)]
+        self.assertEqual(untyped, [])
+
+    def test_no_state_is_global(self) -> None:
         found = [f'{path}:{it.lineno}' for path in files() for it in nodes_of(path)
                  if isinstance(it, (ast.Global, ast.Nonlocal))]
         self.assertEqual(found, [])
 
-    def test_a_linter_finds_nothing(self):
+    def test_a_linter_finds_nothing(self) -> None:
         words = linter()
         if words is None:
             print('style: neither ruff nor pyflakes is installed: no linter was run', flush=True)

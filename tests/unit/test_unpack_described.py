@@ -5,10 +5,13 @@ import json
 import os
 import random
 import tempfile
+from collections.abc import Mapping
+from collections.abc import Sequence
 
 from tests.support.described import Files
 from tests.support.escrow import description_in
 from tests.support.escrow import folders_in
+from tests.support.formats import Deposit
 from tests.support.formats import deposit as deposit_in
 from tests.support.formats import key as key_of
 from tests.support.unpacking import Case
@@ -59,11 +62,11 @@ NOT_AS_DESCRIBED = {
 }
 
 
-def of_table(**members):
+def of_table(**members: object) -> dict[str, object]:
     return {**FULL, 'contents': [{**DOMAIN, **members}]}
 
 
-def of_header(**members):
+def of_header(**members: object) -> dict[str, object]:
     return {**FILES, **members}
 
 
@@ -116,26 +119,28 @@ NO_DESCRIPTIONS = (
 )
 
 
-def rows_at_most(number):
+def rows_at_most(number: int) -> list[str]:
     return ['--part-rows', f'{number}']
 
 
 class DescribedFiles(Case):
-    def taken(self, description, files, words=(), status=0):
+    def taken(self, description: object, files: Mapping[str, bytes], words: Sequence[str] = (),
+              status: int = 0) -> Described:
         folder = tempfile.TemporaryDirectory(prefix='case-')
         self.addCleanup(folder.cleanup)
         found = Described(folder.name, description, files, words)
         self.assertEqual(found.status, status, found.lines)
         return found
 
-    def refused(self, wanted, description=None, files=None, words=(), status=1):
+    def refused(self, wanted: str, description: object = None, files: Mapping[str, bytes] = None,
+                words: Sequence[str] = (), status: int = 1) -> None:
         found = self.taken(description or FILES, files or DOMAINS, words, status)
         self.assertIn(wanted, found.lines[-1])
         self.assertEqual(sorted(os.listdir(found.folder)), ['d.xml', 'files'])
 
     # ---- at random
 
-    def test_at_random_the_parts_make_what_one_bundle_makes(self):
+    def test_at_random_the_parts_make_what_one_bundle_makes(self) -> None:
         seen = collections.Counter()
         for seed in range(40):
             chance = random.Random(f'described {seed}')
@@ -146,7 +151,7 @@ class DescribedFiles(Case):
                 seen[self.check_files(chance, base, files)] += 1
         self.assertGreater(min(seen[it] for it in (False, True)), 5)
 
-    def check_files(self, chance, base, files):
+    def check_files(self, chance: random.Random, base: Files, files: Files) -> bool:
         """Compares what the parts of files make with what one bundle does, each on a Full. Whether
         they are a series."""
         before = self.taken(base.description, base.files).given()
@@ -168,7 +173,7 @@ class DescribedFiles(Case):
         self.assertEqual('one bundle takes them' in found.lines[-1], len(parts) == 1)
         return len(parts) > 1
 
-    def check_parts(self, whole, parts, most):
+    def check_parts(self, whole: Deposit, parts: Sequence[Deposit], most: int) -> None:
         """No part has more rows than it may, each row is in one, those of a key are together, and
         none is lost; deletes are before contents, and kinds in their order."""
         self.assertEqual(sum(it.orphans for it in parts), whole.orphans)
@@ -192,7 +197,7 @@ class DescribedFiles(Case):
 
     # ---- what it makes
 
-    def test_the_parts_of_a_deposit(self):
+    def test_the_parts_of_a_deposit(self) -> None:
         given = {
             **FULL, 'resend': 2, 'prevId': '', 'tld': 'example', 'counts': {'domain': 9},
             'notes': ['before 1'], 'contents': [STATUSES, DOMAIN],
@@ -222,14 +227,14 @@ class DescribedFiles(Case):
             'part-001 to part-003'
         ])
 
-    def test_files_that_one_bundle_takes(self):
+    def test_files_that_one_bundle_takes(self) -> None:
         found = self.taken(FILES, DOMAINS)
         command = 'pack bundle --envelope out/envelope.json out BUNDLE'
         self.assertEqual(found.lines, [f'unpack_rde: one bundle takes them: {command}'])
         self.assertEqual(desk(found.bundles()).objects, desk([found.given()]).objects)
         self.assertEqual(len(self.taken(FILES, DOMAINS, ['--series']).bundles()), 2)
 
-    def test_of_several_rows_of_one_key_the_last_counts(self):
+    def test_of_several_rows_of_one_key_the_last_counts(self) -> None:
         files = {**DOMAINS, 'd.csv': b'name,clID\na.example,R1\nb.example,R1\nA.example,R2\n'}
         found = self.taken(FILES, files, rows_at_most(3))
         self.assertEqual(len(found.bundles()), 2)
@@ -238,7 +243,7 @@ class DescribedFiles(Case):
             'of several the desk takes the last 1')
         self.assertEqual(desk(found.bundles()).objects, desk([found.given()]).objects)
 
-    def test_headings_may_have_the_names_of_rfc_9022(self):
+    def test_headings_may_have_the_names_of_rfc_9022(self) -> None:
         for table, fields, heading, is_right in HEADINGS:
             names = fields.split(',')
             given = {**FULL, 'contents': [{**DOMAIN, 'name': table, 'fields': names}]}
@@ -250,7 +255,7 @@ class DescribedFiles(Case):
                 else:
                     self.refused(f'does not begin with the fields of {table}: ', given, files)
 
-    def test_what_is_known_of_earlier_deposits(self):
+    def test_what_is_known_of_earlier_deposits(self) -> None:
         full = self.taken(FILES, DOMAINS, rows_at_most(2))
         on = self.taken({**INCR, 'contents': [DOMAIN]}, DOMAINS, ['--known', full.out])
         told = description_in(on.out)
@@ -262,7 +267,7 @@ class DescribedFiles(Case):
 
     # ---- what is refused
 
-    def test_what_no_bundle_takes_is_refused_by_kind_and_key(self):
+    def test_what_no_bundle_takes_is_refused_by_kind_and_key(self) -> None:
         wanted = 'a.example alone has more rows or bytes than one bundle takes'
         for words in (rows_at_most(1), ['--part-bytes', '20']):
             self.refused(f'files/envelope.json: the domain {wanted}', words=words)
@@ -271,19 +276,19 @@ class DescribedFiles(Case):
         self.refused(f'files/gone.csv:2: the domain {wanted}', deletes, files,
                      ['--part-bytes', '12'])
 
-    def test_files_that_are_not_as_described(self):
+    def test_files_that_are_not_as_described(self) -> None:
         for wanted, text in NOT_AS_DESCRIBED.items():
             with self.subTest(wanted):
                 self.refused(f'd.csv{wanted}', files={**DOMAINS, 'd.csv': text})
 
-    def test_files_that_are_not_there(self):
+    def test_files_that_are_not_there(self) -> None:
         self.refused('the file s.csv is not in', files={'d.csv': DOMAINS['d.csv']})
         for name in ('', '.', '..', '../d.xml', '/etc/passwd', 'a/d.csv'):
             given = {**FULL, 'contents': [{**DOMAIN, 'from': [name]}]}
             with self.subTest(name):
                 self.refused('no name of a file', given)
 
-    def test_links_and_pipes(self):
+    def test_links_and_pipes(self) -> None:
         for target, wanted in (('../d.xml', 'is a link out of'), ('pipe', 'it is no plain file')):
             with self.subTest(target), tempfile.TemporaryDirectory(prefix='case-') as folder:
                 os.mkdir(f'{folder}/files')
@@ -293,12 +298,12 @@ class DescribedFiles(Case):
                 self.assertEqual(found.status, 1)
                 self.assertIn(wanted, found.lines[-1])
 
-    def test_descriptions_of_another_form(self):
+    def test_descriptions_of_another_form(self) -> None:
         for wanted, description in NO_DESCRIPTIONS:
             with self.subTest(wanted, description=f'{description}'[:90]):
                 self.refused(wanted, description)
 
-    def test_usage_and_what_is_unknown(self):
+    def test_usage_and_what_is_unknown(self) -> None:
         self.refused('it has what is unknown, and --strict was given',
                      files={**DOMAINS, 'more.CSV': b''}, words=['--strict'])
         self.refused('--map is for documents', words=['--map', 'names.csv'], status=2)

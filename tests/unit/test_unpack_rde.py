@@ -9,6 +9,9 @@ import subprocess
 import sys
 import tempfile
 import zlib
+from collections.abc import Callable
+from collections.abc import Mapping
+from collections.abc import Sequence
 from xml.etree import ElementTree
 
 from tests.support.documents import URIS
@@ -153,7 +156,7 @@ OF_FILES = {
 
 
 class Refusals(Case):
-    def check(self, cases):
+    def check(self, cases: Mapping[str, tuple[str, str, bytes, Mapping[str, bytes]]]) -> None:
         for name, (place, words, text, files) in cases.items():
             with self.subTest(name):
                 found = self.unpacked(text, files)
@@ -164,31 +167,31 @@ class Refusals(Case):
                 self.assertEqual((found.status, sorted(os.listdir(found.folder))),
                                  (1, sorted({'d.xml', *files})))
 
-    def test_documents_are_refused_with_the_place_and_nothing_is_written(self):
+    def test_documents_are_refused_with_the_place_and_nothing_is_written(self) -> None:
         self.check(OF_DOCUMENTS)
 
-    def test_files_are_refused_with_the_place_and_nothing_is_written(self):
+    def test_files_are_refused_with_the_place_and_nothing_is_written(self) -> None:
         self.check(OF_FILES)
 
-    def test_nothing_is_written_over(self):
+    def test_nothing_is_written_over(self) -> None:
         for taken in ('out', 'out.part'):
             with self.subTest(taken):
                 found = self.unpacked(deposit(), {taken: b'mine'})
                 self.assertEqual((found.status, read(os.path.join(found.folder, taken))),
                                  (3, b'mine'))
 
-    def test_what_cannot_be_read_stops_it(self):
+    def test_what_cannot_be_read_stops_it(self) -> None:
         found = self.unpacked(deposit())
         os.remove(os.path.join(found.folder, 'd.xml'))
         found.run(['--files', 'none'])
         self.assertEqual((found.status, len(found.lines)), (3, 1))
 
-    def test_other_words_are_told_the_usage(self):
+    def test_other_words_are_told_the_usage(self) -> None:
         self.assertEqual(self.unpacked(deposit(), words=['--lenient']).status, 2)
 
 
 class Watermarks(Case):
-    def test_they_are_told_in_utc(self):
+    def test_they_are_told_in_utc(self) -> None:
         for word, wanted in (('2024-03-03T00:00:00Z', '2024-03-03T00:00:00Z'),
                              ('2024-03-03T00:00:00.0Z', '2024-03-03T00:00:00Z'),
                              ('2024-03-03T00:00:00.120Z', '2024-03-03T00:00:00.12Z'),
@@ -199,7 +202,7 @@ class Watermarks(Case):
                 found = self.written(deposit(watermark=element('rde:watermark', word)))
                 self.assertEqual(description_in(found.out)['watermark'], wanted)
 
-    def test_others_are_refused(self):
+    def test_others_are_refused(self) -> None:
         for word, words in (('2024-03-03T00:00:00', 'it has no time zone'),
                             ('2024-03-03', 'no date and time'), ('', 'no date and time'),
                             ('2024-02-30T00:00:00Z', 'day'), ('2024-03-03T24:00:00Z', 'hour'),
@@ -214,7 +217,7 @@ class Watermarks(Case):
 
 
 class Both(Case):
-    def test_objects_at_random_are_written_alike_from_both_models(self):
+    def test_objects_at_random_are_written_alike_from_both_models(self) -> None:
         for seed in range(12):
             objects = some_objects(random.Random(seed))
             deletes = {'domain': ['Gone.example', 'é.example'], 'registrar': ['R"0']
@@ -245,7 +248,7 @@ class Both(Case):
 
 
 class Models(Case):
-    def test_white_space_around_texts_is_left_out_and_what_is_inside_stays(self):
+    def test_white_space_around_texts_is_left_out_and_what_is_inside_stays(self) -> None:
         found = self.written(
             deposit(
                 element(
@@ -253,13 +256,13 @@ class Models(Case):
                     element('rdeRegistrar:name', '\n A "b",\n\r c \n'))))
         self.assertEqual(self.rows(found, 'registrar'), [{'id': 'R1', 'name': 'A "b",\n\r c'}])
 
-    def test_further_prefixes_stand_for_the_same_namespaces(self):
+    def test_further_prefixes_stand_for_the_same_namespaces(self) -> None:
         found = self.written(
             deposit(registrar()).replace(b'rdeRegistrar:',
                                          b'x:').replace(b'xmlns:rdeRegistrar', b'xmlns:x'))
         self.assertEqual(self.rows(found, 'registrar'), [{'id': 'R1', 'name': 'One'}])
 
-    def with_hosts(self):
+    def with_hosts(self) -> Unpacked:
         files = {
             'h.csv': b'ns1.example,H1\nns2.example,H2\n', 'a.csv': b'H2,192.0.2.2,v4\n',
             'n.csv': b'a.example,H1\n', 'd.csv': b'a.example\n'
@@ -271,14 +274,14 @@ class Models(Case):
             csv_definition('domain', ['csvDomain:fName'], file_of('d.csv')))
         return self.written(deposit(domains + in_files('csvHost', ADDRESSES, HOST)), files)
 
-    def test_hosts_of_files_are_named_by_their_roids(self):
+    def test_hosts_of_files_are_named_by_their_roids(self) -> None:
         found = self.with_hosts()
         self.assertEqual(self.rows(found, 'hostAddresses'),
                          [{'name': 'ns2.example', 'addr': '192.0.2.2', 'addrVersion': 'v4'}])
         self.assertEqual(self.rows(found, 'domainNs'),
                          [{'name': 'a.example', 'hostName': 'ns1.example'}])
 
-    def test_hosts_of_earlier_deposits_are_known(self):
+    def test_hosts_of_earlier_deposits_are_known(self) -> None:
         first = self.with_hosts()
         for deletes, files in ((in_files('csvHost', DELETED_HOST, word='deletes'),
                                 {'g.csv': b'H2\n'}), (element('rdeHost:delete',
@@ -291,7 +294,7 @@ class Models(Case):
             self.unpacked(deposit(), words=['--known', 'none']).lines,
             ['unpack_rde: none: it has no envelope.json'])
 
-    def test_registrars_are_named_by_their_gurids(self):
+    def test_registrars_are_named_by_their_gurids(self) -> None:
         domains = csv_definition('domain', ['csvDomain:fName', 'csvRegistrar:fGurid'],
                                  file_of('d.csv'))
         for fields, rows, key in (('csvRegistrar:fId csvRegistrar:fGurid', b'R8,8\n', 'R8'),
@@ -304,7 +307,7 @@ class Models(Case):
                 self.assertEqual(self.rows(found, 'domain'), [{'name': 'a.example', 'clID': key}])
                 self.assertEqual(self.rows(found, 'registrar')[0]['id'], key)
 
-    def test_files_of_one_table_may_have_other_fields(self):
+    def test_files_of_one_table_may_have_other_fields(self) -> None:
         life, ds, key = (['csvDomain:fName parent="true"',
                           'csvDomain:fMaxSigLife'], ['csvDomain:fKeyTag', 'csvDomain:fDigest'],
                          ['csvDomain:fFlags', 'csvDomain:fPubKey'])
@@ -323,7 +326,7 @@ class Models(Case):
             [{'name': 'a.example', 'maxSigLife': '604800', 'keyTag': '30730', 'digest': '91C9'},
              {'name': 'a.example', 'maxSigLife': '604800', 'flags': '257', 'pubKey': 'AwEA'}])
 
-    def test_custom_and_localized_fields_have_names_of_their_own(self):
+    def test_custom_and_localized_fields_have_names_of_their_own(self) -> None:
         fields = [
             'rdeCsv:fIdnTableId', 'rdeCsv:fCustom name="note"', 'csvContact:fCity isLoc="true"',
             'csvContact:fStreet isLoc="false" index="2"'
@@ -333,7 +336,7 @@ class Models(Case):
             self.rows(found, 'idn'),
             [{'idnTableId': 'L1', 'custom.note': 'a', 'loc.city': 'b', 'street.2': 'c'}])
 
-    def test_checksums_are_those_of_the_standard(self):
+    def test_checksums_are_those_of_the_standard(self) -> None:
         # These two are printed in RFC 9022, sections 5.5.2.2.1 and 5.4.2.2.1, of files without an
         # end of line.
         self.assertEqual([f'{zlib.crc32(it):08X}' for it in (b'LANG-2', b'registrarZ')],
@@ -350,7 +353,7 @@ class Models(Case):
                     objects_in(self.written(deposit(deletes=gone), {'g.csv': data}).out),
                     ({}, {'idn': ['LANG-2']}))
 
-    def test_files_are_read_in_their_encoding(self):
+    def test_files_are_read_in_their_encoding(self) -> None:
         for encoding, data in (
             ('ISO-8859-1', 'L1,é\n'.encode('latin-1')),
             ('UTF-16', 'L1,é\n'.encode('utf-16')),
@@ -362,7 +365,7 @@ class Models(Case):
                                      {'i.csv': data})
                 self.assertEqual(self.rows(found, 'idn'), [{'idnTableId': 'L1', 'url': 'é'}])
 
-    def test_files_may_be_in_another_folder(self):
+    def test_files_may_be_in_another_folder(self) -> None:
         found = self.unpacked(deposit(idns()))
         write(os.path.join(found.folder, 'files', 'i.csv'), b'L1,u\n')
         found.run(['--files', 'files'])
@@ -429,7 +432,7 @@ LEFT_OUT = (
 
 
 class Notes(Case):
-    def test_what_is_unknown_is_told_and_refused_where_that_is_asked(self):
+    def test_what_is_unknown_is_told_and_refused_where_that_is_asked(self) -> None:
         for line, text, files in TOLD:
             with self.subTest(line):
                 found = self.unpacked(text, files)
@@ -438,18 +441,18 @@ class Notes(Case):
                 self.assertEqual((strict.status, strict.lines[0], os.path.exists(strict.out)),
                                  (1, line, False))
 
-    def test_what_the_desk_has_no_place_for_is_told(self):
+    def test_what_the_desk_has_no_place_for_is_told(self) -> None:
         for line, text, files in LEFT_OUT:
             with self.subTest(line):
                 found = self.unpacked(text, files, ['--strict'])
                 self.assertEqual((found.status, found.lines), (0, [line]))
 
-    def test_a_field_that_is_not_known_is_carried_under_its_own_name(self):
+    def test_a_field_that_is_not_known_is_carried_under_its_own_name(self) -> None:
         found = self.unpacked(deposit(idns(fields=['rdeCsv:fIdnTableId', 'rdeCsv:fColour'])),
                               {'i.csv': b'L1,red\n'})
         self.assertEqual(self.rows(found, 'idn'), [{'idnTableId': 'L1', 'fColour': 'red'}])
 
-    def test_more_than_a_bundle_takes_is_told(self):
+    def test_more_than_a_bundle_takes_is_told(self) -> None:
         found = self.unpacked(deposit(idns()),
                               {'i.csv': b''.join(b'L%d,u\n' % it for it in range(100_001))})
         self.assertEqual(found.status, 0)
@@ -459,7 +462,7 @@ class Notes(Case):
 class Maps(Case):
     HEAD = 'what,name,becomes,section\n'
 
-    def test_lines_of_an_operator_take_the_place_of_its_own(self):
+    def test_lines_of_an_operator_take_the_place_of_its_own(self) -> None:
         own = (self.HEAD + 'namespace,own,urn:x,mine\n'
                'cell,rdeDomain:domain/own:colour,domain.colour,mine\n'
                'field,idn/rdeCsv:fUrl,address,mine\n')
@@ -469,13 +472,13 @@ class Maps(Case):
         self.assertEqual(self.rows(found, 'domain'), [{'name': 'a.example', 'colour': 'red'}])
         self.assertEqual(self.rows(found, 'idn'), [{'idnTableId': 'L1', 'address': 'u'}])
 
-    def test_a_newer_namespace_can_be_named(self):
+    def test_a_newer_namespace_can_be_named(self) -> None:
         own = self.HEAD + 'namespace,rdeDomain,urn:ietf:params:xml:ns:rdeDomain-1.1,mine\n'
         text = deposit(domain('a.example')).replace(b'rdeDomain-1.0', b'rdeDomain-1.1')
         found = self.written(text, {'own.csv': own.encode()}, ['--map', 'own.csv'])
         self.assertEqual(self.rows(found, 'domain'), [{'name': 'a.example'}])
 
-    def test_other_lines_are_refused(self):
+    def test_other_lines_are_refused(self) -> None:
         for text, words in (('', 'own.csv: the first line is not'),
                             (self.HEAD + 'colour,red,blue,x\n', 'own.csv:2: no line'),
                             (self.HEAD + 'cell,a,b\n', 'own.csv:2: no line'),
@@ -491,7 +494,7 @@ class Memory(Case):
     MEASURED = ('import resource,subprocess,sys;subprocess.run(sys.argv[1:],check=True);'
                 'print(resource.getrusage(resource.RUSAGE_CHILDREN).ru_maxrss)')
 
-    def most_memory(self, count):
+    def most_memory(self, count: int) -> int:
         with tempfile.TemporaryDirectory() as folder:
             text = deposit('@').decode().split('@')
             with open(os.path.join(folder, 'd.xml'), 'w') as file:
@@ -504,12 +507,12 @@ class Memory(Case):
                     [sys.executable, '-c', self.MEASURED, sys.executable, PROGRAM, 'd.xml', 'out'],
                     cwd=folder, check=True, capture_output=True, text=True).stdout.splitlines()[-1])
 
-    def test_memory_does_not_grow_with_the_document(self):
+    def test_memory_does_not_grow_with_the_document(self) -> None:
         # The second document has 30 MB.
         self.assertLess(self.most_memory(25_000) - self.most_memory(100), 6_000)
 
 
-def host(name, roid, *addresses):
+def host(name: str, roid: str, *addresses: str) -> str:
     its = ''.join(element('rdeHost:addr', it, ip='v4') for it in addresses)
     return element('rdeHost:host',
                    within=element('rdeHost:name', name) + element('rdeHost:roid', roid) + its)
@@ -521,14 +524,15 @@ HOSTS = in_files('csvHost', HOST, ADDRESSES)
 class Roids(Case):
     """Hosts that have another name, or the name of another one, under their ROIDs."""
 
-    def first(self):
+    def first(self) -> Unpacked:
         return self.written(deposit(host('ns1.a.test', 'H1') + host('ns2.a.test', 'H2')))
 
-    def changed(self, files, deletes='', known=(), header=DIFF):
+    def changed(self, files: Mapping[str, bytes] | None, deletes: str = '',
+                known: Sequence[Unpacked] = (), header: Mapping[str, str] = DIFF) -> Unpacked:
         words = [word for it in (known or [self.first()]) for word in ('--known', it.out)]
         return self.unpacked(deposit(HOSTS, deletes, header=header), files, words)
 
-    def test_this_deposits_roids_go_before_those_of_earlier_ones(self):
+    def test_this_deposits_roids_go_before_those_of_earlier_ones(self) -> None:
         found = self.changed(
             {'h.csv': b'ns9.a.test,H1\n', 'a.csv': b'H1,192.0.2.9,v4\nH2,192.0.2.2,v4\n'})
         self.assertEqual([it['name'] for it in self.rows(found, 'hostAddresses')],
@@ -536,13 +540,13 @@ class Roids(Case):
         self.assertIn('renamed: host that had another name under its roid in an earlier deposit 1',
                       found.lines)
 
-    def test_a_deleted_roid_is_that_of_the_earlier_name(self):
+    def test_a_deleted_roid_is_that_of_the_earlier_name(self) -> None:
         gone = in_files('csvHost', DELETED_HOST, word='deletes')
         found = self.changed(
             {'h.csv': b'ns9.a.test,H1\n', 'a.csv': b'H1,192.0.2.9,v4\n', 'g.csv': b'H1\n'}, gone)
         self.assertEqual((found.status, objects_in(found.out)[1]), (0, {'host': ['ns1.a.test']}))
 
-    def test_later_deposits_go_before_earlier_ones_in_whatever_order(self):
+    def test_later_deposits_go_before_earlier_ones_in_whatever_order(self) -> None:
         first = self.first()
         second = self.changed({'h.csv': b'ns9.a.test,H1\n', 'a.csv': b''}, known=[first])
         later = WATERMARK.replace('03T', '04T')
@@ -559,14 +563,14 @@ class Roids(Case):
 
     TWO = 'left out: host of a name that another one has 1'
 
-    def test_of_two_hosts_of_one_name_the_second_is_left_out_and_told(self):
+    def test_of_two_hosts_of_one_name_the_second_is_left_out_and_told(self) -> None:
         found = self.unpacked(
             deposit(host('ns.a.test', 'H1', '192.0.2.1') + host('NS.a.test', 'H2', '192.0.2.2')))
         self.assertEqual((found.status, found.lines), (0, [self.TWO]))
         self.assertEqual([it['roid'] for it in self.rows(found, 'host')], ['H1'])
         self.assertEqual([it['addr'] for it in self.rows(found, 'hostAddresses')], ['192.0.2.1'])
 
-    def test_rows_of_files_of_the_second_are_left_out_and_what_names_it_has_the_name(self):
+    def test_rows_of_files_of_the_second_are_left_out_and_what_names_it_has_the_name(self) -> None:
         files = {
             'h.csv': b'ns.a.test,H1\nns.a.test,H2\n',
             'a.csv': b'H1,192.0.2.1,v4\nH2,192.0.2.2,v4\n', 'n.csv': b'a.example,H2\n',
@@ -591,11 +595,11 @@ class Roids(Case):
                          (0, ['left out: delete of a host that is left out 1']))
         self.assertEqual(objects_in(later.out), ({}, {}))
 
-    def test_one_host_twice_is_refused(self):
+    def test_one_host_twice_is_refused(self) -> None:
         found = self.unpacked(deposit(host('ns.a.test', 'H1') * 2))
         self.assertIn('the host ns.a.test is there twice', found.lines[-1])
 
-    def test_what_a_full_deletes_counts_for_nothing(self):
+    def test_what_a_full_deletes_counts_for_nothing(self) -> None:
         for deletes, files in ((GONE, {}), (in_files('csvHost', DELETED_HOST,
                                                      word='deletes'), {'g.csv': b'H1\n'})):
             found = self.unpacked(deposit(deletes=deletes), files)
@@ -605,7 +609,7 @@ class Roids(Case):
 
 
 class Columns(Case):
-    def test_a_table_has_the_same_columns_in_each_deposit(self):
+    def test_a_table_has_the_same_columns_in_each_deposit(self) -> None:
         ds = csv_definition('dnssec', ['csvDomain:fName', 'csvDomain:fKeyTag'], file_of('ds.csv'))
         life = csv_definition(
             'dnssec', ['csvDomain:fMaxSigLife', 'csvDomain:fName', 'rdeCsv:fCustom name="x"'],
@@ -625,7 +629,7 @@ class Columns(Case):
         self.assertEqual(found[b'604800,a.example,y\n'],
                          {**wanted, 'secDNS': [*wanted['secDNS'], 'custom.x']})
 
-    def test_names_of_a_registrys_own_fields_may_have_any_signs(self):
+    def test_names_of_a_registrys_own_fields_may_have_any_signs(self) -> None:
         fields = [
             'rdeCsv:fIdnTableId', 'rdeCsv:fCustom name="trade mark"', 'rdeCsv:fCustom name="é_.-1"'
         ]
@@ -638,7 +642,7 @@ class Columns(Case):
             'renamed: field é_.-1 of idn, to custom._c3_a9_.-1 1'
         ])
 
-    def test_a_line_of_an_operator_names_such_a_field(self):
+    def test_a_line_of_an_operator_names_such_a_field(self) -> None:
         own = 'what,name,becomes,section\nfield,idn/rdeCsv:fCustom[trade mark],mark,ours\n'
         found = self.written(
             deposit(idns(fields=['rdeCsv:fIdnTableId', 'rdeCsv:fCustom name="trade mark"'])),
@@ -649,12 +653,13 @@ class Columns(Case):
 class Silence(Case):
     """Nothing is left out silently."""
 
-    def lines(self, text, files=None, words=()):
+    def lines(self, text: bytes, files: Mapping[str, bytes] | None = None,
+              words: Sequence[str] = ()) -> list[str]:
         found = self.unpacked(text, files, words)
         self.assertEqual(found.status, 0)
         return found.lines
 
-    def test_a_file_beside_the_document_that_it_does_not_name(self):
+    def test_a_file_beside_the_document_that_it_does_not_name(self) -> None:
         files = {
             'i.csv': b'L1,u\n', 'more.CSV': b'', 'more.csv.gz': b'', 'notes.txt': b'',
             'own.csv': b'what,name,becomes,section\n'
@@ -667,7 +672,7 @@ class Silence(Case):
         self.assertEqual(
             self.unpacked(deposit(idns()), files, ['--strict', '--map', 'own.csv']).status, 1)
 
-    def test_a_field_that_is_required_by_itself(self):
+    def test_a_field_that_is_required_by_itself(self) -> None:
         fields = ['csvDomain:fName', 'rdeCsv:fRoid', 'rdeCsv:fClID', 'rdeCsv:fCrDate']
         told = [f'empty: domain.{it}, which the document requires 1' for it in ('clID', 'roid')]
         files = {'d.csv': b'a.example,,,\n'}
@@ -681,7 +686,7 @@ class Silence(Case):
                 deposit(in_files('csvDomain', csv_definition('domain', fields, file_of('d.csv')))),
                 files), [])
 
-    def test_an_element_that_would_be_a_row_and_is_empty(self):
+    def test_an_element_that_would_be_a_row_and_is_empty(self) -> None:
         front = 'empty: element rde:deposit/rde:contents/rdeDomain:domain'
         for more, told in ((element('rdeDomain:ns', within=element('domain:hostObj')),
                             'rdeDomain:ns/domain:hostObj'), (element('rdeDomain:status'),
@@ -690,7 +695,7 @@ class Silence(Case):
                             'rdeDomain:status'), (element('rdeDomain:secDNS'), 'rdeDomain:secDNS')):
             self.assertEqual(self.lines(deposit(domain('a.example', more))), [f'{front}/{told} 1'])
 
-    def test_cells_with_control_characters(self):
+    def test_cells_with_control_characters(self) -> None:
         found = self.unpacked(deposit(idns()), {'i.csv': b'L1,a\x1b[2Jb\nL2,c\x00\nL3,"d\n\te"\n'})
         if found.status == 0:
             self.assertEqual(found.lines,
@@ -701,7 +706,7 @@ class Silence(Case):
             # (The reader of Python 3.10 refuses NUL.)
             self.assertIn('NUL', found.lines[-1])
 
-    def test_what_is_told_changes_nothing_at_a_terminal(self):
+    def test_what_is_told_changes_nothing_at_a_terminal(self) -> None:
         lines = self.lines(
             deposit(
                 in_files(
@@ -712,7 +717,7 @@ class Silence(Case):
             lines,
             ['unknown: rde:deposit/rde:contents/csvIDN:contents/rdeCsv:csv of a\\u{a}b\\u{9b}2J 1'])
 
-    def test_the_counts_of_the_deposits_own_domain_are_those_of_all(self):
+    def test_the_counts_of_the_deposits_own_domain_are_those_of_all(self) -> None:
         tld = element('rdeHeader:tld', 'Example')
         own = counted('7', rcdn='example').replace('</rdeHeader:header>',
                                                    f'{tld}</rdeHeader:header>')
@@ -725,7 +730,7 @@ class Silence(Case):
         self.assertEqual((description_in(found.out)['counts'], len(found.lines)),
                          ({'domain': 8}, 1))
 
-    def test_what_is_told_is_in_the_envelope(self):
+    def test_what_is_told_is_in_the_envelope(self) -> None:
         found = self.unpacked(deposit('<thing xmlns="urn:x"/>' * 2))
         self.assertEqual(description_in(found.out)['notes'], found.lines)
         many = self.unpacked(
@@ -743,12 +748,12 @@ class Hostile(Case):
     """What an archive may have beside a document."""
     FILE = {'compression': 'gzip'}
 
-    def refused(self, found, words):
+    def refused(self, found: Unpacked, words: str) -> None:
         self.assertEqual(found.status, 1, found.lines)
         self.assertIn(words, found.lines[-1])
         self.assertFalse(os.path.exists(found.out))
 
-    def test_a_line_without_end_is_refused_before_it_fills_memory(self):
+    def test_a_line_without_end_is_refused_before_it_fills_memory(self) -> None:
         bomb = gzip.compress(b'L1,' + b'u' * (1 << 27), 1)
         self.assertLess(len(bomb), 1 << 20)
         self.refused(self.unpacked(deposit(idns(file_of('i.csv', **self.FILE))), {'i.csv': bomb}),
@@ -757,14 +762,14 @@ class Hostile(Case):
         self.refused(self.unpacked(deposit(idns(file_of('i.csv', **self.FILE))), {'i.csv': quoted}),
                      'no row of CSV')
 
-    def beside(self, put):
+    def beside(self, put: Callable[[str], object]) -> Unpacked:
         """What is unpacked where something else than a file is beside the document."""
         found = self.unpacked(deposit(idns()), {'k.csv': b'L1,u\n'})
         put(os.path.join(found.folder, 'i.csv'))
         found.run([])
         return found
 
-    def test_a_pipe_is_not_waited_for(self):
+    def test_a_pipe_is_not_waited_for(self) -> None:
         self.refused(self.beside(os.mkfifo), 'it is no plain file')
         found = self.unpacked(deposit())
         shutil.rmtree(found.out)
@@ -773,7 +778,7 @@ class Hostile(Case):
         found.run([])
         self.refused(found, 'it is no plain file')
 
-    def test_a_link_out_of_the_folder_is_not_read(self):
+    def test_a_link_out_of_the_folder_is_not_read(self) -> None:
         self.refused(self.beside(lambda path: os.symlink('/etc/passwd', path)),
                      'the file i.csv is a link out of')
         self.refused(self.beside(lambda path: os.symlink('nothing', path)),
@@ -791,14 +796,14 @@ class Rest(Case):
         '<e:b xml:lang="en">a &amp; b&#13;<![CDATA[<c>]]></e:b></rdeEppParams:eppParams>')
     OWN = '<thing xmlns="urn:x"><part z="1"/><x:y xmlns:x="urn:y" x:a="2">t</x:y></thing>'
 
-    def kept(self, *objects, encoding='utf-8'):
+    def kept(self, *objects: str, encoding: str = 'utf-8') -> tuple[bytes, str]:
         text = deposit(''.join(objects)).decode().replace(
             '<?xml version="1.0"?>', f'<?xml version="1.0" encoding="{encoding}"?>')
         found = self.unpacked(text.encode(encoding))
         self.assertEqual(found.status, 0)
         return read(os.path.join(found.out, 'rest.xml')), text
 
-    def test_its_objects_are_those_of_the_document(self):
+    def test_its_objects_are_those_of_the_document(self) -> None:
         for objects in ((self.POLICY,), (self.PARAMS,), (self.OWN,),
                         (self.OWN, registrar(), self.POLICY, self.PARAMS, self.OWN)):
             for encoding in ('utf-8', 'utf-16', 'latin-1'):
@@ -812,7 +817,7 @@ class Rest(Case):
                 self.assertEqual([ElementTree.tostring(it).strip() for it in root],
                                  [ElementTree.tostring(it).strip() for it in wanted])
 
-    def test_prefixes_that_its_texts_name_are_declared(self):
+    def test_prefixes_that_its_texts_name_are_declared(self) -> None:
         data, _ = self.kept(self.POLICY)
         spaces = dict(
             it for _, it in ElementTree.iterparse(io.BytesIO(data), events=('start-ns',)))
@@ -822,7 +827,7 @@ class Rest(Case):
                           for it in ('rde', 'rdeDomain')})
         self.assertIn(self.POLICY.partition(' scope=')[2].encode()[:-2], data)
 
-    def test_there_is_none_where_nothing_is_left_over(self):
+    def test_there_is_none_where_nothing_is_left_over(self) -> None:
         self.assertFalse(
             os.path.exists(os.path.join(self.written(deposit(registrar())).out, 'rest.xml')))
         inner = self.unpacked(deposit(domain('a.example', element('rdeDomain:colour', 'red'))))
@@ -830,7 +835,7 @@ class Rest(Case):
 
 
 class Progress(Case):
-    def test_how_far_it_is_is_told_where_it_is_asked(self):
+    def test_how_far_it_is_is_told_where_it_is_asked(self) -> None:
         found = self.unpacked(deposit(registrar()), words=['--progress'])
         self.assertRegex(found.lines[0], r'^unpack_rde: 0 of 0 MB, 0 objects')
         self.assertEqual(self.rows(found, 'registrar'), [{'id': 'R1', 'name': 'One'}])

@@ -7,8 +7,11 @@ import random
 import re
 import shutil
 import tempfile
+from collections.abc import Mapping
+from collections.abc import Sequence
 
 from tests.support.documents import KEYS
+from tests.support.documents import Object
 from tests.support.documents import csv_text
 from tests.support.documents import document
 from tests.support.documents import element
@@ -18,6 +21,7 @@ from tests.support.escrow import folders_in
 from tests.support.escrow import objects_in
 from tests.support.escrow import some_objects
 from tests.support.files import read
+from tests.support.formats import Named
 from tests.support.formats import deposit as deposit_in
 from tests.support.formats import place_text
 from tests.support.unpacking import ADDRESSES
@@ -36,18 +40,22 @@ FULL = {'type': 'FULL', 'id': 'F1', 'watermark': '2024-03-03T00:00:00Z'}
 DIFF = {'type': 'DIFF', 'id': 'D2', 'prevId': 'F1', 'watermark': '2024-03-04T00:00:00.5Z'}
 INCR = {'type': 'INCR', 'id': 'I4', 'watermark': '2024-03-05T00:00:00Z'}
 KINDS = ('registrar', 'idn', 'contact', 'host', 'domain', 'nndn')
+# The bundles of two revisions of a Full and of a Differential on it, and the objects that are left.
+Revisions = tuple[list[bytes], list[bytes], list[bytes], dict[Named, bytes]]
 
 
-def rows_at_most(number):
+def rows_at_most(number: int) -> list[str]:
     return ['--part-rows', f'{number}']
 
 
-def largest(objects):
+def largest(objects: Sequence[Object]) -> int:
     return max(map(len, objects))
 
 
 class Series(Case):
-    def made(self, header, objects, words=(), deletes=None, model='XML', status=0, **more):
+    def made(self, header: Mapping[str, str], objects: Sequence[Object], words: Sequence[str] = (),
+             deletes: Mapping[str, Sequence[str]] | None = None, model: str = 'XML',
+             status: int = 0, **more: object) -> Unpacked:
         """What is unpacked of a deposit of these objects."""
         folder = tempfile.TemporaryDirectory(prefix='case-')
         self.addCleanup(folder.cleanup)
@@ -58,7 +66,7 @@ class Series(Case):
         self.assertEqual(found.status, status, found.lines)
         return found
 
-    def headers(self, found):
+    def headers(self, found: Unpacked) -> list[tuple[object, ...]]:
         told = [description_in(it) for it in folders_in(found.out)]
         return [
             tuple(it.get(name)
@@ -66,12 +74,12 @@ class Series(Case):
             for it in told
         ]
 
-    def full(self, seed, most=5):
+    def full(self, seed: object, most: int = 5) -> list[Object]:
         return some_objects(random.Random(f'series {seed}'), most)
 
     # ---- what a series is
 
-    def test_its_headers_are_those_of_differentials_on_each_other(self):
+    def test_its_headers_are_those_of_differentials_on_each_other(self) -> None:
         text = deposit(
             counted('9', kind='Registrar') + ''.join(registrar(id=f'R{at}') for at in range(5)))
         found = self.unpacked(text, words=rows_at_most(2))
@@ -93,7 +101,7 @@ class Series(Case):
             found.printed.splitlines(),
             ['part-001/registrar.csv 2', 'part-002/registrar.csv 2', 'part-003/registrar.csv 1'])
 
-    def test_a_differential_and_a_resend_have_places_of_their_own(self):
+    def test_a_differential_and_a_resend_have_places_of_their_own(self) -> None:
         objects = [[('registrar', {'id': f'R{at}', 'name': 'One'})] for at in range(3)]
         self.assertEqual(self.headers(self.made({**DIFF, 'resend': '2'}, objects, rows_at_most(2))),
                          [('D2.r2.1of2', 'DIFF', '2024-03-04T00:00:00.499991807Z', 'F1', None),
@@ -103,7 +111,7 @@ class Series(Case):
             [('I4.1of2', 'INCR', '2024-03-04T23:59:59.999999999Z', 'F1', None),
              ('I4', 'DIFF', '2024-03-05T00:00:00Z', 'I4.1of2', None)])
 
-    def test_at_random_its_bundles_make_what_the_whole_deposit_makes(self):
+    def test_at_random_its_bundles_make_what_the_whole_deposit_makes(self) -> None:
         for seed in range(16):
             objects = self.full(seed)
             deletes = {
@@ -120,7 +128,8 @@ class Series(Case):
                                      ]), self.changed(seed, found, rows_at_most(most), model)
                     self.assertEqual(desk([*found.bundles(), *more]).objects, on.objects)
 
-    def changed(self, seed, full, words, model):
+    def changed(self, seed: object, full: Unpacked, words: Sequence[str],
+                model: str) -> list[bytes]:
         """The bundles of a Differential on a Full, which deletes and changes some of its
         objects."""
         objects = self.full(seed)
@@ -138,10 +147,11 @@ class Series(Case):
                           for kind, keys in deletes.items()
                           if keys}, model, roids=roids).bundles()
 
-    def check_parts(self, bundles, most):
+    def check_parts(self, bundles: Sequence[bytes], most: int) -> None:
         """No bundle has more than it may; an object is whole in one; deletes are before contents,
         and each kind after those it names."""
-        seen, order = set(), []
+        seen: set[Named] = set()
+        order = []
         for bundle in bundles:
             part = deposit_in(bundle)
             tables = [*part.contents, *part.deletes]
@@ -154,7 +164,7 @@ class Series(Case):
                                                              for kind, _ in keys})
         self.assertEqual(order, sorted(order))
 
-    def test_rows_of_files_in_any_order_come_to_their_objects(self):
+    def test_rows_of_files_in_any_order_come_to_their_objects(self) -> None:
         objects = self.full('shuffled', 40)
         found = self.made(FULL, objects, model='CSV')
         wanted = desk(found.bundles()).objects
@@ -176,7 +186,7 @@ class Series(Case):
         self.assertEqual(desk(again.bundles()).objects, wanted)
         self.assertEqual(objects_in(found.out)[0], as_written(objects))
 
-    def test_bytes_are_limited_as_rows_are(self):
+    def test_bytes_are_limited_as_rows_are(self) -> None:
         objects = self.full('bytes', 9)
         found = self.made(FULL, objects, ['--part-bytes', '3000'])
         sizes = [
@@ -191,7 +201,7 @@ class Series(Case):
             desk(found.bundles()).objects,
             desk(self.made(FULL, objects).bundles()).objects)
 
-    def test_an_object_that_no_bundle_takes_is_refused_by_its_key(self):
+    def test_an_object_that_no_bundle_takes_is_refused_by_its_key(self) -> None:
         rows = [[('domain', {'name': 'A.example'}),
                  *(('domainStatuses', {'status': f's{at}'}) for at in range(4))]]
         for model in ('XML', 'CSV'):
@@ -205,7 +215,7 @@ class Series(Case):
                     )
                     self.assertFalse(os.path.exists(found.out))
 
-    def test_a_deposit_that_fits_is_a_series_where_that_is_asked(self):
+    def test_a_deposit_that_fits_is_a_series_where_that_is_asked(self) -> None:
         found = self.made(FULL, self.full('asked'), ['--series'])
         self.assertEqual([it[:2] for it in self.headers(found)], [('F1.1of2', 'FULL'),
                                                                   ('F1', 'DIFF')])
@@ -213,7 +223,7 @@ class Series(Case):
             desk(found.bundles()).objects,
             desk(self.made(FULL, self.full('asked')).bundles()).objects)
 
-    def test_ids_and_watermarks_without_room_are_refused(self):
+    def test_ids_and_watermarks_without_room_are_refused(self) -> None:
         objects = self.full('no room')
         found = self.made({**FULL, 'id': 'F' * 60}, objects, rows_at_most(15), status=1)
         self.assertIn('longer than 64 characters', found.lines[-1])
@@ -236,7 +246,8 @@ class Series(Case):
 
     # ---- revisions
 
-    def revisions(self, first, second, seed='revisions'):
+    def revisions(self, first: int, second: int,
+                  seed: object = 'revisions') -> Revisions:
         """The bundles of two revisions of a Full, of so many rows at most, and of a Differential on
         it."""
         one, other = self.full(seed, 8), self.full(f'{seed} again', 8)
@@ -248,7 +259,7 @@ class Series(Case):
                                                                 self.made(FULL,
                                                                           other).bundles()).objects
 
-    def test_a_resend_of_more_or_fewer_bundles_takes_the_place_of_all(self):
+    def test_a_resend_of_more_or_fewer_bundles_takes_the_place_of_all(self) -> None:
         for first, second in ((12, 40), (40, 12), (12, 12), (12, 1000)):
             with self.subTest(first=first, second=second):
                 before, after, on, wanted = self.revisions(first, second)
@@ -265,7 +276,7 @@ class Series(Case):
                 self.assertEqual([states[deposit_in(it).place] for it in before],
                                  [('standing', 0)] * (len(before) - 1) + [('chain', 1)])
 
-    def test_without_one_of_its_bundles_a_resend_blocks_what_is_on_it(self):
+    def test_without_one_of_its_bundles_a_resend_blocks_what_is_on_it(self) -> None:
         before, after, on, wanted = self.revisions(15, 12)
         for missing in range(len(after)):
             with self.subTest(missing=missing):
@@ -283,7 +294,7 @@ class Series(Case):
                 self.assertEqual(
                     desk([*before, *after, *on], [*arrived, after[missing]]).objects, wanted)
 
-    def test_in_any_order_its_bundles_make_the_same(self):
+    def test_in_any_order_its_bundles_make_the_same(self) -> None:
         bundles = self.made(FULL, self.full('orders', 8), rows_at_most(20)).bundles()
         wanted = desk(bundles).objects
         for seed in range(6):
@@ -294,7 +305,7 @@ class Series(Case):
                 self.assertEqual(desk(bundles, arrivals[:count]).steps, [*range(front)])
             self.assertEqual(desk(bundles, arrivals).objects, wanted)
 
-    def test_without_a_bundle_in_its_middle_those_after_it_are_blocked(self):
+    def test_without_a_bundle_in_its_middle_those_after_it_are_blocked(self) -> None:
         bundles = self.made(FULL, self.full('middle', 8), rows_at_most(20)).bundles()
         on = self.made(DIFF, []).bundles()
         self.assertGreater(len(bundles), 3)
@@ -306,14 +317,14 @@ class Series(Case):
                              [('chain', None)] * missing + [('missing', None)] +
                              [('blocked', place_text(place))] * (len(listed) - missing - 1))
 
-    def test_a_bundle_that_comes_twice_changes_nothing(self):
+    def test_a_bundle_that_comes_twice_changes_nothing(self) -> None:
         bundles = self.made(FULL, self.full('twice'), rows_at_most(15)).bundles()
         found = desk(bundles, [*bundles, *bundles, bundles[1]])
         self.assertEqual(found.objects, desk(bundles).objects)
         self.assertEqual([it.again for it in found.receipts.values()],
                          [0] * len(bundles) + [1] * (len(bundles) + 1))
 
-    def test_one_bundle_and_a_series_of_one_id_are_told_apart(self):
+    def test_one_bundle_and_a_series_of_one_id_are_told_apart(self) -> None:
         objects = self.full('apart')
         whole, parts = self.made(FULL, objects), self.made(FULL, objects, rows_at_most(15))
         found = self.made({**FULL, 'resend': '1'}, objects,
@@ -337,7 +348,7 @@ class Series(Case):
 
     # ---- what is based on a series
 
-    def test_an_incremental_on_a_series_is_a_differential_on_the_whole(self):
+    def test_an_incremental_on_a_series_is_a_differential_on_the_whole(self) -> None:
         objects = self.full('based', 8)
         full = self.made(FULL, objects, rows_at_most(15))
         later = self.full('later')
@@ -352,14 +363,14 @@ class Series(Case):
                                  'given: as a Differential on F1, since this Full is a series 1')
                 self.assertEqual(desk([*full.bundles(), *found.bundles()]).objects, whole)
 
-    def test_an_incremental_on_one_bundle_stays_one(self):
+    def test_an_incremental_on_one_bundle_stays_one(self) -> None:
         full = self.made(FULL, self.full('based'))
         found = self.made(INCR, self.full('later'), ['--known', full.out])
         self.assertEqual((self.headers(found), found.lines),
                          ([('I4', 'INCR', '2024-03-05T00:00:00Z', None, None)], []))
         self.assertEqual(len(self.made(INCR, []).lines), 1)
 
-    def test_two_differentials_of_one_watermark_are_refused(self):
+    def test_two_differentials_of_one_watermark_are_refused(self) -> None:
         full = self.made(FULL, self.full('based', 8), rows_at_most(15))
         on = self.made({**DIFF, 'watermark': INCR['watermark']}, [])
         found = self.made(INCR, [], ['--known', full.out, '--known', on.out], status=1)
@@ -375,7 +386,7 @@ class Series(Case):
             found.lines[-1],
             'there is no room for it: F1 in .* has the place 2024-03-03T00:00:00Z DIFF$')
 
-    def test_an_incremental_is_not_based_on_the_first_part_of_a_full(self):
+    def test_an_incremental_is_not_based_on_the_first_part_of_a_full(self) -> None:
         objects = self.full('based', 8)
         at_once = {**INCR, 'watermark': FULL['watermark']}
         full = self.made(FULL, objects, rows_at_most(15))
@@ -394,7 +405,8 @@ class Series(Case):
         between = self.made(later, [])
         self.made(FULL, objects, ['--known', on.out, '--known', between.out, *rows_at_most(15)])
 
-    def test_a_full_that_comes_after_its_incremental_is_refused_until_that_is_given_on_it(self):
+    def test_a_full_that_comes_after_its_incremental_is_refused_until_that_is_given_on_it(
+            self) -> None:
         full = self.made(FULL, self.full('based', 8), rows_at_most(15))
         later = {**FULL, 'id': 'F3', 'watermark': '2024-03-04T00:00:00Z'}
         for words in ([], ['--series']):
@@ -410,7 +422,7 @@ class Series(Case):
             self.made({**FULL, 'resend': '1'}, [], known)
             self.made({**later, 'watermark': '2024-03-06T00:00:00Z'}, [], known)
 
-    def test_an_incremental_that_is_given_as_a_differential_is_no_revision_of_one(self):
+    def test_an_incremental_that_is_given_as_a_differential_is_no_revision_of_one(self) -> None:
         full = self.made(FULL, self.full('based', 8), rows_at_most(15))
         known = ['--known', full.out]
         on = self.made(INCR, [], known)
@@ -426,7 +438,7 @@ class Series(Case):
         found = self.made({**INCR, 'resend': '1'}, [], [*known, '--known', alone.out], status=1)
         self.assertIn('is INCR, and this is DIFF: one deposit has one place', found.lines[-1])
 
-    def test_a_resend_may_have_another_id(self):
+    def test_a_resend_may_have_another_id(self) -> None:
         one, other = self.full('one', 8), self.full('other', 8)
         full = self.made(FULL, one, rows_at_most(20))
         before = self.made(DIFF, one, rows_at_most(15))
@@ -436,7 +448,7 @@ class Series(Case):
         self.assertEqual(found.objects, desk([*full.bundles(), *after.bundles()]).objects)
         self.assertEqual(len(found.steps), len(full.bundles()) + len(after.bundles()))
 
-    def test_parts_that_are_not_all_those_of_one_deposit_are_refused(self):
+    def test_parts_that_are_not_all_those_of_one_deposit_are_refused(self) -> None:
         objects = self.full('mixed', 8)
         one, other = (self.made({**FULL, 'id': it}, objects, rows_at_most(30)).out
                       for it in ('F1', 'F2'))
@@ -455,7 +467,7 @@ class Series(Case):
         os.rename(f'{one}/was', f'{one}/{names[1]}')
         self.made(DIFF, [], ['--known', one])
 
-    def test_a_table_without_rows_stays_declared(self):
+    def test_a_table_without_rows_stays_declared(self) -> None:
         rows = ''.join(f'ns{at}.example,H{at}\n' for at in range(5))
         found = self.unpacked(
             deposit(in_files('csvHost', HOST, ADDRESSES)), {
@@ -465,7 +477,7 @@ class Series(Case):
         self.assertEqual([[it['name'] for it in its] for its in told],
                          [['host', 'hostAddresses'], ['host'], ['host']])
 
-    def test_what_no_table_has_is_in_the_last_part(self):
+    def test_what_no_table_has_is_in_the_last_part(self) -> None:
         text = deposit(
             ''.join(registrar(id=f'R{at}') for at in range(5)) +
             element('p:policy', **{'xmlns:p': 'urn:ietf:params:xml:ns:rdePolicy-1.0'}),

@@ -41,7 +41,7 @@ PROGRAM = HEAD + FUNCTION.replace('@', 'after_walk') + AFTER + FUNCTION.replace(
 REFUSED = 'error[borrow-e0499]: cannot borrow `*desk` as mutable more than once at a time'
 
 
-def words_over_desk(kit):
+def words_over_desk(kit: pathlib.Path) -> list[str]:
     """The words by which the compiler reads a crate over the desk, and the sources of the crates
     below. It proves none of its functions."""
     crates, own = listed(), with_below(['esc_desk'])
@@ -65,7 +65,7 @@ def words_over_desk(kit):
     return [*words, '-L', f'dependency={kit}/rlibs']
 
 
-def said_of(kit, text):
+def said_of(kit: pathlib.Path, text: str) -> list[str]:
     """What the compiler says of a crate of one file over the desk, line by line, without its
     notes."""
     with tempfile.TemporaryDirectory(prefix='walks-') as crate:
@@ -79,7 +79,7 @@ def said_of(kit, text):
 
 
 class Walks(unittest.TestCase):
-    def test_an_arrival_during_a_walk_does_not_compile(self):
+    def test_an_arrival_during_a_walk_does_not_compile(self) -> None:
         command = shutil.which('rt')
         self.assertIsNotNone(command, 'the Rattle toolchain is missing: no command rt on the PATH')
         # The compiler looks at each function, and finds nothing wrong with the one whose arrival
