@@ -29,12 +29,12 @@ from trials.fuzzing.manifests import over_manifest
 from trials.trial import Trial
 
 
-def batches(count, most):
+def batches(count: int, most: int) -> list[tuple[int, int]]:
     """The numbers and sizes of the batches that so many inputs make."""
     return [(at, min(most, count - at * most)) for at in range(-(-count // most))]
 
 
-def main():
+def main() -> bool:
     arguments = arguments_over_restore(__doc__)
     for name, count in (('bundles', 2000), ('manifests', 500), ('requests', 2000), ('seed', 1)):
         arguments.add_argument(f'--{name}', type=int, default=count, metavar='N')
@@ -43,7 +43,7 @@ def main():
     with Trial(given.restore, given.keep) as trial:
         rng, begun, counts = random.Random(given.seed), time.perf_counter(), trial.counts
 
-        def said(what):
+        def said(what: str) -> None:
             print(f'{time.perf_counter() - begun:5.0f} s: {what}', flush=True)
         for batch, many in batches(given.bundles, 100):
             over_bundles(trial, batch, rng, many)

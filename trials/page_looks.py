@@ -17,6 +17,7 @@ import select
 import shutil
 import subprocess
 import sys
+from collections.abc import Collection
 
 from tests.cases.page import many_places
 from tests.support import arguments_of
@@ -72,7 +73,7 @@ OVERLAPS = r"""(() => {
 counts = {'passed': 0, 'failed': 0}
 
 
-def check(what, found, wanted):
+def check(what: str, found: object, wanted: object) -> None:
     counts['passed' if found == wanted else 'failed'] += 1
     if found != wanted:
         print(f'WRONG {what}: {str(found)[:400]}', flush=True)
@@ -81,11 +82,11 @@ def check(what, found, wanted):
 class Browser:
     """Headless Chromium, which is asked through a pair of pipes (its DevTools protocol)."""
 
-    def __init__(self, program, room):
+    def __init__(self, program: str, room: str) -> None:
         asked, self.asks = os.pipe()
         self.answers, answered = os.pipe()
 
-        def prepare():
+        def prepare() -> None:
             # The browser reads file 3 and writes file 4.
             ends = os.dup(asked), os.dup(answered)
             os.dup2(ends[0], 3)
@@ -102,7 +103,7 @@ class Browser:
         for it in ('Page', 'Network', 'Log', 'Runtime'):
             self.ask(f'{it}.enable')
 
-    def next(self):
+    def next(self) -> dict:
         while b'\0' not in self.come:
             is_there = select.select([self.answers], [], [], SECONDS)[0]
             if not is_there or not (piece := os.read(self.answers, 1 << 20)):
@@ -111,7 +112,7 @@ class Browser:
         message, _, self.come = self.come.partition(b'\0')
         return json.loads(message)
 
-    def ask(self, method, **params):
+    def ask(self, method: str, **params: object) -> dict:
         self.number += 1
         session = {'sessionId': self.session} if self.session else {}
         message = {'id': self.number, 'method': method, 'params': params} | session
@@ -122,11 +123,11 @@ class Browser:
             sys.exit(f'page_looks: {method}: {message["error"]}')
         return message['result']
 
-    def value(self, expression):
+    def value(self, expression: str) -> object:
         found = self.ask('Runtime.evaluate', expression=expression, returnByValue=True)
         return found['result'].get('value')
 
-    def open(self, path, width, look):
+    def open(self, path: str, width: int, look: str) -> None:
         self.ask('Emulation.setEmulatedMedia',
                  features=[{'name': 'prefers-color-scheme', 'value': look}])
         self.ask('Emulation.setDeviceMetricsOverride', width=width, height=900, deviceScaleFactor=1,
@@ -136,24 +137,24 @@ class Browser:
         while not any(it.get('method') == 'Page.loadEventFired' for it in self.events):
             self.events.append(self.next())
 
-    def seen(self, *methods):
+    def seen(self, *methods: Collection[str]) -> list[dict]:
         return [it['params'] for it in self.events if it.get('method') in methods]
 
-    def picture(self, width):
+    def picture(self, width: int) -> bytes:
         height = self.ask('Page.getLayoutMetrics')['cssContentSize']['height']
         clip = {'x': 0, 'y': 0, 'width': width, 'height': min(height, 16_000), 'scale': 1}
         found = self.ask('Page.captureScreenshot', captureBeyondViewport=True, clip=clip)
         return base64.b64decode(found['data'])
 
-    def print(self):
+    def print(self) -> bytes:
         return base64.b64decode(self.ask('Page.printToPDF', printBackground=False)['data'])
 
-    def close(self):
+    def close(self) -> None:
         self.ask('Browser.close')
         self.child.wait(SECONDS)
 
 
-def make_stores(stage, large):
+def make_stores(stage: Stage, large: str | None) -> list[str]:
     """Rebuilds the stores, and gives the names of the pages."""
     releases = {it.replace(' ', '-'): release for it, release in SAMPLES.items()}
     releases |= {'flawed': draw_release(5), 'many': many_places()}
@@ -166,7 +167,7 @@ def make_stores(stage, large):
     return [*releases, *(['large'] if large else [])]
 
 
-def look_at(browser, name, path, out):
+def look_at(browser: Browser, name: str, path: str, out: str) -> None:
     for width in WIDTHS:
         for look in LOOKS:
             browser.open(path, width, look)
@@ -184,7 +185,7 @@ def look_at(browser, name, path, out):
     write(f'{out}/{name}.pdf', browser.print())
 
 
-def main():
+def main() -> int:
     arguments = arguments_of(__doc__)
     for it in ('restore', 'handover'):
         arguments.add_argument(f'--{it}', default=built(it), metavar='FILE')

@@ -9,12 +9,14 @@ python3-hypothesis) draws N lists (1,000), and makes one that fails as short as 
 program is needed. The last line is `N lists, N deposits, N series, N refused, N chains`."""
 import collections
 import tempfile
+from collections.abc import Sequence
 from typing import NamedTuple
 
 from hypothesis import HealthCheck
 from hypothesis import given
 from hypothesis import note
 from hypothesis import settings
+from hypothesis.strategies import SearchStrategy
 from hypothesis.strategies import builds
 from hypothesis.strategies import integers
 from hypothesis.strategies import lists
@@ -22,8 +24,8 @@ from hypothesis.strategies import sampled_from
 from hypothesis.strategies import tuples
 from tests.support import arguments_of
 from tests.support.bundles import HEADING
-from tests.support.formats import Refused
 from tests.support.formats import TYPES
+from tests.support.formats import Refused
 from tests.support.formats import manifest
 from tests.support.formats import moment_text
 from tests.support.model import Desk
@@ -53,10 +55,10 @@ class Drawn(NamedTuple):
     arrives: bool
 
     @property
-    def id(self):
+    def id(self) -> str:
         return f'{self.type[0]}{self.moment - DAY}'.replace('-', '_')
 
-    def header(self, ids):
+    def header(self, ids: Sequence[str]) -> dict[str, object]:
         told = {
             'id': self.id, 'type': self.type, 'watermark': moment_text(self.moment),
             'resend': self.resend
@@ -65,7 +67,7 @@ class Drawn(NamedTuple):
             told['prevId'] = ids[self.prev % len(ids)] if ids else 'X'
         return told
 
-    def files(self, number, ids):
+    def files(self, number: int, ids: Sequence[str]) -> tuple[dict[str, object], dict[str, bytes]]:
         """Its description and its files. Its number tells its objects from those of others."""
         table = {
             'name': 'contact', 'kind': 'contact', 'role': 'parent', 'key': 'id',
@@ -80,7 +82,8 @@ class Drawn(NamedTuple):
 SOME_KEYS = lists(sampled_from(KEYS), unique=True)
 
 
-def some(moments, types, resends):
+def some(moments: Sequence[int], types: Sequence[str],
+         resends: Sequence[int]) -> SearchStrategy[Drawn]:
     arrives = sampled_from((True, True, True, False))
     return builds(Drawn, sampled_from(moments), sampled_from(types), sampled_from(resends),
                   integers(0, 3), sampled_from((None, 1, 2)), SOME_KEYS, SOME_KEYS, arrives)
@@ -91,18 +94,18 @@ DEPOSITS = tuples(some(DAYS[:1], ['FULL'], [0]),
                   lists(some(MOMENTS, TYPES, (0, 0, 1, 2)), max_size=6))
 
 
-def listed(bundles):
+def listed(bundles: Sequence[bytes]) -> bytes:
     return (HEADING + ''.join(map(row_of, bundles))).encode()
 
 
-def is_listed(bundles):
+def is_listed(bundles: Sequence[bytes]) -> bool:
     try:
         return manifest(listed(bundles)) is not None
     except Refused:
         return False
 
 
-def in_order(it):
+def in_order(it: Drawn) -> tuple[int, int, int]:
     """Deposits come in the order of places, and resends after them."""
     return it.resend, it.moment, TYPES.index(it.type)
 
@@ -110,12 +113,12 @@ def in_order(it):
 class Desks:
     """The deposits that were taken, whole and as they were unpacked, and which of them arrived."""
 
-    def __init__(self, folder, counts):
+    def __init__(self, folder: str, counts: collections.Counter[str]) -> None:
         self.folder, self.counts = folder, counts
         self.whole, self.parts, self.known, self.ids = [], [], [], []
         self.arrived = [], []
 
-    def unpack(self, it, number):
+    def unpack(self, it: Drawn, number: int) -> None:
         words = [word for folder in self.known for word in ('--known', folder)]
         words += ['--part-rows', f'{it.most}'] if it.most else []
         made = Described(f'{self.folder}/{number}', *it.files(number, self.ids), words)
@@ -128,7 +131,7 @@ class Desks:
         else:
             self.take(it, made)
 
-    def take(self, it, made):
+    def take(self, it: Drawn, made: Described) -> None:
         whole, parts = made.given(), made.bundles()
         note(f'{it} as {[row_of(body)[:60] for body in parts]}')
         self.counts['series'] += len(parts) > 1
@@ -140,7 +143,7 @@ class Desks:
             self.arrived[0].append(whole)
             self.arrived[1].extend(parts)
 
-    def check(self):
+    def check(self) -> None:
         """The bundles can be listed, and make what the deposits make."""
         assert is_listed(self.parts), 'no manifest lists the bundles'
         whole, parts = (Desk(listed(its), [(f'n{at}', it) for at, it in enumerate(arrived)])
@@ -150,7 +153,7 @@ class Desks:
         assert parts.objects == whole.objects, 'the bundles make another registry'
 
 
-def main():
+def main() -> None:
     arguments = arguments_of(__doc__)
     arguments.add_argument('--examples', type=int, default=1_000, metavar='N')
     words, counts = arguments.parse_args(), collections.Counter()
@@ -158,7 +161,7 @@ def main():
     @settings(max_examples=words.examples, deadline=None, database=None,
               suppress_health_check=list(HealthCheck))
     @given(DEPOSITS)
-    def check(deposits):
+    def check(deposits: tuple[Drawn, list[Drawn]]) -> None:
         counts['lists'] += 1
         with tempfile.TemporaryDirectory(prefix='case-') as folder:
             desks = Desks(folder, counts)

@@ -28,7 +28,7 @@ SMALL = ('--rows', '3000', '--diffs', '30', '--touch', '60', '--growth', '1000',
 class Stops(Trial):
     """A trial with a release, and what an undisturbed take of it prints and leaves."""
 
-    def __enter__(self):
+    def __enter__(self) -> 'Stops':
         release, self.folder = self.at('release'), self.at('deposits')
         self.manifest = self.at('release/manifest.csv')
         subprocess.run([sys.executable, '-m', 'bench.release', release, *SMALL], check=True,
@@ -44,7 +44,7 @@ class Stops(Trial):
         self.undisturbed = readings(self.run, store)
         return self
 
-    def judge(self, what, store, printed, is_done):
+    def judge(self, what: str, store: str, printed: bytes, is_done: bool) -> None:
         """Takes the folder again after a stop, and compares."""
         self.counts['undisturbed' if is_done else 'stops'] += 1
         lines = printed[:printed.rfind(b'\n') + 1]
@@ -55,7 +55,7 @@ class Stops(Trial):
                     readings(self.run, store))
         self.check_store(what, store)
 
-    def kill(self, after):
+    def kill(self, after: float) -> None:
         store = copy(self.fresh, self.at('killed.db'))
         with open(self.at('printed'), 'w+b') as out:
             child = self.begin(['take', '--store', store, self.folder], out=out)
@@ -65,7 +65,7 @@ class Stops(Trial):
             out.seek(0)
             self.judge(f'killed after {after:.4f} s', store, out.read(), status == 0)
 
-    def on_disk(self, size):
+    def on_disk(self, size: int) -> None:
         """A take on a disk of so many kilobytes, and again on a larger one."""
         what = f'disk of {size} KB'
         image, disk, store = self.at('image'), self.at('disk'), self.at('moved.db')
@@ -89,7 +89,7 @@ class Stops(Trial):
         self.judge(what, store, b'' if made[0] else ended[1], ended[0] == 0)
 
 
-def main():
+def main() -> bool:
     arguments = arguments_over_restore(__doc__)
     for name, count in (('kills', 100), ('disks', 100), ('seed', 1)):
         arguments.add_argument(f'--{name}', type=int, default=count, metavar='N')

@@ -54,7 +54,7 @@ arguments.add_argument('--harness', type=program, metavar='FILE',
                        help='this program of the tests alone')
 
 
-def over_program(sweep):
+def over_program(sweep: Sweep) -> None:
     first = Release(sweep, 'first sample', os.path.join(TOP, 'samples', 'first'), True)
     four = Release(sweep, 'four arrivals', write_four(sweep.work), True)
     second = Release(sweep, 'second sample', os.path.join(TOP, 'samples', 'release'), False)
@@ -76,7 +76,7 @@ def over_program(sweep):
     over_serve(sweep, parts, 'PUT of a body without a row', put('n', b'abc'), parts.taken)
 
 
-def over_parts(sweep, parts):
+def over_parts(sweep: Sweep, parts: Parts) -> None:
     unkept = Unkept(sweep, parts)
     over_reading(sweep, parts, 'S2', 'report', 'parked')
     over_reading(sweep, parts, 'S2', 'as-of', 'soon')
@@ -88,7 +88,7 @@ def over_parts(sweep, parts):
         over_take(sweep, unkept, fault)
 
 
-def main():
+def main() -> bool:
     given = arguments.parse_args()
     if not shutil.which('gcc'):
         sys.exit('sweep: gcc is missing')

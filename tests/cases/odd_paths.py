@@ -98,7 +98,8 @@ def remove(path: str) -> None:
         (os.rmdir if os.path.isdir(path) and not os.path.islink(path) else os.remove)(path)
 
 
-def bounded(limits: Sequence[tuple[int, int]] = (), **others: Sequence[int]) -> Callable[[], None]:
+def bounded(limits: Sequence[tuple[int, int]] = (),
+            **others: int | Sequence[int]) -> Callable[[], None]:
     """What a child does before it becomes the program: its limits and others."""
     return prepared([(resource.RLIMIT_AS, GIGABYTE), *limits], **others)
 

@@ -17,8 +17,6 @@ FOLDERS = ('packaging', 'samples', 'trials', 'tests', 'bench')
 CONFIGURATION = pathlib.Path(TOP, 'pyproject.toml').read_text('utf-8')
 MOST_COLUMNS = int(re.search(r'^line-length = (\d+)$', CONFIGURATION, re.M)[1])
 MOST_LINES = 40  # of a function
-# The files whose signatures may lack types.
-UNTYPED = ('trials/', 'samples/run_book', 'packaging/package')
 
 
 def is_python(path: pathlib.Path) -> bool:
@@ -84,8 +82,8 @@ class Style(unittest.TestCase):
         self.assertEqual(long, [])
 
     def test_signatures_have_types(self) -> None:
-        untyped = [f'{path}:{it.lineno}' for path in files() if not path.startswith(UNTYPED)
-                   for it in nodes_of(path) if isinstance(it, ast.FunctionDef) and lacks_type(it)]
+        untyped = [f'{path}:{it.lineno}' for path in files() for it in nodes_of(path)
+                   if isinstance(it, ast.FunctionDef) and lacks_type(it)]
         self.assertEqual(untyped, [])
 
     def test_no_state_is_global(self) -> None:

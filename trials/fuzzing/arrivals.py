@@ -1,7 +1,9 @@
 """What arrives at a desk: the deposits of a seeded release, damaged, each with what the row that
 lists it says, and the numbers of arrivals; and what `take` has to make of folders of them, by the
 definitions."""
+import random
 import shutil
+from collections.abc import Mapping
 from typing import NamedTuple
 
 from tests.support import registries
@@ -11,6 +13,7 @@ from tests.support.model import Desk
 from tests.support.reports import report
 from trials.fuzzing import bundles
 from trials.fuzzing.damage import flipped
+from trials.trial import Trial
 
 
 class Listed(NamedTuple):
@@ -20,9 +23,10 @@ class Listed(NamedTuple):
     header: Header
 
 
-def mutated_release(rng, many):
+def mutated_release(rng: random.Random, many: int) -> list[Listed]:
     """So many mutated bundles of a seeded release, no two alike."""
-    rows, seen, world = [], set(), None
+    rows: list[Listed] = []
+    seen, world = set(), None
     while len(rows) < many:
         name, number = f'B{len(rows)}', len(rows)
         watermark = (f'2024-04-01T{number // 3600:02d}:{number // 60 % 60:02d}:{number % 60:02d}'
@@ -43,22 +47,22 @@ def mutated_release(rng, many):
     return rows
 
 
-def names(rng, many):
-    found = set()
+def names(rng: random.Random, many: int) -> list[str]:
+    found: set[str] = set()
     while len(found) < many:
         found.add(''.join(rng.choices('ABCXYZabcxyz019._-', k=rng.choice((1, 4, 8, 64)))))
         found -= {'.', '..'}
     return sorted(found)
 
 
-def expected_take(files, desk):
+def expected_take(files: Mapping[str, bytes], desk: Desk) -> tuple[int, bytes, bytes]:
     """Status, output and refusals of a folder that the model of a desk takes."""
     receipts = [desk.arrive(name, files[name]) for name in sorted(files)]
     return (int(any(it.verdict != 'A1' for it in receipts)),
             report('receipts', map(desk.row_text, receipts)).encode(), b'')
 
 
-def folder_of(rng, rows):
+def folder_of(rng: random.Random, rows: list[Listed]) -> dict[str, bytes]:
     """The files of a folder: listed bundles, some twice, and others that are not listed."""
     bodies = [row.body for row in rows] + [rng.choice(rows).body for _ in range(3)]
     bodies += [rng.randbytes(rng.randint(0, 400)) for _ in range(4)] + [flipped(rng, rows[0].body)]
@@ -66,7 +70,9 @@ def folder_of(rng, rows):
     return dict(zip(names(rng, len(bodies)), bodies))
 
 
-def blame(trial, batch, rows, files, expected, got, **kept):
+def blame(trial: Trial, batch: int, rows: list[Listed], files: Mapping[str, bytes],
+          expected: tuple[int, bytes, bytes], got: tuple[int | None, bytes, bytes],
+          **kept: bytes) -> None:
     """Says which bundles of a folder are wrong: those of other lines, or the one at which the
     program stopped."""
     lines, found = expected[1].splitlines(), [*got[1].splitlines(), f'status {got[0]}'.encode()]
@@ -80,7 +86,7 @@ def blame(trial, batch, rows, files, expected, got, **kept):
                     **kept)
 
 
-def over_bundles(trial, batch, rng, many):
+def over_bundles(trial: Trial, batch: int, rng: random.Random, many: int) -> None:
     rows = mutated_release(rng, many)
     files, listed = folder_of(rng, rows), manifest((row.header, row.body) for row in rows)
     store, folder, made = trial.set_up(f'store-{batch}', listed, files.items())

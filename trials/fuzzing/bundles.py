@@ -3,6 +3,7 @@ their envelope, or in the CSV of their files. Each function answers the damaged 
 come of them is what support/formats.py reads in them; the row that lists a bundle is always that of
 the undamaged deposit."""
 import json
+from random import Random
 
 from tests.support.bundles import FIRST_LINE
 from tests.support.bundles import compact
@@ -15,7 +16,7 @@ from trials.fuzzing.damage import opened_sections
 MARK = '@value@'
 
 
-def nested(depth, front='[', back=']'):
+def nested(depth: int, front: str = '[', back: str = ']') -> str:
     return front * depth + '0' + back * depth
 
 
@@ -54,7 +55,7 @@ ENDS = (b'\r\n', b'\r', b'\n\n', b'\n\r\n\r')
 
 # ---- the envelope
 
-def place_in(random, value):
+def place_in(random: Random, value: dict | list) -> tuple[dict | list, str | int]:
     """A container in an envelope, and a place in it."""
     while True:
         places = list(value) if isinstance(value, dict) else range(len(value))
@@ -64,7 +65,7 @@ def place_in(random, value):
         value = value[place]
 
 
-def other_value(random, body):
+def other_value(random: Random, body: bytes) -> bytes:
     """Another value, one more, one twice, or one less."""
     envelope, files = opened(body)
     within, place = place_in(random, envelope)
@@ -80,7 +81,7 @@ def other_value(random, body):
                                             token.encode('utf-8', 'surrogatepass')), files)
 
 
-def other_text(random, body):
+def other_text(random: Random, body: bytes) -> bytes:
     envelope, files = opened(body)
     text = random.choice((*TEXTS, lambda it: damaged(random, it),
                           lambda it: it[:random.randrange(len(it))]))(compact(envelope))
@@ -89,7 +90,7 @@ def other_text(random, body):
 
 # ---- the frame
 
-def other_sections(random, body):
+def other_sections(random: Random, body: bytes) -> bytes:
     """A section less, twice, at another place, under another name, or one that is not declared; or
     as many as there may be, and one."""
     sections = opened_sections(*opened(body))
@@ -112,7 +113,7 @@ def other_sections(random, body):
     return frame(sections)
 
 
-def other_length(random, body):
+def other_length(random: Random, body: bytes) -> bytes:
     sections = opened_sections(*opened(body))
     of = random.randrange(len(sections))
     size = len(sections[of][1])
@@ -123,7 +124,7 @@ def other_length(random, body):
     return frame(sections, random.choice(lengths), of)
 
 
-def other_ends(random, body):
+def other_ends(random: Random, body: bytes) -> bytes:
     front = random.choice((*FRONTS, FIRST_LINE))
     back = random.choice((b'', b'\n', b'\0', b'end\n', body, random.randbytes(9)))
     return front + body[len(FIRST_LINE):] + back if random.random() < 0.9 else front
@@ -131,7 +132,7 @@ def other_ends(random, body):
 
 # ---- the files
 
-def other_rows(random, body):
+def other_rows(random: Random, body: bytes) -> bytes:
     """A piece in a line of a file, or in its place; a line twice or less; other ends of lines; a
     long key; or too many rows."""
     envelope, files = opened(body)

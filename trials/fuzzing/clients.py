@@ -21,6 +21,7 @@ from tests.support.sockets import HOST
 from tests.support.sockets import received
 from tests.support.stores import copy
 from trials.fuzzing.damage import table_of
+from trials.trial import Trial
 
 MARGIN = 5
 READ_FAULT, WRITE_FAULT = b'read fault\n', b'write fault\n'
@@ -42,12 +43,12 @@ class Kind:
     earns: int = 0
     ends: bool = False
 
-    def most(self):
+    def most(self) -> float:
         """The seconds within which the next client is served."""
         return FIRST_SECONDS + self.earns / BYTES_A_SECOND + MARGIN
 
 
-def kinds(longest):
+def kinds(longest: int) -> dict[str, Kind]:
     """The kinds of clients, by what they do. The longest response has so many bytes."""
     again = itertools.repeat
     return {
@@ -71,7 +72,7 @@ def kinds(longest):
     }
 
 
-def hold(kind, client, done):
+def hold(kind: Kind, client: socket.socket, done: threading.Event) -> None:
     """Holds a connection until the desk gives it up, or the good client is done."""
     try:
         client.sendall(kind.first)
@@ -88,7 +89,7 @@ def hold(kind, client, done):
         done.wait()
 
 
-def connection(port, seconds):
+def connection(port: int, seconds: float) -> socket.socket:
     client = socket.socket()
     # (a small window, so that what the system keeps of a response for its client is little)
     client.setsockopt(socket.SOL_SOCKET, socket.SO_RCVBUF, 4096)
@@ -97,7 +98,7 @@ def connection(port, seconds):
     return client
 
 
-def asked(port, request, seconds):
+def asked(port: int, request: bytes, seconds: float) -> tuple[bytes, float]:
     """A good client's response, and how long it took."""
     begun = time.perf_counter()
     try:
@@ -109,7 +110,7 @@ def asked(port, request, seconds):
     return got, time.perf_counter() - begun
 
 
-def over_one(trial, base, what, kind, expected):
+def over_one(trial: Trial, base: str, what: str, kind: Kind, expected: bytes) -> None:
     """Holds one connection, and asks on one that comes after it. Compares what comes, how long it
     takes, and how the desk ends."""
     server, port = trial.serve(copy(base, f'{base}-{abs(hash(what))}'), 2)
@@ -127,7 +128,7 @@ def over_one(trial, base, what, kind, expected):
     trial.counts['inputs'] += 1
 
 
-def over_clients(trial):
+def over_clients(trial: Trial) -> None:
     """A client of each kind on a desk of its own, all side by side, and a good one after it."""
     body = table_of(b''.join(b'%059d\n' % key for key in range(60_000)))
     store, folder, _ = trial.set_up('held', manifest([('L,FULL,2024-04-01T00:00:00Z,,', body)]),

@@ -1,7 +1,9 @@
 """A desk on a socket, what it has to answer, and the requests that it gets."""
+import random
 import re
 import socket
 import time
+from collections.abc import Sequence
 
 from tests.support import model
 from tests.support.bundles import manifest
@@ -13,8 +15,10 @@ from tests.support.sockets import HOST
 from tests.support.sockets import breaks_off
 from tests.support.sockets import received
 from trials.fuzzing import requests
+from trials.fuzzing.arrivals import Listed
 from trials.fuzzing.arrivals import expected_take
 from trials.fuzzing.arrivals import names
+from trials.trial import Trial
 
 # How long a connection may take.
 PATIENCE = 60
@@ -24,7 +28,8 @@ class Desk:
     """A desk on a socket, which serves so many connections beside those of its rows, and what it
     has to answer."""
 
-    def __init__(self, trial, batch, rng, rows, many):
+    def __init__(self, trial: Trial, batch: int, rng: random.Random, rows: list[Listed],
+                 many: int) -> None:
         self.trial, self.name = trial, f'server {batch}'
         listed = manifest((row.header, row.body) for row in rows)
         self.model, self.faults = model.Desk(listed), 0
@@ -38,7 +43,7 @@ class Desk:
         self.texts = trial.texts(twin)
         self.server, self.port = trial.serve(self.store, len(rows) + many)
 
-    def answer(self, text):
+    def answer(self, text: bytes) -> bytes:
         """The bytes that have to answer a request. An arrival is taken."""
         what, *more = asked(text)
         if what == 'PUT':
@@ -48,7 +53,7 @@ class Desk:
                             else 'text/csv')
         return response(what, more[0], allow=more[1])
 
-    def report(self, path):
+    def report(self, path: str) -> str | bytes:
         """A report: that of the twin, for which other receipts were given."""
         if path == '/receipts':
             return report('receipts', self.model.receipt_rows())
@@ -59,7 +64,7 @@ class Desk:
         return re.sub('receipts [0-9]+', f'receipts {len(self.model.receipts)}',
                       self.texts[path].decode())
 
-    def ask(self, rng, what, text):
+    def ask(self, rng: random.Random, what: str, text: bytes) -> None:
         """Sends a request in pieces, and compares what comes."""
         expected = self.answer(text)
         begun = time.perf_counter()
@@ -71,7 +76,7 @@ class Desk:
                                            time.perf_counter() - begun)
         self.trial.expect(f'request ({what}) to {self.name}', expected, got, request=text)
 
-    def break_off(self, rng):
+    def break_off(self, rng: random.Random) -> None:
         """Sends the front of a PUT, and breaks the connection: nothing arrives, and a read fault is
         told."""
         text = requests.put_request(rng, 'broken', rng.choice(self.bodies) + b'more')
@@ -80,7 +85,7 @@ class Desk:
             breaks_off(client)
         self.faults += 1
 
-    def close(self):
+    def close(self) -> None:
         """The server has ended by itself, told each connection that broke, and left a whole
         store."""
         self.trial.expect(f'the end of {self.name}', (0, b'', b'read fault\n' * self.faults),
@@ -97,7 +102,7 @@ class Desk:
         self.trial.expect(f'the domains of {self.name}', self.texts['/export/domain'], export)
 
 
-def pieces(rng, text):
+def pieces(rng: random.Random, text: bytes) -> list[bytes]:
     """The same bytes, whole, in some pieces, or byte by byte."""
     many = rng.choice((0, 0, 1, 2, 5))
     cuts = sorted(rng.randrange(len(text) + 1) for _ in range(many))
@@ -106,7 +111,7 @@ def pieces(rng, text):
     return [text[at:to] for at, to in zip([0, *cuts], [*cuts, len(text)])]
 
 
-def sent(port, text):
+def sent(port: int, text: Sequence[bytes]) -> bytes:
     """Sends pieces by a connection of its own, ends it, and answers all that comes."""
     with socket.create_connection((HOST, port), PATIENCE) as client:
         client.setsockopt(socket.IPPROTO_TCP, socket.TCP_NODELAY, 1)
@@ -118,7 +123,8 @@ def sent(port, text):
         return received(client)
 
 
-def over_requests(trial, batch, rng, rows, many):
+def over_requests(trial: Trial, batch: int, rng: random.Random, rows: list[Listed],
+                  many: int) -> None:
     """A desk on a socket: the bundles first, then requests of all kinds, good ones among them."""
     desk = Desk(trial, batch, rng, rows, many)
     for number, row in enumerate(rows):

@@ -8,12 +8,13 @@ from tests.support.bundles import sealed
 from tests.support.reports import report
 from tests.support.stores import copy
 from trials.fuzzing.damage import table_of
+from trials.trial import Trial
 
 
 HEADER = 'L,FULL,2024-04-01T00:00:00Z,,'
 
 
-def largest():
+def largest() -> dict[str, tuple[bytes, str | None]]:
     """Bundles of the most bytes, or nearly, with what has to come of them."""
     most = 15_000_000
     texts = {
@@ -60,7 +61,7 @@ print(usage.ru_maxrss, file=sys.stderr)
 sys.exit(os.waitstatus_to_exitcode(status) & 0xff)"""
 
 
-def over_largest(trial):
+def over_largest(trial: Trial) -> None:
     """Takes each of these bundles, and prints its time and peak memory."""
     for name, (body, known) in largest().items():
         copy(None, trial.at('large'))

@@ -1,6 +1,7 @@
 """Manifests that were damaged, seeded, and what `init` has to say of each: what support/formats.py
 reads in it."""
 import os
+from random import Random
 
 from tests.support import bundles
 from tests.support import formats
@@ -8,6 +9,7 @@ from tests.support.limits import MOST_LISTED
 from tests.support.limits import MOST_MANIFEST
 from tests.support.stores import copy
 from trials.fuzzing.damage import damaged
+from trials.trial import Trial
 
 HEADING = bundles.HEADING.encode()
 # What may stand in a column, beside what stands in another row or column.
@@ -21,9 +23,9 @@ HEADINGS = (b'', b'\n\n' + HEADING, b'"' + HEADING, b'\xef\xbb\xbf' + HEADING, H
             b'type,id,watermark,prevId,resend,sha256\n')
 
 
-def good_rows(random, many):
+def good_rows(random: Random, many: int) -> list[list[str]]:
     """So many rows that are right: Fulls and Differentials, each at its own second."""
-    rows = []
+    rows: list[list[str]] = []
     for number in range(many):
         kind = 'FULL' if not rows else random.choice(('FULL', 'DIFF', 'INCR'))
         prev = random.choice(rows)[0] if rows and (kind == 'DIFF' or random.random() < 0.2) else ''
@@ -33,12 +35,12 @@ def good_rows(random, many):
     return rows
 
 
-def written(rows, heading=HEADING):
+def written(rows: list[list[str]], heading: bytes = HEADING) -> bytes:
     return heading + b''.join(','.join(row).encode(errors='surrogateescape') + b'\n'
                               for row in rows)
 
 
-def other_cells(random, rows):
+def other_cells(random: Random, rows: list[list[str]]) -> bytes:
     """Another cell, or one of another row: a repeated digest, id, place, or a base that is not
     earlier."""
     for _ in range(random.choice((1, 1, 2))):
@@ -48,20 +50,20 @@ def other_cells(random, rows):
     return written(rows)
 
 
-def one_more(random, rows):
+def one_more(random: Random, rows: list[list[str]]) -> bytes:
     """A row more, of which some cells are those of another one."""
     other = random.choice(rows)
     new = ['other', 'FULL', '2025-01-01T00:00:00Z', other[0], '5', 'f' * 64]
     return written([*rows, [random.choice(pair) for pair in zip(new, other)]])
 
 
-def other_columns(random, rows):
+def other_columns(random: Random, rows: list[list[str]]) -> bytes:
     at = random.randrange(len(rows))
     rows[at] = random.choice((rows[at][:5], [*rows[at], ''], ['a'], rows[at] * 2))
     return written(rows)
 
 
-def too_much(random, _rows):
+def too_much(random: Random, _rows: list[list[str]]) -> bytes:
     return random.choice((lambda: HEADING * 4098, lambda: written(good_rows(random, 4097)),
                           lambda: written(good_rows(random, MOST_LISTED)),
                           lambda: HEADING + b'\n' * MOST_MANIFEST,
@@ -79,7 +81,7 @@ CHANGES = [
 ]
 
 
-def over_manifest(trial, rng, number):
+def over_manifest(trial: Trial, rng: Random, number: int) -> None:
     what, change = ('too_much', too_much) if rng.random() < 0.02 else rng.choice(CHANGES)
     text = change(rng, good_rows(rng, rng.randint(1, 12)))
     try:

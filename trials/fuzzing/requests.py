@@ -1,6 +1,10 @@
 """Requests for `fuzz.py`, seeded: good ones, and ones that are damaged, cut, or ask what nobody
 should. Each function answers the bytes of one. What has to come of them is what support/messages.py
 reads in them. A desk here is what has `bodies` and `numbers` for arrivals."""
+import random
+from collections.abc import Iterable
+from typing import Protocol
+
 from tests.support.messages import PATHS
 from trials.fuzzing.damage import damaged
 
@@ -28,7 +32,14 @@ FRONTS = (b'x', b'\n', b'\r\n', b'GET ', b'GET /gaps HTTP/1.1', b'GET /gaps HTTP
           b'GET /\xc3\xa9')
 
 
-def head(rng, method, target, lines=(), version='HTTP/1.1', end=b'\r\n'):
+class Arrivals(Protocol):
+    """The bodies that may arrive, and numbers for them."""
+    bodies: list[bytes]
+    numbers: list[str]
+
+
+def head(rng: random.Random, method: str, target: str, lines: Iterable[tuple[str, str]] = (),
+         version: str = 'HTTP/1.1', end: bytes = b'\r\n') -> bytes:
     """A request's head, its header names in any case."""
     spelled = [rng.choice((str, str.upper, str.lower, str.swapcase))(name)
                + rng.choice((':', ': ', ':\t ')) + value for name, value in lines]
@@ -36,18 +47,19 @@ def head(rng, method, target, lines=(), version='HTTP/1.1', end=b'\r\n'):
                     for line in [f'{method} {target} {version}', *spelled, ''])
 
 
-def other_lines(rng):
+def other_lines(rng: random.Random) -> list[tuple[str, str]]:
     return rng.sample(LINES, rng.randint(0, 6))
 
 
-def put_request(rng, number, body, length=None, more=()):
+def put_request(rng: random.Random, number: str, body: bytes, length: str | None = None,
+                more: Iterable[tuple[str, str]] = ()) -> bytes:
     lines = other_lines(rng) + [('Content-Length', f'{len(body)}' if length is None else length),
                                 *more]
     rng.shuffle(lines)
     return head(rng, 'PUT', f'/arrivals/{number}', lines) + body
 
 
-def good(rng, desk):
+def good(rng: random.Random, desk: Arrivals) -> bytes:
     """A PUT of some bundle, or a GET."""
     if rng.random() < 0.5:
         target, end = (rng.choice(PATHS) + rng.choice(('', '', '?a=b', '?')),
@@ -56,7 +68,7 @@ def good(rng, desk):
     return put_request(rng, rng.choice(desk.numbers), rng.choice(desk.bodies))
 
 
-def other_length(rng, desk):
+def other_length(rng: random.Random, desk: Arrivals) -> bytes:
     body = rng.choice(desk.bodies)
     size = len(body)
     lengths = [f'{it}'
@@ -67,41 +79,41 @@ def other_length(rng, desk):
     return put_request(rng, 'n1', body, rng.choice(lengths))
 
 
-def repeated_lines(rng, desk):
+def repeated_lines(rng: random.Random, desk: Arrivals) -> bytes:
     body = rng.choice(desk.bodies)
     return put_request(rng, 'n1', body, None,
                        rng.choice((*MORE, [('Content-Length', f'{len(body)}')])))
 
 
-def long_head(rng, _desk):
+def long_head(rng: random.Random, _desk: Arrivals) -> bytes:
     front = head(rng, 'GET', '/gaps', [('X', '')])
     at = front.rindex(b'\r\n\r\n')
     length = rng.choice((8190, 8191, 8192, 8193, 8194, 20_000))
     return front[:at] + b'x' * (length - len(front)) + front[at:]
 
 
-def without_end(rng, _desk):
+def without_end(rng: random.Random, _desk: Arrivals) -> bytes:
     text = rng.choice(FRONTS)
     return text + text[-1:] * rng.choice((0, 1, 8192, 9000, 100_000))
 
 
-def other_target(rng, _desk):
+def other_target(rng: random.Random, _desk: Arrivals) -> bytes:
     return head(rng, 'GET', rng.choice(TARGETS), other_lines(rng)[:2])
 
 
-def damaged_request(rng, desk):
+def damaged_request(rng: random.Random, desk: Arrivals) -> bytes:
     front = rng.choice((good, good, repeated_lines, other_length))(rng, desk)
     at = front.find(b'\n\r\n') + 3
     changed = damaged(rng, front[:at] if rng.random() < 0.8 else front)
     return changed + (front[at:] if rng.random() < 0.8 else b'')
 
 
-def cut_request(rng, desk):
+def cut_request(rng: random.Random, desk: Arrivals) -> bytes:
     front = good(rng, desk)
     return front[:rng.randrange(len(front))]
 
 
-def large_request(rng, _desk):
+def large_request(rng: random.Random, _desk: Arrivals) -> bytes:
     return put_request(rng, 'n1', bytes(2**24 + rng.randrange(2)))
 
 

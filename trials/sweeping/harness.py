@@ -10,6 +10,8 @@ from tests.support.files import write
 from tests.support.messages import get
 from tests.support.messages import put
 from tests.support.stage import text_of
+from trials.sweeping.refusals import Said
+from trials.sweeping.refusals import Sweep
 
 # What it ends with: the fault's name, as a crate, the kit or a response has it. Its files are in
 # memory. Where memory is refused to a file it is a disk that fails: S1, or the database's name for
@@ -34,7 +36,7 @@ TOLD = (
 COUNT = len(TOLD) - 3
 
 
-def put_files(folder):
+def put_files(folder: str) -> None:
     """What the lines name."""
     files = {name: bytes_of(name) for name in ('F1', 'D2', 'D2Resent', 'D3', 'F5', 'Abc', 'Empty')}
     files |= {'first.csv': manifest_text(['F1', 'D3', 'D2Resent']).encode(),
@@ -45,7 +47,7 @@ def put_files(folder):
         write(os.path.join(folder, name), content)
 
 
-def over_harness(sweep, program):
+def over_harness(sweep: Sweep, program: str) -> None:
     program = os.path.abspath(program)
     with tempfile.TemporaryDirectory(dir=sweep.work) as folder:
         put_files(folder)
@@ -55,7 +57,7 @@ def over_harness(sweep, program):
         assert undisturbed[0] == 0 and len(wanted) == COUNT, undisturbed
         assert not any(map(is_refused, wanted, wanted)), undisturbed
 
-        def judge(at):
+        def judge(at: int) -> Said | tuple[str, str] | None:
             status, out, error = sweep.run(program=program, folder=folder, told=told, at=at)
             found = answers(out)
             other = next(((got, want) for got, want in zip(found, wanted) if got != want), None)
@@ -64,16 +66,16 @@ def over_harness(sweep, program):
             is_right = len(found) == COUNT if status == 0 else REFUSED.search(error)
             return None if is_right else (status, out, error)
 
-        def tell(path):
+        def tell(path: str) -> None:
             sweep.run(program=program, folder=folder, told=told, count=path)
         sweep.refuse('desk_harness', tell, judge, False)
 
 
-def answers(out):
+def answers(out: str) -> list[str]:
     return re.split(r'^\.\n', out, flags=re.M)[:-1]
 
 
-def is_refused(got, want):
+def is_refused(got: str, want: str) -> bool:
     """Whether an answer is a refusal, after a beginning of the one that is wanted."""
     lines = got.splitlines()
     at = next((at for at, it in enumerate(lines) if it in REFUSALS), None)

@@ -3,6 +3,7 @@ then once for each call that is refused.
 
 Refusals are judged side by side, in processes of their own; what they find wrong comes back to the
 one that prints."""
+import argparse
 import contextlib
 import hashlib
 import multiprocessing
@@ -11,11 +12,14 @@ import subprocess
 import tempfile
 import threading
 from collections.abc import Callable
+from collections.abc import Iterator
 
 from tests.support.files import read
 from tests.support.stores import contents
 from tests.support.stores import copy
 
+# What a run gives: its status, its standard output and its standard error.
+Said = tuple[int, str, str]
 HERE = os.path.dirname(os.path.abspath(__file__))
 # Of many calls the first ones are refused, and at most so many beyond, evenly.
 LIMIT, BEYOND = 400, 200
@@ -25,7 +29,7 @@ class Sweep:
     """A whole sweep: what was asked of it, the folder in which it works, how many parts it has had,
     and how many refusals have passed and failed."""
 
-    def __init__(self, top, given):
+    def __init__(self, top: str, given: argparse.Namespace) -> None:
         self.top, self.given = top, given
         self.work = tempfile.mkdtemp(prefix='sweep-',
                                      dir='/dev/shm' if os.path.isdir('/dev/shm') else None)
@@ -36,7 +40,8 @@ class Sweep:
         subprocess.run(['gcc', '-O2', '-shared', '-fPIC', '-o', self.library,
                         os.path.join(HERE, 'refuse.c'), '-ldl'], check=True)
 
-    def settings(self, at=None, count=None, disk=False):
+    def settings(self, at: int | None = None, count: str | None = None,
+                 disk: bool = False) -> dict[str, str]:
         """The environment of a run in which the call with this number is refused, or the calls are
         counted into this file."""
         library = self.library if at or count else None
@@ -44,7 +49,8 @@ class Sweep:
                 'REFUSE_COUNT': count}
         return os.environ | {name: it for name, it in told.items() if it}
 
-    def run(self, *words, program=None, folder=None, told=os.devnull, **given_settings):
+    def run(self, *words: str, program: str | None = None, folder: str | None = None,
+            told: str = os.devnull, **given_settings: object) -> Said:
         """Status, standard output and standard error of a run, whose standard input is the file
         `told`."""
         with open(told, 'rb') as input_, subprocess.Popen(
@@ -55,17 +61,17 @@ class Sweep:
             out, error = ran.communicate()
         return ran.returncode, out.decode(errors='replace'), error.decode(errors='replace')
 
-    def own(self):
+    def own(self) -> str:
         """The path of a store that no other refusal uses."""
         self.stores += 1
         return os.path.join(self.work, f'store{os.getpid()}-{self.stores}')
 
-    def next_port(self):
+    def next_port(self) -> int:
         """The port after the last one, of those that the system gives to no client."""
         self.port = self.port + 1 if self.port < 30_000 else 10_000 + os.getpid() % 10_000
         return self.port
 
-    def numbers(self, calls, is_whole):
+    def numbers(self, calls: int, is_whole: bool) -> list[int]:
         """Those of so many calls that are refused, each in turn."""
         step = 1 if is_whole else max(1, -(-(calls - LIMIT) // BEYOND))
         numbers = [*range(1, min(calls, LIMIT) + 1), *range(LIMIT + step, calls + 1, step)]
@@ -73,7 +79,8 @@ class Sweep:
             numbers = numbers[::max(1, -(-len(numbers) // self.given.some))]
         return numbers
 
-    def refuse(self, name, tell, judge, is_whole):
+    def refuse(self, name: str, tell: Callable[[str], object], judge: Callable[[int], object],
+               is_whole: bool) -> None:
         """Refuses calls, one after the other; `judge` says what is wrong with a refusal, or
         nothing."""
         if self.given.only not in name:
@@ -94,19 +101,21 @@ class Sweep:
             print(f'    {at}: {it}', flush=True)
 
     @contextlib.contextmanager
-    def copied(self, before):
+    def copied(self, before: str) -> Iterator[str]:
         """A copy of a store, or none where there is none, in a `with` statement."""
         store = copy(before, self.own())
         yield store
         copy(None, store)
 
-    def refuse_over(self, name, fault, before, play, play_again, is_right, is_whole):
+    def refuse_over(self, name: str, fault: str, before: str, play: Callable[..., object],
+                    play_again: Callable[[str], object], is_right: Callable[..., bool],
+                    is_whole: bool) -> None:
         """Refuses calls while something is played on a copy of a store: calls of the database's
         files at the fault S1, else growths of memory. `is_right` judges what comes of it, and of
         what is played on the copy then."""
         known, disk = {}, fault == 'S1'
 
-        def once_more(store):
+        def once_more(store: str) -> object:
             # What comes of the same again goes by the contents of the store's files, and is run
             # once for each.
             key = hashlib.sha256(repr(contents(store)).encode()).digest()
@@ -114,12 +123,12 @@ class Sweep:
                 known[key] = play_again(store)
             return known[key]
 
-        def judge(at):
+        def judge(at: int) -> object:
             with self.copied(before) as store:
                 found = play(store, at=at, disk=disk), once_more(store)
             return None if is_right(*found) else found
 
-        def tell(path):
+        def tell(path: str) -> None:
             with self.copied(before) as store:
                 play(store, count=path, disk=disk)
         self.refuse(f'{name}, {fault}', tell, judge, is_whole)
@@ -141,7 +150,7 @@ class Judge:
 
 
 @contextlib.contextmanager
-def ended_in(seconds, ran):
+def ended_in(seconds: float, ran: subprocess.Popen[bytes]) -> Iterator[None]:
     """Kills what runs longer."""
     timer = threading.Timer(seconds, ran.kill)
     timer.start()

@@ -12,13 +12,14 @@ from tests.support.first_store import first_rows
 from tests.support.first_store import write_store
 from tests.support.stores import copy
 from tests.support.stores import rows
+from trials.sweeping.refusals import Sweep
 
 SAMPLES = f'{TOP}/samples'
 # A Full, two Differentials, and the first of these once more, at resend 1.
 FOUR = ('F1', 'D2', 'D3', 'D2Resent')
 
 
-def write_four(work):
+def write_four(work: str) -> str:
     """A folder with a manifest and four arrivals."""
     for at, name in enumerate(FOUR, 1):
         write(f'{work}/four/deposits/{at}', bytes_of(name))
@@ -29,7 +30,7 @@ def write_four(work):
 class Release:
     """A release, and what the program says of it undisturbed."""
 
-    def __init__(self, sweep, name, folder, is_whole):
+    def __init__(self, sweep: Sweep, name: str, folder: str, is_whole: bool) -> None:
         self.name, self.is_whole = name, is_whole
         self.manifest, self.deposits = f'{folder}/manifest.csv', f'{folder}/deposits'
         self.fresh, self.taken = (f'{sweep.work}/{name}-{it}' for it in ('fresh', 'taken'))
@@ -44,7 +45,7 @@ class Parts:
     """A release in two parts: a store of the first, in which bodies wait for the second; and as
     version 1 had it."""
 
-    def __init__(self, sweep):
+    def __init__(self, sweep: Sweep) -> None:
         self.name, self.is_whole, self.deposits = 'parts', True, f'{SAMPLES}/release/deposits'
         first, self.more = (f'{SAMPLES}/parts/{it}.csv' for it in ('first', 'second'))
         self.taken, self.first = f'{sweep.work}/parts-taken', f'{sweep.work}/parts-first'
@@ -60,7 +61,7 @@ class Parts:
 class Unkept:
     """A migrated store, and the arrivals again: of those that are A2 it keeps no body yet."""
 
-    def __init__(self, sweep, parts):
+    def __init__(self, sweep: Sweep, parts: Parts) -> None:
         self.name, self.is_whole, self.deposits = 'A2 again', True, parts.deposits
         self.fresh = copy(parts.first, f'{sweep.work}/unkept-fresh')
         migrated = sweep.run('migrate', '--store', self.fresh)
@@ -70,3 +71,7 @@ class Unkept:
         assert migrated == (0, 'migrated\n', ''), migrated
         assert self.lines[1].count(',A2,') == 3, self.lines
         assert len(self.told['parked']) == 3, self.told
+
+
+# What is swept.
+Swept = Release | Parts | Unkept

@@ -13,12 +13,17 @@ from tests.support.sockets import response_to
 from tests.support.sockets import serving
 from tests.support.stores import REPORTS
 from tests.support.stores import rows
+from trials.sweeping.refusals import Sweep
 from trials.sweeping.refusals import ended_in
+from trials.sweeping.releases import Release
+from trials.sweeping.releases import Swept
 
+# The responses of a run, its status and its standard error.
+Ended = tuple[list[bytes], int, str]
 REFUSED = response(503, 'S2\n')
 
 
-def exchange(port, request):
+def exchange(port: int, request: bytes) -> bytes:
     """What a client sees: nothing where it is not served."""
     try:
         return response_to(port, request)
@@ -26,7 +31,7 @@ def exchange(port, request):
         return b''
 
 
-def serve(sweep, store, request, **given_settings):
+def serve(sweep: Sweep, store: str, request: bytes, **given_settings: object) -> Ended:
     """The responses to a request and to the same once more, and how `serve` ended. Where a port is
     taken it is another one."""
     for _ in range(5):
@@ -43,8 +48,8 @@ def serve(sweep, store, request, **given_settings):
     return responses, served.returncode, error
 
 
-def over_serve(sweep, release, name, request, before):
-    def play(store, **refused):
+def over_serve(sweep: Sweep, release: Swept, name: str, request: bytes, before: str) -> None:
+    def play(store: str, **refused: object) -> Ended:
         return serve(sweep, store, request, **refused)
 
     with sweep.copied(before) as clean:
@@ -52,7 +57,7 @@ def over_serve(sweep, release, name, request, before):
         tables = rows(clean)
     assert whole == second and status == 0, (whole, second, status)
 
-    def is_right(said, afterwards):
+    def is_right(said: Ended, afterwards: tuple) -> bool:
         responses, status, error = said
         # One growth is refused: that of one response at most.
         answered = [it for it in responses if it]
@@ -66,7 +71,7 @@ def over_serve(sweep, release, name, request, before):
                       release.is_whole)
 
 
-def over_routes(sweep, release):
+def over_routes(sweep: Sweep, release: Release) -> None:
     first = sorted(os.listdir(release.deposits))[0]
     over_serve(sweep, release, 'PUT /arrivals',
                put(first, read(os.path.join(release.deposits, first))), release.fresh)
