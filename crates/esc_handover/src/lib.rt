@@ -2,14 +2,14 @@
 //!
 //! # In and out
 //!
-//! `page_of` makes a page of HTML (`esc_html`) of what was seen (`esc_acceptance`), with the receipts
-//! and the parked bodies: the lines, the release as a picture and as a table, the objects beside the declared
-//! numbers, the findings.
+//! `page_of` makes a page of HTML (`esc_html`) of what was seen (`esc_acceptance`), with the
+//! receipts and the parked bodies: the lines, the release as a picture and as a table, the objects
+//! beside the declared numbers, the findings.
 //!
 //! What `handover` does without its store is here, too. [`StoreFacts`] is what a store and its
-//! bodies say: `read_findings` and `are_made_by` find some of it, and `answer_of` makes the lines or
-//! the page of it. `bundle_or_stop` gives the bundle of `esc_deposit`, and `place_file` writes a file
-//! in one step. A [`TableFolder`] is where the files of `esc_table_files` are written, and a
+//! bodies say: `read_findings` and `are_made_by` find some of it, and `answer_of` makes the lines
+//! or the page of it. `bundle_or_stop` gives the bundle of `esc_deposit`, and `place_file` writes a
+//! file in one step. A [`TableFolder`] is where the files of `esc_table_files` are written, and a
 //! [`SeriesFolder`] where the bundles of a series of `esc_deposit` are, with their manifest. A
 //! [`Progress`] tells on standard error how far that is, where it takes long. A [`Stop`] says what
 //! all of this stops for, in a line and a status.
@@ -20,23 +20,26 @@
 //!
 //! # What the contracts mean
 //!
-//! `full_bundle_restores_its_tables` is a law: the tables of a store whose manifest lists the bundle
-//! of a Full alone (`esc_deposit`), once it is held, are the objects of that Full
-//! (`specs/Restored.antt`, over the definitions of `esc_events`).
+//! `series_restores_its_tables` is a law: the tables of a store whose manifest lists the bundles of
+//! a series as its parts (`esc_deposit`) are the objects of that series, once each of them has
+//! come, in whatever order and whatever else came (`specs/Restored.antt`, over the definitions of
+//! `esc_events`). No two different bodies that came may have one SHA-256. So it is with the bundle
+//! of a Full that is listed alone: `full_bundle_restores_its_tables`, where nothing else came, and
+//! there is no such premise.
 //!
 //! `page_of` gives a page whose body is markup of a fixed list of elements around escaped texts
-//! (`IsHtmlPage` of `esc_html`): it loads nothing and runs nothing. Its title begins with whether the
-//! registry may be taken over (`specs/Titles.antt`), and it has a heading for the findings of each
-//! rule that there is (`specs/PageRules.antt`). `specs/Picture.antt` says where
-//! a moment stands on the time axis, that a later one stands no further left
-//! (`moments_stand_in_order`), and that each place is in one group of marks or rows (`groups_of`).
-//! What else a page shows has no contract, and is tested.
+//! (`IsHtmlPage` of `esc_html`): it loads nothing and runs nothing. Its title begins with whether
+//! the registry may be taken over (`specs/Titles.antt`), and it has a heading for the findings of
+//! each rule that there is (`specs/PageRules.antt`). `specs/Picture.antt` says where a moment
+//! stands on the time axis, that a later one stands no further left (`moments_stand_in_order`), and
+//! that each place is in one group of marks or rows (`groups_of`). What else a page shows has no
+//! contract, and is tested.
 //!
 //! Of what touches files, a store or standard error it is proved that no call is unsafe and that
 //! each ends: no contract can say what a file holds or what is printed, so that is tested on the
 //! built program. So it is with `files`, `progress`, `reading`, `registry_bundle`, `series_folder`,
-//! `stop` and `table_folder`, with `store_facts` but for `answer_of`, and with what is below `page` but for
-//! `axis`, `group` and `share`.
+//! `stop` and `table_folder`, with `store_facts` but for `answer_of`, and with what is below `page`
+//! but for `axis`, `group` and `share`.
 #![tactic(auto)]
 
 mod files;
@@ -51,7 +54,9 @@ mod store_facts;
 mod table_folder;
 
 pub use files::{place_file, unopened_stop};
-pub use laws::{full_bundle_restores_its_tables, moments_stand_in_order};
+pub use laws::{
+    full_bundle_restores_its_tables, moments_stand_in_order, series_restores_its_tables,
+};
 pub use page::page_of;
 pub use progress::Progress;
 pub use reading::{are_made_by, read_findings, read_layouts};

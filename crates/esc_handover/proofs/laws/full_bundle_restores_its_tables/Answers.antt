@@ -5,4 +5,5 @@ pub returns-clause-objects : goal.returns-clause-objects
 returns-clause-objects c = full_objects
 
 pub returns-clause-restored : goal.returns-clause-restored
-returns-clause-restored c = full_restored
+returns-clause-restored c =
+    full_restored c.series_has_its_objects.ensures.objects c.series_has_its_objects.ensures.one
