@@ -2,3 +2,4 @@ pub mod PageRules
 pub mod Picture
 pub mod Restored
 pub mod Titles
+pub mod WorkedSeries
