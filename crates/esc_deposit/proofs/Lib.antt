@@ -1,3 +1,4 @@
 pub mod Counted
+pub mod Cutting
 pub mod SeriesOfRuns
 pub mod Written

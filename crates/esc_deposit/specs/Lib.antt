@@ -1,2 +1,4 @@
+pub mod CutSoFar
+pub mod Cuts
 pub mod FullBundle
 pub mod RegistrySeries

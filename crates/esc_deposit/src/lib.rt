@@ -32,9 +32,13 @@
 //! of these objects (`IsSeriesOf` of `esc_series`), whose tables they have. In one run they are that
 //! Full.
 //!
+//! `specs/Cuts.antt` says where `cut_objects` cuts (`AreCutInto`): each run has as many of the
+//! objects as one bundle takes, by its limits of rows and of bytes, or one that alone may be too
+//! large. The bytes are counted before a bundle is made, and are an upper bound.
+//!
 //! How a bundle is written has no contract: it is read again, and compared, before it is given. No
-//! clause says when there is none; that a refusal has its cause is tested. So is where
-//! `cut_objects` cuts, and the member `series` of an envelope, which the desk ignores.
+//! clause says when there is none; that a refusal has its cause is tested. So is the member `series`
+//! of an envelope, which the desk ignores.
 #![tactic(auto)]
 
 mod bundle;
