@@ -1,6 +1,5 @@
 mod Above
 mod Added
-mod Cells
 mod Delegated
 mod InOrder
 mod Lines
