@@ -96,11 +96,13 @@ above_is_name xs a named h =
     ap (λ parts. nat_le (length xs) 253 && list_all is_label parts) (sym w.1) ∙ named in
     grind (arith, nat_tests, all, short)
 
-found_position : (xs : List ℕ) (at : ℕ) → Some at ≡ position is_dot xs
+-- the place of the first dot
+pub found_position : (xs : List ℕ) (at : ℕ) → Some at ≡ position is_dot xs
     → (at ≡ position_or_len is_dot xs) × (position_or_len is_dot xs < length xs)
 found_position xs at h = grind (arith, nat_tests)
 
-no_position : (xs : List ℕ) → None ≡ position is_dot xs → length xs ≤ position_or_len is_dot xs
+-- no dot before the end
+pub no_position : (xs : List ℕ) → None ≡ position is_dot xs → length xs ≤ position_or_len is_dot xs
 no_position xs h = grind (arith, nat_tests)
 
 drop_one : (k : ℕ) (x : ℕ) (xs : List ℕ) → drop (1 + k) (x ∷ xs) ≡ drop k xs

@@ -17,10 +17,6 @@ pub made_if : (b : Bool) (t h : List ℕ) → Some h ≡ cond b (Some t) None �
 made_if true t h e = (refl, (let same : t ≡ h = cc e in same))
 made_if false t h e = absurd (cc e)
 
--- no records leave the lines as they are
-pub with_none : (lines : RecordsValue) → with_records lines [] ≡ lines
-with_none lines = ap (λ t. record lines { text = t }) (append-nil lines.text)
-
 -- records that are added one after the other are added together
 pub with_both : (lines : RecordsValue) (rs qs : List RecordValue)
     → with_records (with_records lines rs) qs ≡ with_records lines (rs ++ qs)

@@ -15,7 +15,8 @@ use Rattle.esc_zone.specs.Lists.{GivesEach, Itself, IsOrderedOnce}
 use Rattle.esc_zone.specs.Records.{RecordsValue}
 use Rattle.esc_zone.specs.Delegations.{with_records, server_records, signer_records, IsUsable}
 use Rattle.esc_zone.specs.Delegations.{has_place, kept_out, texts_of, server_texts, AddsDelegation, AddsDomain}
-use Rattle.esc_zone.proofs.Added.{with_none, with_both}
+use Rattle.esc_zone.specs.Signers.{AreSigners}
+use Rattle.esc_zone.proofs.Added.{with_both}
 
 when_true : (b : Bool) (P Q : Type 0) → b ≡ true → P → MatchBool b P Q
 when_true true P Q h p = p
@@ -46,13 +47,14 @@ none_there [] h = refl
 none_there (x ∷ xs) h = let e : false ≡ true = sym (eqb-suc-zero (length xs)) ∙ h in absurd (cc e)
 
 -- nothing, where no server is left
-pub no_server : (z : ZoneNotes) (name : List ℕ) (texts hosts : List (List ℕ)) (before after : RecordsValue)
+pub no_server : (z : ZoneNotes) (name : List ℕ) (rows : List RowValue) (texts hosts : List (List ℕ))
+    → (before after : RecordsValue)
     → has_place z name ≡ true → GivesEach (Itself (IsUsable z name)) texts hosts
-    → (length hosts == 0) ≡ true → after ≡ before → AddsDelegation z name texts before after
-no_server z name texts hosts before after h g none e =
+    → (length hosts == 0) ≡ true → after ≡ before → AddsDelegation z name rows texts before after
+no_server z name rows texts hosts before after h g none e =
     let left = subst (λ (ys : List (List ℕ)). GivesEach (Itself (IsUsable z name)) texts ys)
     (none_there hosts none) g in
-    when_true (has_place z name) _ _ h ([], [], left, e ∙ sym (with_none before))
+    when_true (has_place z name) _ _ h ([], left, e)
 
 with_all : (name : List ℕ) (hosts : List (List ℕ)) (signers : List Ds) (before now after : RecordsValue)
     → now ≡ with_records before (server_records before.ttl name hosts)
@@ -63,22 +65,23 @@ with_all name hosts signers before now after h e =
     e ∙ ap (λ (n : RecordsValue). with_records n (signer_records n.ttl name signers)) h
     ∙ with_both before (server_records before.ttl name hosts) (signer_records before.ttl name signers)
 
--- servers, and DS after them
-pub some_servers : (z : ZoneNotes) (name : List ℕ) (texts hosts : List (List ℕ)) (before now after : RecordsValue)
+-- servers, and the DS of these rows after them
+pub some_servers : (z : ZoneNotes) (name : List ℕ) (rows : List RowValue) (texts hosts : List (List ℕ))
+    → (before now after : RecordsValue)
     → has_place z name ≡ true → GivesEach (Itself (IsUsable z name)) texts hosts
     → (length hosts == 0) ≡ false → now ≡ with_records before (server_records before.ttl name hosts)
-    → (signers : List Ds) × (after ≡ with_records now (signer_records now.ttl name signers))
-    → AddsDelegation z name texts before after
-some_servers z name texts [] before now after h g some e f = absurd (cc some)
-some_servers z name texts (host ∷ hosts) before now after h g some e f =
+    → (signers : List Ds) × AreSigners name rows signers
+    × (after ≡ with_records now (signer_records now.ttl name signers))
+    → AddsDelegation z name rows texts before after
+some_servers z name rows texts [] before now after h g some e f = absurd (cc some)
+some_servers z name rows texts (host ∷ hosts) before now after h g some e f =
     when_true (has_place z name) _ _ h
-    (host ∷ hosts, f.0, g, with_all name (host ∷ hosts) f.0 before now after e f.1)
+    (host ∷ hosts, g, (f.0, f.1, with_all name (host ∷ hosts) f.0 before now after e f.2))
 
-nothing_asked : (b : Bool) (z : ZoneNotes) (name : List ℕ) (before after : RecordsValue)
-    → has_place z name ≡ b → after ≡ before → AddsDelegation z name [] before after
-nothing_asked true z name before after h e =
-    when_true (has_place z name) _ _ h ([], [], refl, e ∙ sym (with_none before))
-nothing_asked false z name before after h e = when_false (has_place z name) _ _ h e
+nothing_asked : (b : Bool) (z : ZoneNotes) (name : List ℕ) (rows : List RowValue) (before after : RecordsValue)
+    → has_place z name ≡ b → after ≡ before → AddsDelegation z name rows [] before after
+nothing_asked true z name rows before after h e = when_true (has_place z name) _ _ h ([], refl, e)
+nothing_asked false z name rows before after h e = when_false (has_place z name) _ _ h e
 
 -- nothing, for a domain that is kept out or has no servers
 pub domain_kept : (z : ZoneNotes) (name : List ℕ) (rows : List RowValue) (servers : List (String Global))
@@ -90,14 +93,14 @@ domain_kept z name rows servers out before after h texts e =
     when_kept (hold_of rows) (length servers == 0) out _ _ h e (λ none. (
       texts_of servers,
       texts,
-      subst (λ (l : List (String Global)). AddsDelegation z name (texts_of l) before after)
-          (sym (none_there servers none)) (nothing_asked (has_place z name) z name before after refl e),
+      subst (λ (l : List (String Global)). AddsDelegation z name rows (texts_of l) before after)
+          (sym (none_there servers none)) (nothing_asked (has_place z name) z name rows before after refl e),
     ))
 
 -- what is added for its servers, for a domain that is let in
 pub domain_let_in : (z : ZoneNotes) (name : List ℕ) (rows : List RowValue) (servers : List (String Global))
     → (before after : RecordsValue) → None ≡ kept_out (hold_of rows) (length servers == 0)
     → IsOrderedOnce name_cmp (server_texts rows) (texts_of servers)
-    → AddsDelegation z name (texts_of servers) before after → AddsDomain z name rows before after
+    → AddsDelegation z name rows (texts_of servers) before after → AddsDomain z name rows before after
 domain_let_in z name rows servers before after h texts adds =
     when_let_in (hold_of rows) (length servers == 0) _ _ h (texts_of servers, texts, adds)

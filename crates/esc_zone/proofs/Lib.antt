@@ -1,9 +1,13 @@
 mod Above
 mod Added
 mod Delegated
+mod Faults
 mod InOrder
 mod Lines
 mod Listed
 mod NotedSame
+mod Numbers
 mod Said
+mod SignerOrder
 mod Texts
+mod Wire

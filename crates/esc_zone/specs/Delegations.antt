@@ -12,6 +12,7 @@ use Rattle.esc_zone.specs.Names.{is_below, is_server_name, is_name_with, name_cm
 use Rattle.esc_zone.specs.Records.{RecordValue, RecordsValue, record_text}
 use Rattle.esc_zone.specs.Records.Data.{server, signer}
 use Rattle.esc_zone.specs.Lists.{GivesEach, Itself, IsOrderedOnce}
+use Rattle.esc_zone.specs.Signers.{AreSigners}
 use Rattle.esc_zone.specs.Statuses.{hold_of}
 use Rattle.esc_zone.specs.declared.signer.Ds.{Ds}
 use Rattle.esc_zone.specs.declared.status.Hold.{Hold}
@@ -73,20 +74,22 @@ abbrev pub signer_records : ℕ → List ℕ → List Ds → List RecordValue
 signer_records ttl name signers =
     map (λ ds. record { owner = name; ttl = ttl; said = signer ds }) signers
 
--- the records of a delegated name: these servers, and, if there is one at least, these DS
-abbrev pub delegation_records : ℕ → List ℕ → List (List ℕ) → List Ds → List RecordValue
-delegation_records ttl name [] signers = []
-delegation_records ttl name (host ∷ hosts) signers =
-    server_records ttl name (host ∷ hosts) ++ signer_records ttl name signers
-
--- the records of a name whose servers have these texts are added: those of its servers that are
--- written, and, if there is one at least, DS; and nothing if the name has no place in the zone
-abbrev pub AddsDelegation : ZoneNotes → List ℕ → List (List ℕ) → RecordsValue → RecordsValue
+-- the records of a name with these servers are added: these, and the DS that these rows give; and
+-- nothing without a server
+abbrev pub AddsServed : List ℕ → List RowValue → List (List ℕ) → RecordsValue → RecordsValue
     → Type 0
-AddsDelegation z name texts before after = MatchBool (has_place z name)
-    ((hosts : List (List ℕ)) × (signers : List Ds)
-    × GivesEach (Itself (IsUsable z name)) texts hosts
-    × (after ≡ with_records before (delegation_records before.ttl name hosts signers)))
+AddsServed name rows [] before after = after ≡ before
+AddsServed name rows (host ∷ hosts) before after = (signers : List Ds)
+    × AreSigners name rows signers × (after ≡ with_records before
+    (server_records before.ttl name (host ∷ hosts) ++ signer_records before.ttl name signers))
+
+-- the records of a name with these child rows, whose servers have these texts, are added: those of
+-- its servers that are written; and nothing if the name has no place in the zone
+abbrev pub AddsDelegation : ZoneNotes → List ℕ → List RowValue → List (List ℕ) → RecordsValue
+    → RecordsValue → Type 0
+AddsDelegation z name rows texts before after = MatchBool (has_place z name)
+    ((hosts : List (List ℕ)) × GivesEach (Itself (IsUsable z name)) texts hosts
+    × AddsServed name rows hosts before after)
     (after ≡ before)
 
 -- the records of a domain with this name and these child rows are added: none, if its statuses keep
@@ -94,5 +97,5 @@ AddsDelegation z name texts before after = MatchBool (has_place z name)
 abbrev pub AddsDomain : ZoneNotes → List ℕ → List RowValue → RecordsValue → RecordsValue → Type 0
 AddsDomain z name rows before after = MatchOption (hold_of rows)
     ((texts : List (List ℕ)) × IsOrderedOnce name_cmp (server_texts rows) texts
-    × AddsDelegation z name texts before after)
+    × AddsDelegation z name rows texts before after)
     (λ hold. after ≡ before)

@@ -1,5 +1,5 @@
 -- Fields of rows, by the names that the tables of RFC 9022's objects have here.
-use Rattle.std.specs.Prelude.{ℕ, ◌-◌, Bool, ◌==◌, ◌&&◌, if◌then◌else◌, List, [], map}
+use Rattle.std.specs.Prelude.{ℕ, ◌-◌, Bool, not, ◌==◌, ◌&&◌, if◌then◌else◌, List, [], map}
 use Rattle.std.specs.Prelude.{length, take, slice_index}
 use Rattle.std.specs.List.{list_any}
 use Rattle.std.specs.Option.{unwrap_or}
@@ -11,6 +11,10 @@ use Rattle.esc_tables.specs.ObjectValue.{RowValue}
 -- the text of a field in a row: that of its first cell, and empty where there is none
 abbrev pub cell : List ℕ → RowValue → List ℕ
 cell field r = unwrap_or (lookup (bytes_eq field) r.cells) []
+
+-- whether a row has a text in a field
+abbrev pub has_text : List ℕ → RowValue → Bool
+has_text field r = not (length (cell field r) == 0)
 
 -- a text with ASCII letters in lower case
 abbrev pub lowered : List ℕ → List ℕ

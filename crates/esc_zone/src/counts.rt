@@ -65,6 +65,13 @@ impl Counts {
         }
     }
 
+    /// Counts a DS that a row gives, if it is made of a key.
+    pub(crate) fn add_given(&mut self, is_of_key: bool) {
+        if is_of_key {
+            add(&mut self.signers_of_keys);
+        }
+    }
+
     // The lines of domains.
     fn fmt_domains<W: fmt::Write>(&self, f: &mut fmt::Formatter<W>) -> fmt::Result {
         writeln!(f, "domains {}", self.domains)?;

@@ -79,7 +79,7 @@ impl Draft {
         sheet: &mut Sheet,
     ) -> Result<Outcome, Halt>
         ensures noted { OnOk result (zone_notes self.new ≡ zone_notes self.old) }
-        ensures records { OnOk result (AddsDelegation (zone_notes self.old) text.now
+        ensures records { OnOk result (AddsDelegation (zone_notes self.old) text.now rows.now
             (texts_of servers.now) sheet.old.records sheet.new.records) }
     {
         let Some(name) = self.name_for(text, sheet)? else {

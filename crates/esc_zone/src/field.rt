@@ -2,7 +2,7 @@
 
 ghost use Rattle.std.specs.Prelude.{◌≡◌};
 ghost use Rattle.std.specs.Str.{bytes_eq};
-ghost use Rattle.esc_zone.specs.Fields.{cell, lowered, has_word, has_child_word};
+ghost use Rattle.esc_zone.specs.Fields.{cell, has_text, lowered, has_word, has_child_word};
 
 use esc_tables::Row;
 
@@ -11,6 +11,13 @@ pub(crate) fn cell<'a>(row: &'a Row, field: &str) -> &'a str
     ensures { result.now ≡ cell field.now row.now }
 {
     row.text(field).unwrap_or("")
+}
+
+/// Whether a row has a text in a field.
+pub(crate) fn has_text(row: &Row, field: &str) -> bool
+    ensures { result ≡ has_text field.now row.now }
+{
+    !cell(row, field).is_empty()
 }
 
 /// Whether two texts are the same but for the case of ASCII letters.

@@ -141,19 +141,20 @@
 //!   record says a name server, a [`Ds`] or an IP address, so no other byte of a deposit is in the
 //!   zone. Each pass over objects adds such lines to it, and nothing else (`write_domains`,
 //!   `write_mirrors`, `write_glue`).
-//! - A [`Ds`] is that of its row's texts, with the bytes that its type has; or that of its row's
-//!   key: tag, and SHA-256 of the name on the wire with the key's data (RFC 4034, section 5.1.4).
+//! - A [`Ds`] is that of its row's texts, with the bytes that its type has; or, of a row without
+//!   them, that of its zone key: tag, and SHA-256 of the name on the wire with the key's data (RFC
+//!   4034, section 5.1.4). Each row of `secDNS` that has one gives it (`IsSigner`).
 //! - `Draft::write_domain` says which records a domain adds (`AddsDomain`), by what the draft has
 //!   noted: an NS for each of its servers that is written, by the bytes of its name, each once; and
-//!   DS of its own name alone, and only where there is an NS. It adds none where its statuses keep
-//!   it out, where its name has no place in the zone, or where no server is left.
+//!   then, of its own name, the DS that its rows give (`AreSigners`), no others, in order, each once.
+//!   It adds none where its statuses keep it out, where its name has no place in the zone, or where
+//!   no server is left.
 //! - A server is written (`IsUsable`) if its text is a name, and it is outside of the zone, or the
 //!   zone has an address of it, or another delegation has it.
 //!
-//! Tested alone: what the draft notes before, which rows give a DS, the servers of mirrored names,
-//! which addresses are written, what is told, and the operator's file. `specs/` has the
-//! definitions, by name: `Names`, `Addresses`, `Fields`, `Statuses`, `Records`, `Signers`,
-//! `Drafts`, `Delegations`, `Lists`.
+//! Tested alone: what the draft notes before, the servers of mirrored names, which addresses are
+//! written, what is told, and the operator's file. `specs/` has the definitions, by name: `Names`,
+//! `Addresses`, `Fields`, `Statuses`, `Records`, `Signers`, `Drafts`, `Delegations`, `Lists`.
 #![tactic(auto)]
 
 mod address;

@@ -151,8 +151,8 @@ pub(crate) fn after_dot(text: &[u8]) -> Option<&[u8]>
     }
 }
 
-// The place of the first dot.
-fn first_dot(text: &[u8]) -> Option<usize>
+/// The place of the first dot.
+pub(crate) fn first_dot(text: &[u8]) -> Option<usize>
     ensures place { result ≡ position is_dot text.now }
     ensures within { IfSome result (λ at. at < length text.now) }
 {

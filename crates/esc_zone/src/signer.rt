@@ -1,15 +1,20 @@
 //! DS records: those that a row has, and those that are made of its key.
 
-ghost use Rattle.std.specs.Prelude.{◌≡◌, ◌≢◌, ◌≤◌, ◌<◌, ◌+◌, ◌++◌, ◌∷◌, ◌^◌, IfOk, IfSome, OnOk, Ok, length, true};
+ghost use Rattle.std.specs.Prelude.{◌≡◌, ◌≢◌, ◌≤◌, ◌<◌, ◌+◌, ◌++◌, [], ◌∷◌, ◌^◌, IfOk, OnOk, length};
+ghost use Rattle.std.specs.Prelude.{List, ℕ, MatchResult, filter, not};
+ghost use Rattle.esc_zone.specs.declared.signer.Given.{Given};
 ghost use Rattle.std.specs.List.{list_all};
 ghost use Rattle.std.specs.Char.{is_ascii_digit};
-ghost use Rattle.hex.specs.Hex.{decode_of};
 ghost use Rattle.sha2.specs.Sha256.{sha256};
-ghost use Rattle.esc_zone.specs.Signers.{IsNumber, IsGivenDs, IsKeyDs, digest_length};
+ghost use Rattle.esc_zone.specs.Lists.{GivesOne};
+ghost use Rattle.esc_zone.specs.Signers.{IsNumber, IsDigest, IsGivenDs, IsKeyDs, digest_length};
+ghost use Rattle.esc_zone.specs.Signers.{Reads, ReadsOne, IsKeyText, IsRowKeyDs, IsRowGivenDs};
+ghost use Rattle.esc_zone.specs.Signers.{IsSigner, no_memory, wire_name, is_blank, is_zone_key};
+ghost use Rattle.esc_zone.specs.Signers.{has_ds_text, has_key_text};
 ghost use Rattle.esc_zone.specs.Signers.{key_data, key_tag, tag_sum};
 
-use crate::field::cell;
-use crate::name::Name;
+use crate::field::{cell, has_text};
+use crate::name::{Name, first_dot};
 use base64::DecodeAllocError;
 use base64::engine::general_purpose::STANDARD;
 use esc_bundle::NoMemory;
@@ -77,18 +82,24 @@ impl fmt::Display for DsFault<'_> {
 }
 
 impl From<NoMemory> for DsFault<'_> {
+    ghost from_gives = { λ _ fault. fault ≡ no_memory };
+
     fn from(_refused: NoMemory) -> Self {
         DsFault::NoMemory
     }
 }
 
 impl From<AllocError> for DsFault<'_> {
+    ghost from_gives = { λ _ fault. fault ≡ no_memory };
+
     fn from(_refused: AllocError) -> Self {
         DsFault::NoMemory
     }
 }
 
 impl<T: Drop> From<AllocFailed<T>> for DsFault<'_> {
+    ghost from_gives = { λ _ fault. fault ≡ no_memory };
+
     fn from(_refused: AllocFailed<T>) -> Self {
         DsFault::NoMemory
     }
@@ -103,9 +114,9 @@ pub(crate) fn are_digits(text: &[u8]) -> bool
 
 // The number that a text is, up to this one.
 fn number(text: &str, most: u32) -> Option<u32>
-    ensures { IfSome result (λ n. IsNumber most text.now n) }
+    ensures { GivesOne (IsNumber most) text.now result }
 {
-    if text.len() > 10 || !are_digits(text.as_bytes()) {
+    if text.is_empty() || text.len() > 10 || !are_digits(text.as_bytes()) {
         return None;
     }
     match text.parse::<u32>() {
@@ -116,7 +127,7 @@ fn number(text: &str, most: u32) -> Option<u32>
 
 // A number of two bytes.
 fn short(text: &str) -> Result<u16, DsFault<'_>>
-    ensures { IfOk result (λ n. IsNumber 0xffff text.now n) }
+    ensures { Reads (IsNumber 0xffff text.now) result }
 {
     match number(text, 0xffff) {
         Some(value) => Ok(value as u16),
@@ -126,7 +137,7 @@ fn short(text: &str) -> Result<u16, DsFault<'_>>
 
 // A number of one byte.
 fn byte(text: &str) -> Result<u8, DsFault<'_>>
-    ensures { IfOk result (λ n. IsNumber 0xff text.now n) }
+    ensures { Reads (IsNumber 0xff text.now) result }
 {
     match number(text, 0xff) {
         Some(value) => Ok(value as u8),
@@ -147,8 +158,7 @@ fn digest_length(kind: u8) -> Option<usize>
 
 // The digest of so many bytes that a text has.
 fn digest_in(alloc: Global, text: &str, bytes: usize) -> Result<Vec<u8>, DsFault<'_>>
-    ensures text { IfOk result (λ digest. decode_of text.now ≡ Ok digest.items) }
-    ensures whole { IfOk result (λ digest. length digest.items ≡ bytes) }
+    ensures { Reads (λ digest. IsDigest text.now bytes digest.items) result }
 {
     match hex::decode(alloc, text.as_bytes()) {
         Ok(digest) if digest.len() == bytes => Ok(digest),
@@ -165,7 +175,7 @@ pub(crate) fn given_ds<'a>(
     kind: &'a str,
     digest: &'a str,
 ) -> Result<Ds, DsFault<'a>>
-    ensures { IfOk result (λ ds. IsGivenDs tag.now algorithm.now kind.now digest.now ds) }
+    ensures { Reads (IsGivenDs tag.now algorithm.now kind.now digest.now) result }
 {
     let tag = short(tag)?;
     let algorithm = byte(algorithm)?;
@@ -182,11 +192,16 @@ pub(crate) fn given_ds<'a>(
 }
 
 // A name on the wire (RFC 1035, section 3.1).
-fn wire_name(alloc: Global, name: &Name) -> Result<Vec<u8>, NoMemory> {
+fn wire_name(alloc: Global, name: &Name) -> Result<Vec<u8>, NoMemory>
+    ensures { IfOk result (λ wire. wire.items ≡ wire_name name.now) }
+{
     let mut wire = Vec::new(alloc);
-    for label in name.text().split('.') {
-        push_label(&mut wire, label.as_bytes())?;
+    let mut rest = name.as_bytes();
+    while let Some(at) = first_dot(rest) {
+        push_label(&mut wire, &rest[..at])?;
+        rest = &rest[at + 1..];
     }
+    push_label(&mut wire, rest)?;
     wire.push(0)?;
     Ok(wire)
 }
@@ -211,8 +226,8 @@ fn key_data(alloc: Global, flags: u16, algorithm: u8, key: &[u8]) -> Result<Vec<
     Ok(bytes)
 }
 
-/// The most bytes of a key's data: those of a record.
-const MOST_DATA: usize = 65_535;
+/// The most bytes of a key: with the other four of its data those of a record.
+const MOST_KEY: usize = 65_531;
 
 // The tag of a key's data (RFC 4034, appendix B).
 fn key_tag(bytes: &[u8]) -> u16
@@ -266,34 +281,59 @@ pub(crate) struct Given {
     pub(crate) is_of_key: bool,
 }
 
-// Whether a row has a text in one of these fields.
-fn has_text(row: &Row, fields: &[&str]) -> bool {
-    fields.iter().any(|field| !cell(row, field).is_empty())
-}
-
-/// The DS of a name that a row of `secDNS` gives, if it gives one.
+/// The DS of a name that a row gives, if it gives one.
 pub(crate) fn ds_of_row<'a>(
     alloc: Global,
     name: &Name,
     row: &'a Row,
-) -> Result<Option<Given>, DsFault<'a>> {
-    if has_text(row, &["keyTag", "dsAlg", "digestType", "digest"]) {
-        let ds = given_ds(
-            alloc,
-            cell(row, "keyTag"),
-            cell(row, "dsAlg"),
-            cell(row, "digestType"),
-            cell(row, "digest"),
-        )?;
+) -> Result<Option<Given>, DsFault<'a>>
+    ensures { ReadsOne (λ row (given : Given). IsSigner name.now row given.ds) row.now result }
+{
+    if row.table() != "secDNS" {
+        return Ok(None);
+    }
+    if has_ds_text(row) {
+        let ds = ds_of_texts(alloc, row)?;
         let is_of_key = false;
         return Ok(Some(Given { ds, is_of_key }));
     }
-    if has_text(row, &["flags", "protocol", "keyAlg", "pubKey"]) {
+    if has_key_text(row) {
         let ds = ds_of_key_row(alloc, name, row)?;
         let is_of_key = true;
         return Ok(Some(Given { ds, is_of_key }));
     }
     Ok(None)
+}
+
+fn has_ds_text(row: &Row) -> bool
+    ensures { result ≡ has_ds_text row.now }
+{
+    has_text(row, "keyTag")
+        || has_text(row, "dsAlg")
+        || has_text(row, "digestType")
+        || has_text(row, "digest")
+}
+
+fn has_key_text(row: &Row) -> bool
+    ensures { result ≡ has_key_text row.now }
+{
+    has_text(row, "flags")
+        || has_text(row, "protocol")
+        || has_text(row, "keyAlg")
+        || has_text(row, "pubKey")
+}
+
+// The DS whose texts a row has.
+fn ds_of_texts<'a>(alloc: Global, row: &'a Row) -> Result<Ds, DsFault<'a>>
+    ensures { Reads (IsRowGivenDs row.now) result }
+{
+    given_ds(
+        alloc,
+        cell(row, "keyTag"),
+        cell(row, "dsAlg"),
+        cell(row, "digestType"),
+        cell(row, "digest"),
+    )
 }
 
 /// The flag of a zone's key (RFC 4034, section 2.1.1).
@@ -302,8 +342,16 @@ const ZONE_KEY: u16 = 0x0100;
 /// The flag of a revoked key (RFC 5011, section 7).
 const REVOKED: u16 = 0x0080;
 
+fn is_zone_key(flags: u16) -> bool
+    ensures { result ≡ is_zone_key flags }
+{
+    flags & ZONE_KEY != 0 && flags & REVOKED == 0
+}
+
 // The DS of the key that a row has.
-fn ds_of_key_row<'a>(alloc: Global, name: &Name, row: &'a Row) -> Result<Ds, DsFault<'a>> {
+fn ds_of_key_row<'a>(alloc: Global, name: &Name, row: &'a Row) -> Result<Ds, DsFault<'a>>
+    ensures { Reads (IsRowKeyDs name.now row.now) result }
+{
     let flags = short(cell(row, "flags"))?;
     let protocol = byte(cell(row, "protocol"))?;
     let algorithm = byte(cell(row, "keyAlg"))?;
@@ -313,28 +361,51 @@ fn ds_of_key_row<'a>(alloc: Global, name: &Name, row: &'a Row) -> Result<Ds, DsF
             algorithm,
         });
     }
-    if flags & ZONE_KEY == 0 || flags & REVOKED != 0 {
+    if !is_zone_key(flags) {
         return Err(DsFault::Flags(flags));
     }
     let key = key_in(alloc, cell(row, "pubKey"))?;
-    if key.is_empty() || key.len() > MOST_DATA - 4 {
-        return Err(DsFault::Key);
-    }
     let wire = wire_name(alloc, name)?;
     Ok(ds_of_key(alloc, &wire, flags, algorithm, &key)?)
 }
 
-// The bytes of a text in base64, in which white space says nothing (RFC 4034, section 2.2).
-fn key_in<'a>(alloc: Global, text: &'a str) -> Result<Vec<u8>, DsFault<'a>> {
+fn is_blank(byte: u8) -> bool
+    ensures { result ≡ is_blank byte }
+{
+    matches!(byte, b' ' | b'\t' | b'\r' | b'\n')
+}
+
+// The bytes of a text without white space.
+fn without_blanks(alloc: Global, text: &[u8]) -> Result<Vec<u8>, NoMemory>
+    ensures { IfOk result (λ signs. signs.items ≡ filter (λ b. not (is_blank b)) text.now) }
+{
     let mut signs = Vec::new(alloc);
-    for sign in text.bytes() {
-        if !matches!(sign, b' ' | b'\t' | b'\r' | b'\n') {
-            signs.push(sign)?;
-        }
+    for sign in text {
+        push_sign(&mut signs, *sign)?;
     }
+    Ok(signs)
+}
+
+// Adds a byte, if it is no white space.
+fn push_sign(signs: &mut Vec<u8>, sign: u8) -> Result<(), NoMemory>
+    ensures { OnOk result (signs.new.items
+        ≡ signs.old.items ++ filter (λ b. not (is_blank b)) (sign ∷ [])) }
+{
+    if !is_blank(sign) {
+        signs.push(sign)?;
+    }
+    Ok(())
+}
+
+// The key that a text in base64 is, in which white space says nothing (RFC 4034, section 2.2).
+fn key_in<'a>(alloc: Global, text: &'a str) -> Result<Vec<u8>, DsFault<'a>>
+    ensures { MatchResult result (λ key. IsKeyText text.now key.items)
+        (λ fault. fault ≢ no_memory → (key : List ℕ) → IsKeyText text.now key → ⊥) }
+{
+    let signs = without_blanks(alloc, text.as_bytes())?;
     match STANDARD.decode(alloc, signs.as_slice()) {
-        Ok(key) => Ok(key),
+        Ok(key) if !key.is_empty() && key.len() <= MOST_KEY => Ok(key),
         Err(DecodeAllocError::OutOfMemory) => Err(DsFault::NoMemory),
-        Err(_) => Err(DsFault::Key),
+        _ => Err(DsFault::Key),
     }
 }
