@@ -5,7 +5,7 @@ use Rattle.esc_tables.specs.ObjectValue.{RowValue}
 use Rattle.esc_zone.specs.declared.signer.Ds.{Ds}
 use Rattle.esc_zone.specs.declared.signer.DsFault.{DsFault}
 use Rattle.esc_zone.specs.declared.signer.Given.{Given}
-use Rattle.esc_zone.specs.Fields.{cell}
+use Rattle.esc_zone.specs.Fields.{first_text}
 use Rattle.esc_zone.specs.Lists.{GivesOne}
 use Rattle.esc_zone.specs.Signers.{Reads, IsNumber, IsKeyText, IsRowKeyDs, IsSigner, no_memory}
 
@@ -16,23 +16,23 @@ passed_on P fault (Ok y) a h = absurd a
 passed_on {Y} P fault (Err e) a h = subst (λ (f : DsFault). f ≢ no_memory → (y : Y) → P y → ⊥) (sym a) h
 
 -- a row whose text of this field is no number gives no DS of a key
-pub without_flags : (name : List ℕ) (row : RowValue) (text : List ℕ) → text ≡ cell (codes "flags") row
+pub without_flags : (name : List ℕ) (row : RowValue) (text : List ℕ) → text ≡ first_text (codes "flags") row
     → ((n : ℕ) → IsNumber 0xffff text n → ⊥) → (ds : Ds) → IsRowKeyDs name row ds → ⊥
 without_flags name row text e none ds k =
     none k.flags (subst (λ (t : List ℕ). IsNumber 0xffff t k.flags) (sym e) k.of_flags)
 
-pub without_protocol : (name : List ℕ) (row : RowValue) (text : List ℕ) → text ≡ cell (codes "protocol") row
+pub without_protocol : (name : List ℕ) (row : RowValue) (text : List ℕ) → text ≡ first_text (codes "protocol") row
     → ((n : ℕ) → IsNumber 0xff text n → ⊥) → (ds : Ds) → IsRowKeyDs name row ds → ⊥
 without_protocol name row text e none ds k =
     none 3 (subst (λ (t : List ℕ). IsNumber 0xff t 3) (sym e) k.of_protocol)
 
-pub without_algorithm : (name : List ℕ) (row : RowValue) (text : List ℕ) → text ≡ cell (codes "keyAlg") row
+pub without_algorithm : (name : List ℕ) (row : RowValue) (text : List ℕ) → text ≡ first_text (codes "keyAlg") row
     → ((n : ℕ) → IsNumber 0xff text n → ⊥) → (ds : Ds) → IsRowKeyDs name row ds → ⊥
 without_algorithm name row text e none ds k =
     none ds.algorithm (subst (λ (t : List ℕ). IsNumber 0xff t ds.algorithm) (sym e) k.of_algorithm)
 
 -- nor does one whose key is none
-pub without_key : (name : List ℕ) (row : RowValue) (text : List ℕ) → text ≡ cell (codes "pubKey") row
+pub without_key : (name : List ℕ) (row : RowValue) (text : List ℕ) → text ≡ first_text (codes "pubKey") row
     → ((key : List ℕ) → IsKeyText text key → ⊥) → (ds : Ds) → IsRowKeyDs name row ds → ⊥
 without_key name row text e none ds k =
     none k.key (subst (λ (t : List ℕ). IsKeyText t k.key) (sym e) k.of_key)

@@ -7,7 +7,7 @@ use Rattle.std.specs.List.{flat_map}
 use Rattle.std.specs.declared.alloc.Global.{Global}
 use Rattle.esc_tables.specs.ObjectValue.{RowValue}
 use Rattle.esc_zone.specs.Drafts.{ZoneNotes, HasGlue, cut_of, cut_above, is_inside}
-use Rattle.esc_zone.specs.Fields.{cell, normal}
+use Rattle.esc_zone.specs.Fields.{first_text, normal}
 use Rattle.esc_zone.specs.Names.{is_below, is_server_name, is_name_with, name_cmp}
 use Rattle.esc_zone.specs.Records.{RecordValue, RecordsValue, record_text}
 use Rattle.esc_zone.specs.Records.Data.{server, signer}
@@ -27,7 +27,7 @@ kept_out None none = if none then Some WithoutServers else None
 -- the text of the server that a row of a domain says, if it says one
 abbrev pub server_text : RowValue → Option (List ℕ)
 server_text row =
-    let text = cell (codes "hostName") row in
+    let text = first_text (codes "hostName") row in
     if (bytes_eq row.table (codes "domainNs") || bytes_eq row.table (codes "domainHostAttr"))
     && not (length text == 0) then Some (normal text) else None
 

@@ -9,12 +9,12 @@ use Rattle.std.specs.Char.{to_ascii_lowercase}
 use Rattle.esc_tables.specs.ObjectValue.{RowValue}
 
 -- the text of a field in a row: that of its first cell, and empty where there is none
-abbrev pub cell : List ℕ → RowValue → List ℕ
-cell field r = unwrap_or (lookup (bytes_eq field) r.cells) []
+abbrev pub first_text : List ℕ → RowValue → List ℕ
+first_text field r = unwrap_or (lookup (bytes_eq field) r.cells) []
 
 -- whether a row has a text in a field
 abbrev pub has_text : List ℕ → RowValue → Bool
-has_text field r = not (length (cell field r) == 0)
+has_text field r = not (length (first_text field r) == 0)
 
 -- a text with ASCII letters in lower case
 abbrev pub lowered : List ℕ → List ℕ
@@ -31,7 +31,7 @@ normal text = lowered (without_dot text)
 
 -- whether a row of this table has this word in this field, letters of either case
 abbrev pub has_word : List ℕ → List ℕ → List ℕ → RowValue → Bool
-has_word table field word r = bytes_eq r.table table && bytes_eq (lowered (cell field r)) (lowered word)
+has_word table field word r = bytes_eq r.table table && bytes_eq (lowered (first_text field r)) (lowered word)
 
 -- whether a child row of an object has this word in this field of this table
 abbrev pub has_child_word : List ℕ → List ℕ → List ℕ → List RowValue → Bool

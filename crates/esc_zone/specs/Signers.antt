@@ -19,7 +19,7 @@ use Rattle.esc_tables.specs.ObjectValue.{RowValue}
 use Rattle.esc_zone.specs.declared.signer.Ds.{Ds}
 use Rattle.esc_zone.specs.declared.signer.DsFault.{DsFault}
 use Rattle.esc_zone.specs.declared.signer.DsFault.TheVariants.{NoMemory}
-use Rattle.esc_zone.specs.Fields.{cell, has_text}
+use Rattle.esc_zone.specs.Fields.{first_text, has_text}
 use Rattle.esc_zone.specs.Lists.{GivesOne, GivesEach, IsOrderedOnce}
 use Rattle.esc_zone.specs.Names.{is_dot}
 
@@ -103,12 +103,12 @@ is_zone_key flags = not (bit_and flags 256 == 0) && (bit_and flags 128 == 0)
 pub record IsRowKeyDs (name : List ℕ) (row : RowValue) (ds : Ds) : Type 0 where
   pub flags : ℕ
   pub key : List ℕ
-  pub of_flags : IsNumber 0xffff (cell (codes "flags") row) flags
-  pub of_protocol : IsNumber 0xff (cell (codes "protocol") row) 3
-  pub of_algorithm : IsNumber 0xff (cell (codes "keyAlg") row) ds.algorithm
+  pub of_flags : IsNumber 0xffff (first_text (codes "flags") row) flags
+  pub of_protocol : IsNumber 0xff (first_text (codes "protocol") row) 3
+  pub of_algorithm : IsNumber 0xff (first_text (codes "keyAlg") row) ds.algorithm
   pub used : ds.algorithm ≢ 0
   pub of_zone : is_zone_key flags ≡ true
-  pub of_key : IsKeyText (cell (codes "pubKey") row) key
+  pub of_key : IsKeyText (first_text (codes "pubKey") row) key
   pub of_ds : IsKeyDs (wire_name name) flags ds.algorithm key ds
 
 -- whether a row has one of the texts of a DS, or of a key
@@ -122,8 +122,8 @@ has_key_text row = has_text (codes "flags") row || has_text (codes "protocol") r
 
 -- the DS of a name that a row gives by the texts of a DS
 abbrev pub IsRowGivenDs : RowValue → Ds → Type 0
-IsRowGivenDs row ds = IsGivenDs (cell (codes "keyTag") row) (cell (codes "dsAlg") row)
-    (cell (codes "digestType") row) (cell (codes "digest") row) ds
+IsRowGivenDs row ds = IsGivenDs (first_text (codes "keyTag") row) (first_text (codes "dsAlg") row)
+    (first_text (codes "digestType") row) (first_text (codes "digest") row) ds
 
 -- the DS of a name that a row gives: by the texts of a DS, if it has one of these, else of a key
 abbrev pub IsSigner : List ℕ → RowValue → Ds → Type 0

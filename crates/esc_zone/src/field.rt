@@ -2,13 +2,13 @@
 
 ghost use Rattle.std.specs.Prelude.{◌≡◌};
 ghost use Rattle.std.specs.Str.{bytes_eq};
-ghost use Rattle.esc_zone.specs.Fields.{cell, has_text, lowered, has_word, has_child_word};
+ghost use Rattle.esc_zone.specs.Fields.{first_text, has_text, lowered, has_word, has_child_word};
 
 use esc_tables::Row;
 
 /// The text of a field in a row: that of its first cell, and empty where there is none.
 pub(crate) fn cell<'a>(row: &'a Row, field: &str) -> &'a str
-    ensures { result.now ≡ cell field.now row.now }
+    ensures { result.now ≡ first_text field.now row.now }
 {
     row.text(field).unwrap_or("")
 }
