@@ -1,7 +1,8 @@
 //! What the deposits of a chain make.
 
-ghost use Rattle.std.specs.Prelude.{◌≡◌, ◌++◌, ◌∷◌, [], ℕ, List, Option, option_map, OnOk};
+ghost use Rattle.std.specs.Prelude.{◌≡◌, ◌+◌, ◌++◌, ◌∷◌, [], ℕ, List, Option, option_map, OnOk};
 ghost use Rattle.esc_tables.specs.DepositValue.{DepositValue};
+ghost use Rattle.esc_apply.specs.Registry.{saturated};
 ghost use Rattle.esc_acceptance.specs.Chains.{AreFactsOf};
 ghost use Rattle.esc_acceptance.specs.Rebuilt.{AreTablesOf};
 
@@ -17,7 +18,7 @@ use std::collections::BTreeMap;
 pub struct ChainFacts {
     /// The tables that they make.
     pub objects: BTreeMap<Key, Object>,
-    /// How many orphans they have.
+    /// How many orphans they have; 2^64 - 1 also stands for more.
     pub orphans: u64,
     /// Whether the body of each is there, and is a deposit.
     pub are_read: bool,
@@ -63,6 +64,7 @@ impl ChainFacts {
         ensures made { OnOk result ((c : List DepositValue)
             → AreTablesOf c self.old.objects.entries
             → AreTablesOf (c ++ deposit ∷ []) self.new.objects.entries) }
+        ensures orphans { self.new.orphans ≡ saturated (self.old.orphans + deposit.orphans) }
     {
         self.orphans = self.orphans.saturating_add(deposit.orphans);
         apply_deposit(&mut self.objects, deposit)

@@ -37,8 +37,9 @@
 //! and dates, which objects have them, and what looks like one of them under another name.
 //!
 //! `specs/Chains.antt` says what the bodies of a chain make: at each `add` whether all of them are
-//! deposits, and then their tables, which `specs/Rebuilt.antt` has as entries. `are_listed` is true
-//! only of a source that lists just these. `specs/Listed.antt` says when a body is as listed.
+//! deposits, and then their tables, which `specs/Rebuilt.antt` has as entries; and how many orphans
+//! the deposits have. `are_listed` is true only of a source that lists just these tables.
+//! `specs/Listed.antt` says when a body is as listed.
 //! `gaps_of` and `is_latest` go by `esc_chain`. `specs/Remarks.antt` has the TLD of an envelope; that
 //! [`Tlds`] has those of all bodies, and which notes there are, is tested.
 #![tactic(auto)]
