@@ -14,7 +14,7 @@ use Rattle.esc_apply.specs.Registry.{saturated}
 use Rattle.esc_deposit.specs.declared.cut.Size.{Size}
 use Rattle.esc_deposit.specs.declared.cut.TheConstants.{MOST_ROW_BYTES}
 use Rattle.esc_deposit.specs.RegistrySeries.{run_objects}
-use Rattle.esc_deposit.specs.Cuts.{object_rows, object_bound, run_rows, run_bound, FitsBundle, IsRun, AreFull}
+use Rattle.esc_deposit.specs.Cuts.{object_row_count, object_bound, run_rows, run_bound, FitsBundle, IsRun, AreFull}
 use Rattle.esc_deposit.specs.Cuts.{AreCutInto}
 use Rattle.esc_deposit.specs.CutSoFar.{IsCutSoFar}
 
@@ -39,7 +39,7 @@ joined runs run =
 -- each object has a row
 rows_least : (run : List Entry) → length run ≤ run_rows run
 rows_least [] = omega arith
-rows_least (e ∷ run) = omega (arith, sum_by-cons (λ (x : Entry). object_rows x.1) e run, rows_least run)
+rows_least (e ∷ run) = omega (arith, sum_by-cons (λ (x : Entry). object_row_count x.1) e run, rows_least run)
 
 -- so a run has no more objects than a bundle has rows
 few : (run : List Entry) → IsRun run → length run ≤ MOST_ROWS
@@ -117,13 +117,13 @@ taken_begun runs run e (inr all) some = All-push IsRun (runs ++ run ∷ []) (e �
 
 -- ---- one more object
 
-module _ (e : Entry) (one : Size) (own_rows : one.rows ≡ saturated (object_rows e.1))
+module _ (e : Entry) (one : Size) (own_rows : one.rows ≡ saturated (object_row_count e.1))
     (own_bytes : one.bytes ≡ saturated (object_bound e.1)) where
   -- the rows of a run with the object
   more_rows : (run : List Entry) (size next : Size) → size.rows ≡ saturated (run_rows run)
       → next.rows ≡ saturated (size.rows + one.rows) → next.rows ≡ saturated (run_rows (run ++ e ∷ []))
   more_rows run size next was is =
-      omega (arith, sum_by_push (λ (x : Entry). object_rows x.1) run e, was, is, own_rows)
+      omega (arith, sum_by_push (λ (x : Entry). object_row_count x.1) run e, was, is, own_rows)
 
   -- and the bytes
   more_bytes : (run : List Entry) (size next : Size) → size.bytes ≡ saturated (run_bound run)
@@ -185,7 +185,7 @@ module _ (e : Entry) (one : Size) (own_rows : one.rows ≡ saturated (object_row
       each = map-append length far.runs (far.run ∷ []) ∙ ap (λ (l : List ℕ). l ++ length far.run ∷ []) far.each
           ∙ ap (λ (k : ℕ). lengths ++ k ∷ []) far.long;
       long = omega arith;
-      rows = omega (arith, sum_by-cons (λ (x : Entry). object_rows x.1) e [], own_rows);
+      rows = omega (arith, sum_by-cons (λ (x : Entry). object_row_count x.1) e [], own_rows);
       bytes = omega (arith, sum_by-cons (λ (x : Entry). object_bound x.1) e [], own_bytes);
       taken = inr (taken_begun far.runs far.run e far.taken (λ none. some (sym far.long ∙ none)));
       full = full_begun far.runs far.run e far.full (λ fits. over (within_of fits));

@@ -17,8 +17,8 @@ abbrev pub row_bound : RowValue → ℕ
 row_bound row = sum_by (λ (c : List ℕ × List ℕ). text_bound c.1) row.cells
 
 -- how many rows an object has: its parent row and its child rows
-abbrev pub object_rows : ObjectValue → ℕ
-object_rows o = 1 + length o.children
+abbrev pub object_row_count : ObjectValue → ℕ
+object_row_count o = 1 + length o.children
 
 -- the most bytes of their lines
 abbrev pub object_bound : ObjectValue → ℕ
@@ -26,7 +26,7 @@ object_bound o = row_bound o.parent + sum_by row_bound o.children
 
 -- how many rows objects have
 abbrev pub run_rows : List Entry → ℕ
-run_rows run = sum_by (λ (e : Entry). object_rows e.1) run
+run_rows run = sum_by (λ (e : Entry). object_row_count e.1) run
 
 -- the most bytes of their lines
 abbrev pub run_bound : List Entry → ℕ

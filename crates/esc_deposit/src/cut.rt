@@ -6,7 +6,7 @@ ghost use Rattle.esc_tables.specs.declared.survey.TheConstants.{MOST_ROWS};
 ghost use Rattle.esc_apply.specs.ObjectStreams.{Entry};
 ghost use Rattle.esc_apply.specs.Registry.{saturated};
 ghost use Rattle.esc_deposit.specs.declared.cut.TheConstants.{MOST_ROW_BYTES};
-ghost use Rattle.esc_deposit.specs.Cuts.{text_bound, row_bound, object_rows, object_bound};
+ghost use Rattle.esc_deposit.specs.Cuts.{text_bound, row_bound, object_row_count, object_bound};
 ghost use Rattle.esc_deposit.specs.Cuts.{AreCutInto};
 ghost use Rattle.esc_deposit.specs.CutSoFar.{IsCutSoFar};
 
@@ -74,7 +74,7 @@ fn row_size(row: &Row) -> Size
 }
 
 fn object_size(object: &Object) -> Size
-    ensures rows { result.rows ≡ saturated (object_rows object.now) }
+    ensures rows { result.rows ≡ saturated (object_row_count object.now) }
     ensures bytes { result.bytes ≡ saturated (object_bound object.now) }
 {
     let mut size = row_size(&object.parent);
@@ -96,7 +96,7 @@ impl Cut {
     // Adds an object of this size: to the last run, or to a new one if that could not take it.
     fn add(&mut self, one: Size) -> Result<(), NoMemory>
         ensures { OnOk result ((es : List Entry) (e : Entry)
-            → one.rows ≡ saturated (object_rows e.1) → one.bytes ≡ saturated (object_bound e.1)
+            → one.rows ≡ saturated (object_row_count e.1) → one.bytes ≡ saturated (object_bound e.1)
             → IsCutSoFar es self.old.lengths.items self.old.length self.old.size
             → IsCutSoFar (es ++ e ∷ []) self.new.lengths.items self.new.length self.new.size) }
     {

@@ -2,4 +2,5 @@ pub mod PageRules
 pub mod Picture
 pub mod Restored
 pub mod Titles
+pub mod Watching
 pub mod WorkedSeries

@@ -13,8 +13,8 @@ use Rattle.esc_events.specs.Events.{EventValue, manifest_then}
 use Rattle.esc_deposit.specs.RegistrySeries.{part_header, part_with, part_counts}
 
 -- a domain with this name
-abbrev pub a_domain : List ℕ → Entry
-a_domain name = (
+abbrev pub domain_named : List ℕ → Entry
+domain_named name = (
   record { kind = Domain; text = name },
   record {
     parent = record { table = codes "domain"; cells = (codes "name", name) ∷ [] };
@@ -24,23 +24,23 @@ a_domain name = (
 
 -- a registry of two domains, each of which is one run
 abbrev pub two_domains : List Entry
-two_domains = a_domain (codes "a") ∷ a_domain (codes "b") ∷ []
+two_domains = domain_named (codes "a") ∷ domain_named (codes "b") ∷ []
 
 abbrev pub first_part : DepositValue
 first_part = part_with (codes "F9") (pos 9) 2 0 (part_counts two_domains 2 0)
-    (a_domain (codes "a") ∷ [])
+    (domain_named (codes "a") ∷ [])
 
 abbrev pub last_part : DepositValue
 last_part = part_with (codes "F9") (pos 9) 2 1 (part_counts two_domains 2 1)
-    (a_domain (codes "b") ∷ [])
+    (domain_named (codes "b") ∷ [])
 
 -- the body `2` reads as the last part, and each other one as the first
 abbrev pub reads_part : List ℕ → Result DepositValue Refusal
 reads_part body = if bytes_eq body (codes "2") then Ok last_part else Ok first_part
 
 -- both parts are listed, with the bodies `1` and `2`, each of which is its own digest
-abbrev pub two_rows : List MRow
-two_rows = record { header = part_header (codes "F9") (pos 9) 2 0; digest = codes "1" }
+abbrev pub listed_parts : List MRow
+listed_parts = record { header = part_header (codes "F9") (pos 9) 2 0; digest = codes "1" }
     ∷ record { header = part_header (codes "F9") (pos 9) 2 1; digest = codes "2" } ∷ []
 
 -- what the first one says of itself: a Full, a nanosecond earlier
@@ -63,6 +63,6 @@ last_header = record {
 
 -- the last part came first, then another body, and then the first part
 abbrev pub last_came_first : List EventValue
-last_came_first = manifest_then two_rows
+last_came_first = manifest_then listed_parts
     (an_arrival (codes "7") (codes "2") ∷ an_arrival (codes "8") (codes "x")
     ∷ an_arrival (codes "9") (codes "1") ∷ [])

@@ -10,7 +10,7 @@ ghost use Rattle.esc_handover.specs.Picture.{IsAxis};
 ghost use Rattle.esc_handover.specs.Restored.{FullHasItsObjects, FullIsRestored, SeriesIsRestored};
 ghost use Rattle.esc_handover.specs.WorkedSeries.{first_header, first_part, last_came_first};
 ghost use Rattle.esc_handover.specs.WorkedSeries.{last_header, last_part, reads_part, two_domains};
-ghost use Rattle.esc_handover.specs.WorkedSeries.{two_rows};
+ghost use Rattle.esc_handover.specs.WorkedSeries.{listed_parts};
 
 use esc_deposit::series_has_its_objects;
 
@@ -32,7 +32,7 @@ pub fn series_restores_its_tables()
     ensures restored { SeriesIsRestored }
     ensures parts { registry_series (codes "F9") (pos 9) (map (λ e. e ∷ []) two_domains)
         ≡ first_part ∷ last_part ∷ [] }
-    ensures rows { map (λ r. r.header) two_rows ≡ first_header ∷ last_header ∷ [] }
+    ensures rows { map (λ r. r.header) listed_parts ≡ first_header ∷ last_header ∷ [] }
     ensures held { deposits_of reads_part (held_body (λ body. body) reads_part last_came_first)
         (0 ∷ 1 ∷ []) ≡ first_part ∷ last_part ∷ [] }
 {

@@ -6,13 +6,12 @@
 //! receipts and the parked bodies: the lines, the release as a picture and as a table, the objects
 //! beside the declared numbers, the findings.
 //!
-//! What `handover` does without its store is here, too. [`StoreFacts`] is what a store and its
-//! bodies say: `read_findings` and `are_made_by` find some of it, and `answer_of` makes the lines
-//! or the page of it. `bundle_or_stop` gives the bundle of `esc_deposit`, and `place_file` writes a
-//! file in one step. A [`TableFolder`] is where the files of `esc_table_files` are written, and a
-//! [`SeriesFolder`] where the bundles of a series of `esc_deposit` are, with their manifest. A
-//! [`Progress`] tells on standard error how far that is, where it takes long. A [`Stop`] says what
-//! all of this stops for, in a line and a status.
+//! What `handover` does without its store is here, too. `read_findings` and `are_made_by` find
+//! something in objects as they come. `bundle_or_stop` gives the bundle of `esc_deposit`, and
+//! `place_file` writes a file in one step. A [`TableFolder`] is where the files of
+//! `esc_table_files` are written, and a [`SeriesFolder`] where the bundles of a series of
+//! `esc_deposit` are, with their manifest. A [`Progress`] tells on standard error how far that is,
+//! where it takes long. A [`Stop`] says what all of this stops for, in a line and a status.
 //!
 //! ```text
 //! let page = page_of(alloc, &seen, &receipts, &parked)?;         // HTML, for a browser
@@ -37,11 +36,12 @@
 //!
 //! Of what touches files, a store or standard error it is proved that no call is unsafe and that
 //! each ends: no contract can say what a file holds or what is printed, so that is tested on the
-//! built program. So it is with `files`, `progress`, `reading`, `registry_bundle`, `series_folder`,
-//! `stop` and `table_folder`, with `store_facts` but for `answer_of`, and with what is below `page`
-//! but for `axis`, `group` and `share`.
+//! built program. So it is with `files`, `progress`, `registry_bundle`, `series_folder`, `stop` and
+//! `table_folder`, with `read_layouts`, and with what is below `page` but for `axis`, `group` and
+//! `share`. `read_findings` and `are_made_by` are exact: what is told on the way changes nothing.
 #![tactic(auto)]
 
+mod answer;
 mod files;
 mod laws;
 mod page;
@@ -50,9 +50,9 @@ mod reading;
 mod registry_bundle;
 mod series_folder;
 mod stop;
-mod store_facts;
 mod table_folder;
 
+pub use answer::Answer;
 pub use files::{place_file, unopened_stop};
 pub use laws::{
     full_bundle_restores_its_tables, moments_stand_in_order, series_restores_its_tables,
@@ -63,5 +63,4 @@ pub use reading::{are_made_by, read_findings, read_layouts};
 pub use registry_bundle::{bundle_or_stop, check_object_count, read_lengths, series_of};
 pub use series_folder::SeriesFolder;
 pub use stop::{REFUSED, Stop, or_stop, tell_stop};
-pub use store_facts::{Answer, Form, StoreFacts, answer_of, entries_of};
 pub use table_folder::{TableFolder, check_folder};

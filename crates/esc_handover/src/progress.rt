@@ -1,5 +1,7 @@
 //! How far the work is, told on standard error.
 
+ghost use Rattle.std.specs.Prelude.{◌≡◌};
+
 use esc_apply::Objects;
 use esc_cli::OneLine;
 use esc_tables::{Key, Object};
@@ -76,21 +78,27 @@ impl<'a> Progress<'a> {
 }
 
 /// Objects of which it is told how many came.
-#[derive(Drop)]
-pub(crate) struct Watched<'a, 'p, O: Drop> {
-    objects: O,
+// The names of both references stay as they were, so contracts can say what they lead to once it is
+// dropped.
+pub(crate) struct Watched<'o, 'p, 'a, O> {
+    objects: &'o mut O,
     progress: &'p mut Progress<'a>,
     name: &'p str,
     count: u64,
 }
 
-impl<'a, 'p, O: Drop> Watched<'a, 'p, O> {
+impl<'o, 'p, 'a, O> Watched<'o, 'p, 'a, O> {
+    ghost use Rattle.esc_handover.specs.Watching.{watched_in, borrowed_as};
+
     /// These objects, which are read for a file, a kind or a test of this name.
     pub(crate) fn new(
-        objects: O,
+        objects: &'o mut O,
         progress: &'p mut Progress<'a>,
         name: &'p str,
-    ) -> Watched<'a, 'p, O> {
+    ) -> Watched<'o, 'p, 'a, O>
+        ensures same_reference { borrowed_as result ≡ objects.entry.ghost_name }
+        ensures same { watched_in result ≡ objects.old }
+    {
         Watched {
             objects,
             progress,
@@ -100,20 +108,23 @@ impl<'a, 'p, O: Drop> Watched<'a, 'p, O> {
     }
 }
 
-impl<O: Objects + Drop> Objects for Watched<'_, '_, O> {
+impl<O: Objects> Objects for Watched<'_, '_, '_, O> {
+    ghost use Rattle.std.proofs.Common.{refl, ◌∙◌};
+    ghost use Rattle.esc_handover.specs.Watching.{WatchedFollows, watched_in};
+
     type Error = O::Error;
 
-    ghost lists = { λ w es. O.lists w.objects es };
+    ghost lists = { λ w es. O.lists (watched_in w) es };
 
-    ghost bound = { λ w. O.bound w.objects };
+    ghost bound = { λ w. O.bound (watched_in w) };
 
-    ghost has_failed = { λ w. O.has_failed w.objects };
+    ghost has_failed = { λ w. O.has_failed (watched_in w) };
 
     ghost fails = { λ fault. O.fails fault };
 
-    ghost is_honest = { λ w. O.is_honest w.objects };
+    ghost is_honest = { λ w. O.is_honest (watched_in w) };
 
-    ghost follows = { λ a b. O.follows a.objects b.objects };
+    ghost follows = { λ a b. WatchedFollows O.follows a b };
 
     fn next(&mut self) -> Result<Option<(Key, Object)>, O::Error> {
         self.count = self.count.saturating_add(1);
@@ -123,11 +134,33 @@ impl<O: Objects + Drop> Objects for Watched<'_, '_, O> {
         self.objects.next()
     }
 
-    ghost in_order = { λ w es h. O.in_order w.objects es h };
+    ghost in_order = { λ w es h. O.in_order (watched_in w) es h };
 
-    ghost stays = { λ w. O.stays w.objects };
+    ghost stays = { λ w. record {
+      same_reference = refl;
+      same = O.stays (watched_in w);
+    } };
 
-    ghost goes_on = { λ a b c p q. O.goes_on a.objects b.objects c.objects p q };
+    ghost goes_on = { λ a b c p q. record {
+      same_reference = q.same_reference ∙ p.same_reference;
+      same = O.goes_on (watched_in a) (watched_in b) (watched_in c) p.same q.same;
+    } };
 
-    ghost was_honest = { λ a b p h. O.was_honest a.objects b.objects p h };
+    ghost was_honest = { λ a b p honest.
+        O.was_honest (watched_in a) (watched_in b) p.same honest };
+}
+
+impl<O> Drop for Watched<'_, '_, '_, O> {
+    ghost use Rattle.esc_handover.specs.Watching.{watched_in};
+
+    fn drop(self)
+        ensures { self.exit.0.now ≡ watched_in self.entry }
+    {
+        let Watched {
+            objects: _,
+            progress: _,
+            name: _,
+            count: _,
+        } = self;
+    }
 }

@@ -1,5 +1,14 @@
 //! What is found in objects as they come, while it is told how many were read.
 
+ghost use Rattle.std.specs.Prelude.{◌≡◌, ◌↔◌, true, List, IfOk, IfErr, OnErr};
+ghost use Rattle.std.specs.List.{Contains};
+ghost use Rattle.std.specs.List.Sorted.{IsStrictlySortedBy};
+ghost use Rattle.esc_apply.specs.ObjectStreams.{Entry};
+ghost use Rattle.esc_check.specs.FindingValue.{FindingValue, listing_cmp};
+ghost use Rattle.esc_check.specs.Findings.{IsFinding};
+ghost use Rattle.esc_check.specs.ObjectReports.{IfSource, OfSource};
+ghost use Rattle.esc_check.specs.TableMap.{content_of_entries};
+
 use crate::progress::{Progress, Watched};
 use esc_acceptance::{ChainFacts, are_listed};
 use esc_apply::Objects;
@@ -10,34 +19,49 @@ use std::alloc::Global;
 use std::collections::BTreeMap;
 
 /// The tables of a kind with their columns ([`layouts_of`]).
-pub fn read_layouts<O: Objects + Drop>(
+pub fn read_layouts<O: Objects>(
     alloc: Global,
-    objects: O,
+    objects: &mut O,
     kind: Kind,
     progress: &mut Progress<'_>,
 ) -> Result<Vec<Layout>, StreamFault<O::Error>> {
-    let mut objects = Watched::new(objects, progress, kind.name());
-    layouts_of(alloc, &mut objects, kind)
+    let mut watched = Watched::new(objects, progress, kind.name());
+    layouts_of(alloc, &mut watched, kind)
 }
 
 /// The findings V1 to V7 ([`verify_from`]).
-pub fn read_findings<O: Objects + Drop>(
+pub fn read_findings<O: Objects>(
     alloc: Global,
-    objects: O,
+    objects: &mut O,
     watermark: i64,
     counts: &BTreeMap<Kind, u64>,
     progress: &mut Progress<'_>,
-) -> Result<Vec<Finding>, StreamFault<O::Error>> {
-    let mut objects = Watched::new(objects, progress, "findings");
-    verify_from(alloc, &mut objects, watermark, counts)
+) -> Result<Vec<Finding>, StreamFault<O::Error>>
+    ensures follows { O.follows objects.old objects.new }
+    ensures source { IfErr result (λ fault. IfSource fault (O.has_failed objects.new)) }
+    ensures cause { IfErr result (OfSource O.fails) }
+    ensures ordered { IfOk result (λ found. IsStrictlySortedBy listing_cmp found.items) }
+    ensures each { IfOk result (λ found. O.is_honest objects.new → (es : List Entry)
+        → O.lists objects.old es
+        → (f : FindingValue) → Contains found.items f ↔ IsFinding
+        (content_of_entries es) watermark counts.now.entries f) }
+{
+    let mut watched = Watched::new(objects, progress, "findings");
+    verify_from(alloc, &mut watched, watermark, counts)
 }
 
 /// Whether the objects are those that the deposits of the chain make ([`are_listed`]).
-pub fn are_made_by<O: Objects + Drop>(
+pub fn are_made_by<O: Objects>(
     facts: &ChainFacts,
-    objects: O,
+    objects: &mut O,
     progress: &mut Progress<'_>,
-) -> Result<bool, O::Error> {
-    let mut objects = Watched::new(objects, progress, "tables");
-    are_listed(&facts.objects, &mut objects)
+) -> Result<bool, O::Error>
+    ensures follows { O.follows objects.old objects.new }
+    ensures cause { IfErr result O.fails }
+    ensures failed { OnErr result (O.has_failed objects.new) }
+    ensures same { IfOk result (λ same. same ≡ true → O.is_honest objects.new
+        → (es : List Entry) → O.lists objects.old es → es ≡ facts.now.objects.entries) }
+{
+    let mut watched = Watched::new(objects, progress, "tables");
+    are_listed(&facts.objects, &mut watched)
 }

@@ -44,14 +44,14 @@ pub fn bundle_or_stop(
 /// How many objects each bundle of a series has ([`cut_objects`]).
 pub fn read_lengths<O>(
     alloc: Global,
-    objects: O,
+    objects: &mut O,
     progress: &mut Progress<'_>,
 ) -> Result<Vec<usize>, Stop>
 where
-    O: Objects<Error = StoreFault> + Drop,
+    O: Objects<Error = StoreFault>,
 {
-    let mut objects = Watched::new(objects, progress, "series");
-    Ok(cut_objects(alloc, &mut objects)?)
+    let mut watched = Watched::new(objects, progress, "series");
+    Ok(cut_objects(alloc, &mut watched)?)
 }
 
 /// The series of so many bundles; `M1` of the folder at this path if no store lists them.

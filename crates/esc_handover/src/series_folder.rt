@@ -52,17 +52,17 @@ impl<'a> SeriesFolder<'a> {
     pub fn write<O>(
         &mut self,
         lengths: &[usize],
-        objects: O,
+        objects: &mut O,
         progress: &mut Progress<'_>,
     ) -> Result<(), Stop>
     where
-        O: Objects<Error = StoreFault> + Drop,
+        O: Objects<Error = StoreFault>,
     {
         let made = self.folder.create_folder(DEPOSITS);
         or_stop(self.rt, self.place, made)?;
         let (alloc, series, place) = (self.rt.alloc(), self.series, self.place);
-        let mut objects = Watched::new(objects, progress, "bundles");
-        match write_series(alloc, series, lengths, &mut objects, self) {
+        let mut watched = Watched::new(objects, progress, "bundles");
+        match write_series(alloc, series, lengths, &mut watched, self) {
             Ok(()) => self.write_manifest(),
             Err(SeriesFault::Source(fault)) => Err(Stop::Store(fault)),
             Err(SeriesFault::Place(stop)) => Err(stop),

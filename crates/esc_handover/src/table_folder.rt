@@ -50,13 +50,13 @@ impl<'a> TableFolder<'a> {
     /// Writes the files of a kind's tables, with the rows of these objects.
     pub fn write_tables<O>(
         &mut self,
-        objects: O,
+        objects: &mut O,
         kind: Kind,
         layouts: &[Layout],
         progress: &mut Progress<'_>,
     ) -> Result<(), Stop>
     where
-        O: Objects<Error = StoreFault> + Drop,
+        O: Objects<Error = StoreFault>,
     {
         let written = write_files(&mut self.folder, objects, kind, layouts, progress);
         self.or_stop_writing(written)?;
@@ -72,15 +72,15 @@ impl<'a> TableFolder<'a> {
     pub fn add_tables<O>(
         &self,
         database: &mut Database,
-        objects: O,
+        objects: &mut O,
         layouts: &[Layout],
         progress: &mut Progress<'_>,
     ) -> Result<(), Stop>
     where
-        O: Objects<Error = StoreFault> + Drop,
+        O: Objects<Error = StoreFault>,
     {
-        let mut objects = Watched::new(objects, progress, REGISTRY);
-        self.or_stop_writing(database.add_tables(self.rt.alloc(), &mut objects, layouts))
+        let mut watched = Watched::new(objects, progress, REGISTRY);
+        self.or_stop_writing(database.add_tables(self.rt.alloc(), &mut watched, layouts))
     }
 
     /// Closes the database when it has its tables.
@@ -157,13 +157,13 @@ fn tell_files(alloc: Global, layouts: &[Layout], progress: &mut Progress<'_>) ->
     Ok(())
 }
 
-fn write_files<O: Objects + Drop>(
+fn write_files<O: Objects>(
     folder: &mut NewFolder<'_>,
-    objects: O,
+    objects: &mut O,
     kind: Kind,
     layouts: &[Layout],
     progress: &mut Progress<'_>,
 ) -> Result<(), WritingFault<O::Error>> {
-    let mut objects = Watched::new(objects, progress, kind.name());
-    write_table_files(folder, &mut objects, layouts)
+    let mut watched = Watched::new(objects, progress, kind.name());
+    write_table_files(folder, &mut watched, layouts)
 }

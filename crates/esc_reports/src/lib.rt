@@ -61,4 +61,5 @@ pub use receipts::{receipt_line, receipts_heading};
 pub use reply::reply_text;
 pub use reports::report;
 pub use status::end_line;
+pub use walked::walk_fault;
 pub use watermark::printed_watermark;

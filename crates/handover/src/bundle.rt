@@ -46,7 +46,7 @@ pub fn write_bundles<R: Reads>(
 ) -> Result<Answer, Stop> {
     let alloc = words.rt.alloc();
     let watermark = end_watermark(alloc, reader)?;
-    let lengths = read_lengths(alloc, walk(alloc, reader, None)?, &mut progress)?;
+    let lengths = read_lengths(alloc, &mut walk(alloc, reader, None)?, &mut progress)?;
     let series = series_of(alloc, words.id, watermark, &lengths, words.folder)?;
     let mut folder = SeriesFolder::create(words.rt, words.folder, series)?;
     let written = fill(alloc, reader, &lengths, &mut folder, &mut progress);
@@ -65,8 +65,8 @@ fn fill<R: Reads>(
     folder: &mut SeriesFolder<'_>,
     progress: &mut Progress<'_>,
 ) -> Result<(), Stop> {
-    let walk = walk(alloc, reader, None)?;
-    folder.write(lengths, walk, progress)
+    let mut walk = walk(alloc, reader, None)?;
+    folder.write(lengths, &mut walk, progress)
 }
 
 // The watermark of the chain's end.

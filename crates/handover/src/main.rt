@@ -5,8 +5,8 @@
 //!   read of it), with `--series` in as many bundles as it needs ([`esc_deposit::write_series`],
 //!   whose contract says the same of all of them).
 //! - `handover check --store FILE` prints whether the registry may be taken over as it is: one line
-//!   for each test of [`esc_handover::Test`] ([`esc_handover::lines_of`], whose contract says which
-//!   of them pass).
+//!   for each test of [`esc_acceptance::Test`] ([`esc_inspection::acceptance`], whose contract says
+//!   of what the store reflects that each of them passes).
 //! - `handover tables --store FILE DIR` writes the tables as CSV files
 //!   ([`esc_table_files::write_tables`], whose contract states each text), with `--sqlite` as a
 //!   database, and with `--postgres` the statements by which PostgreSQL loads them.
@@ -36,7 +36,7 @@
 //! | `command_line` | the table of the commands and its texts; from the words to the status |
 //! | `store_file` | opens the store in a file, and closes it |
 //! | `bundle` | `bundle`: the tables as one deposit, in one bundle or in several |
-//! | `check` | `check` and `page`: what is seen of a store |
+//! | `clock` | what time it is, for `check` and `page` |
 //! | `tables` | `tables`: the tables as files |
 //! | `zone` | `zone`: the zone as a file |
 //!
@@ -47,9 +47,8 @@
 //! By proof: that no call is unsafe and that each ends, whatever the words and files are.
 #![tactic(auto)]
 
-mod bodies;
 mod bundle;
-mod check;
+mod clock;
 mod command_line;
 mod store_file;
 mod tables;

@@ -1,11 +1,12 @@
 //! The store in a file: how it is opened and left, and what is made of it in between.
 
 use crate::bundle::{Splitting, tables_bundle, write_bundles};
-use crate::check::{acceptance, time_now};
+use crate::clock::time_now;
 use crate::tables::{Tabling, write_tables};
 use crate::zone::{Zoning, write_zone};
 use esc_desk::Reads;
-use esc_handover::{Answer, Form, Progress, Stop, unopened_stop};
+use esc_handover::{Answer, Progress, Stop, unopened_stop};
+use esc_inspection::{Form, acceptance};
 use esc_recovery::{PathFault, reader_at};
 use sqlite::Unknown;
 use std::alloc::Global;
@@ -49,16 +50,17 @@ fn perform<R: Reads>(
     alloc: Global,
     reader: &mut R,
     task: Task<'_>,
-    now: Option<i64>,
-    progress: Progress<'_>,
+    clock: Option<i64>,
+    mut progress: Progress<'_>,
 ) -> Result<Answer, Stop> {
     match task {
         Task::Bundle { id, path } => tables_bundle(alloc, reader, id, path),
         Task::Series(words) => write_bundles(reader, words, progress),
         Task::Check { is_strict } => {
-            acceptance(alloc, reader, Form::Lines { is_strict }, now, progress)
+            let form = Form::Lines { is_strict };
+            Ok(acceptance(alloc, reader, form, clock, &mut progress)?)
         },
-        Task::Page { .. } => acceptance(alloc, reader, Form::Page, now, progress),
+        Task::Page { .. } => Ok(acceptance(alloc, reader, Form::Page, clock, &mut progress)?),
         Task::Tables(words) => write_tables(reader, words, progress),
         Task::Zone(words) => write_zone(reader, words, progress),
     }

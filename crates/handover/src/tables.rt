@@ -59,8 +59,8 @@ fn read_kinds<R: Reads>(
 ) -> Result<Vec<KindTables>, Stop> {
     let mut kinds = Vec::new(alloc);
     for kind in Kind::ALL {
-        let walk = walk(alloc, reader, Some(kind))?;
-        let layouts = read_layouts(alloc, walk, kind, progress)?;
+        let mut walk = walk(alloc, reader, Some(kind))?;
+        let layouts = read_layouts(alloc, &mut walk, kind, progress)?;
         kinds.push(KindTables { kind, layouts })?;
     }
     Ok(kinds)
@@ -112,8 +112,8 @@ fn write_files<R: Reads>(
 ) -> Result<(), Stop> {
     let alloc = words.rt.alloc();
     for tables in kinds {
-        let walk = walk(alloc, reader, Some(tables.kind))?;
-        folder.write_tables(walk, tables.kind, &tables.layouts, progress)?;
+        let mut walk = walk(alloc, reader, Some(tables.kind))?;
+        folder.write_tables(&mut walk, tables.kind, &tables.layouts, progress)?;
     }
     if words.has_script {
         let layouts = all_layouts(alloc, kinds)?;
@@ -147,8 +147,8 @@ fn add_tables<R: Reads>(
     progress: &mut Progress<'_>,
 ) -> Result<(), Stop> {
     for tables in kinds {
-        let walk = walk(alloc, reader, Some(tables.kind))?;
-        folder.add_tables(database, walk, &tables.layouts, progress)?;
+        let mut walk = walk(alloc, reader, Some(tables.kind))?;
+        folder.add_tables(database, &mut walk, &tables.layouts, progress)?;
     }
     Ok(())
 }

@@ -152,8 +152,8 @@ fn check_tables<R: Reads>(
     let alloc = words.rt.alloc();
     let mut layouts = Vec::new(alloc);
     for kind in [Kind::Host, Kind::Domain, Kind::Nndn] {
-        let walk = walk(alloc, reader, Some(kind))?;
-        let read = read_layouts(alloc, walk, kind, progress);
+        let mut walk = walk(alloc, reader, Some(kind))?;
+        let read = read_layouts(alloc, &mut walk, kind, progress);
         layouts.append(&mut read.map_err(Stop::from)?)?;
     }
     check_layouts(words, &layouts)

@@ -1,0 +1,10 @@
+pub mod ChainBodies
+pub mod Cleared
+pub mod GreatestPlace
+pub mod LastPlace
+pub mod Listed
+pub mod NewestRows
+pub mod NoOrphans
+pub mod Reading
+pub mod Spoiled
+pub mod ZeroStatus

@@ -1,0 +1,19 @@
+use Rattle.std.proofs.Common.{List, take, map}
+use Rattle.esc_apply.specs.declared.front.Step.{Step}
+use Rattle.esc_acceptance.specs.Chains.{AreFactsOf}
+use Rattle.esc_events.specs.Apart.{WhereApart}
+use Rattle.esc_events.specs.Events.{EventValue}
+use Rattle.esc_inspection.specs.Parts.{body_at}
+use Rattle.esc_inspection.proofs.bodies.read_steps.Given as goal
+
+-- the bodies of the steps so far were read
+abbrev pub invariant-loop-count : goal.invariant-loop-count
+invariant-loop-count g l =
+    let reads = g.R.Reads in
+    record {
+      follows : reads.follows l.fn.reader l.reader;
+      reflects : (e : List EventValue) → reads.reflects l.fn.reader e → reads.reflects l.reader e;
+      facts : reads.is_honest l.reader → (e : List EventValue) → reads.reflects l.fn.reader e
+          → WhereApart e
+          (AreFactsOf (map (λ (s : Step). body_at e s.row) (take l.count l.steps)) l.facts);
+    }

@@ -1,0 +1,4 @@
+pub mod AllClear
+pub mod Answers
+pub mod Inspected
+pub mod Parts

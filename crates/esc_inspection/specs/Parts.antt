@@ -1,0 +1,75 @@
+-- What is seen of a store that reflects a list of events, part by part.
+use Rattle.std.specs.Prelude.{◌≡◌, ◌↔◌, ℕ, List, [], map, Option, option_map, Some, None}
+use Rattle.std.specs.Prelude.{slice_get, Bool, true}
+use Rattle.std.specs.FinSet as set
+use Rattle.std.specs.List.{Contains}
+use Rattle.sha2.specs.Sha256.{sha256}
+use Rattle.esc_envelope.specs.declared.kind.Kind.{Kind}
+use Rattle.esc_envelope.specs.declared.place.Place.{Place}
+use Rattle.esc_manifest.specs.ManifestRows.{place_at}
+use Rattle.esc_tables.specs.Reading.{reading}
+use Rattle.esc_chain.specs.declared.gap.GapLine.{GapLine}
+use Rattle.esc_chain.specs.Gap.{AreGapLinesAt}
+use Rattle.esc_apply.specs.ObjectStreams.{Entry}
+use Rattle.esc_check.specs.FindingValue.{FindingValue}
+use Rattle.esc_store.specs.StoreState.{AreHeld, AreCounts}
+use Rattle.esc_events.specs.Events.{EventValue, union, last_moment}
+use Rattle.esc_events.specs.LatestTables.{IsChainOf, tables_of_chain, AreEntries}
+use Rattle.esc_events.specs.StateAfter.{held_body}
+use Rattle.esc_desk.specs.declared.status.End.{End}
+use Rattle.esc_desk.specs.Reads.{last, IsEndOfChain}
+use Rattle.esc_reports.specs.Reports.{AreFindings}
+use Rattle.esc_acceptance.specs.declared.chain.ChainFacts.{ChainFacts}
+use Rattle.esc_acceptance.specs.Chains.{AreFactsOf}
+use Rattle.esc_acceptance.specs.Listed.{IsAsListed}
+
+-- how many objects of each kind the end of a chain declares; without a chain nothing is declared
+abbrev pub counts_at : Option End → List (Kind × ℕ)
+counts_at None = []
+counts_at (Some end) = end.counts.entries
+
+module _ (e : List EventValue) where
+  -- the body that is held for a row
+  abbrev pub body_at : ℕ → Option (List ℕ)
+  body_at = held_body sha256 reading e
+
+  -- the place of the latest chain's last row, and how many objects its tables have of each kind
+  pub record AreTotalsOf (end : Option Place) (objects : List (Kind × ℕ)) : Type 0 where
+    pub chain : List ℕ
+    pub latest : IsChainOf e chain
+    pub end_is : end ≡ option_map (place_at (union e)) (last chain)
+    pub objects_are : AreCounts (tables_of_chain e chain) objects
+
+  -- what the end of the latest chain declares, and the findings in its tables
+  pub record AreEndingOf (counts : List (Kind × ℕ)) (findings : List FindingValue)
+      : Type 0 where
+    pub entries : List Entry
+    pub tables : AreEntries e entries
+    pub end : Option End
+    pub ends : IsEndOfChain e end
+    pub counts_are : counts ≡ counts_at end
+    pub are_found : AreFindings entries end findings
+
+  -- a line for each listed place, by the rows that are held and the moment that is set
+  pub record AreLinesFor (rows : List ℕ) (lines : List GapLine) : Type 0 where
+    pub are_held : AreHeld body_at rows
+    pub gaps : AreGapLinesAt (union e) (set.from_list rows) (last_moment e) lines
+
+  -- a row is held, and its body isn't what the row lists
+  abbrev pub IsSpoiled : ℕ → Type 0
+  IsSpoiled row = IsAsListed (slice_get (union e) row) (body_at row) → ⊥
+
+  -- these are the rows among some whose bodies aren't what they list
+  abbrev pub AreSpoiledAmong : List ℕ → List ℕ → Type 0
+  AreSpoiledAmong rows spoiled = (row : ℕ)
+      → Contains spoiled row ↔ (Contains rows row × IsSpoiled row)
+
+  -- what the bodies of the latest chain say, from the first to the last
+  pub record AreChainFactsOf (facts : ChainFacts) : Type 0 where
+    pub chain : List ℕ
+    pub latest : IsChainOf e chain
+    pub say : AreFactsOf (map body_at chain) facts
+
+  -- where it is said so, the tables are what these bodies make
+  abbrev pub IsRebuiltFrom : ChainFacts → Bool → Type 0
+  IsRebuiltFrom facts is_rebuilt = is_rebuilt ≡ true → AreEntries e facts.objects.entries

@@ -1,0 +1,150 @@
+//! The bodies of a store: whether they are as listed, and what those of the chain make.
+
+ghost use Rattle.std.specs.Prelude.{◌≡◌, ◌++◌, ◌∷◌, [], ℕ, List, Option, map, cond, OnOk, IfErr};
+ghost use Rattle.esc_events.specs.Apart.{WhereApart};
+ghost use Rattle.esc_store.specs.Faults.{IsFailure};
+ghost use Rattle.esc_apply.specs.declared.front.Step.{Step};
+ghost use Rattle.esc_desk.specs.Reading.{IsReadOf, OkForEvents};
+ghost use Rattle.esc_acceptance.specs.Chains.{AreFactsOf};
+ghost use Rattle.esc_inspection.specs.Parts.{AreSpoiledAmong, AreChainFactsOf, body_at};
+
+use esc_acceptance::{ChainFacts, Tlds, is_as_listed};
+use esc_apply::Step;
+use esc_bundle::NoMemory;
+use esc_desk::{Reads, StoreFault};
+use esc_handover::Progress;
+use std::alloc::Global;
+
+/// What the held bodies say.
+#[derive(Drop)]
+pub struct Bodies {
+    /// The held rows whose body isn't there, or has another SHA-256 than listed.
+    pub spoiled: Vec<usize>,
+    /// The TLDs that the bodies name.
+    pub tlds: Tlds,
+}
+
+impl Bodies {
+    fn new(alloc: Global) -> Bodies
+        ensures { result.spoiled.items ≡ [] }
+    {
+        Bodies {
+            spoiled: Vec::new(alloc),
+            tlds: Tlds::new(alloc),
+        }
+    }
+
+    // Adds the TLD that the body of a held row names, if it is there; and the row, if this isn't the
+    // body that it lists.
+    fn add(
+        &mut self,
+        alloc: Global,
+        row: usize,
+        body: Option<&[u8]>,
+        is_listed: bool,
+    ) -> Result<(), NoMemory>
+        ensures { OnOk result (self.new.spoiled.items
+            ≡ cond is_listed self.old.spoiled.items (self.old.spoiled.items ++ row ∷ [])) }
+    {
+        if let Some(body) = body {
+            self.tlds.add(alloc, body)?;
+        }
+        if !is_listed {
+            self.spoiled.push(row)?;
+        }
+        Ok(())
+    }
+}
+
+/// Reads the bodies of these held rows, one at a time.
+pub(crate) fn read_bodies<R: Reads>(
+    alloc: Global,
+    reader: &mut R,
+    held: &[usize],
+    progress: &mut Progress<'_>,
+) -> Result<Bodies, StoreFault>
+    ensures read { IsReadOf R.follows R.reflects reader.old reader.new result }
+    ensures spoiled { OkForEvents R.is_honest R.reflects reader.old reader.new result
+        (λ e bodies. WhereApart e (AreSpoiledAmong e held.now bodies.spoiled.items)) }
+    ensures cause { IfErr result IsFailure }
+{
+    let mut bodies = Bodies::new(alloc);
+    for (count, row) in held.iter().enumerate() {
+        progress.tell_read("bodies", count as u64, "bodies");
+        read_held(alloc, reader, *row, &mut bodies)?;
+    }
+    Ok(bodies)
+}
+
+// Reads the body of a held row.
+fn read_held<R: Reads>(
+    alloc: Global,
+    reader: &mut R,
+    row: usize,
+    bodies: &mut Bodies,
+) -> Result<(), StoreFault>
+    ensures read { IsReadOf R.follows R.reflects reader.old reader.new result }
+    ensures spoiled { OkForEvents R.is_honest R.reflects reader.old reader.new result
+        (λ e done. WhereApart e ((rows : List ℕ) → AreSpoiledAmong e rows bodies.old.spoiled.items
+        → AreSpoiledAmong e (rows ++ row ∷ []) bodies.new.spoiled.items)) }
+    ensures cause { IfErr result IsFailure }
+{
+    let body = reader.body_of(alloc, row)?;
+    let listed = reader.manifest().rows().get(row);
+    let is_listed = is_as_listed(listed, body.as_deref());
+    bodies.add(alloc, row, body.as_deref(), is_listed)?;
+    Ok(())
+}
+
+/// Reads what the deposits of the chain say, one body at a time.
+pub(crate) fn read_chain<R: Reads>(
+    alloc: Global,
+    reader: &mut R,
+    progress: &mut Progress<'_>,
+) -> Result<ChainFacts, StoreFault>
+    ensures read { IsReadOf R.follows R.reflects reader.old reader.new result }
+    ensures facts { OkForEvents R.is_honest R.reflects reader.old reader.new result
+        (λ e facts. WhereApart e (AreChainFactsOf e facts)) }
+    ensures cause { IfErr result IsFailure }
+{
+    let steps = reader.chain(alloc)?;
+    read_steps(alloc, reader, &steps, progress)
+}
+
+fn read_steps<R: Reads>(
+    alloc: Global,
+    reader: &mut R,
+    steps: &[Step],
+    progress: &mut Progress<'_>,
+) -> Result<ChainFacts, StoreFault>
+    ensures read { IsReadOf R.follows R.reflects reader.old reader.new result }
+    ensures facts { OkForEvents R.is_honest R.reflects reader.old reader.new result
+        (λ e facts. WhereApart e
+        (AreFactsOf (map (λ (s : Step). body_at e s.row) steps.now) facts)) }
+    ensures cause { IfErr result IsFailure }
+{
+    let mut facts = ChainFacts::new(alloc);
+    for (count, step) in steps.iter().enumerate() {
+        progress.tell_read("tables", count as u64, "bodies");
+        read_row(alloc, reader, step.row, &mut facts)?;
+    }
+    Ok(facts)
+}
+
+// Reads the body of a row of the chain, and adds what it says.
+fn read_row<R: Reads>(
+    alloc: Global,
+    reader: &mut R,
+    row: usize,
+    facts: &mut ChainFacts,
+) -> Result<(), StoreFault>
+    ensures read { IsReadOf R.follows R.reflects reader.old reader.new result }
+    ensures facts { OkForEvents R.is_honest R.reflects reader.old reader.new result
+        (λ e done. WhereApart e ((bodies : List (Option (List ℕ))) → AreFactsOf bodies facts.old
+        → AreFactsOf (bodies ++ body_at e row ∷ []) facts.new)) }
+    ensures cause { IfErr result IsFailure }
+{
+    let body = reader.body_of(alloc, row)?;
+    facts.add(alloc, body.as_deref())?;
+    Ok(())
+}

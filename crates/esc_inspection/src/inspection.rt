@@ -1,0 +1,104 @@
+//! What is seen of a store.
+
+ghost use Rattle.std.specs.Prelude.{◌≡◌, IfOk, IfErr};
+ghost use Rattle.esc_store.specs.Faults.{IsFailure};
+ghost use Rattle.esc_desk.specs.Reading.{IsReadOf, OkForEvents};
+ghost use Rattle.esc_acceptance.specs.Acceptance.{status_of};
+ghost use Rattle.esc_acceptance.specs.Lines.{IsTextOf};
+ghost use Rattle.esc_inspection.specs.Answers.{IsAnswerAfter, Shows};
+ghost use Rattle.esc_inspection.specs.Inspected.{AreFactsAfter, seen_in};
+
+use crate::bodies::{read_bodies, read_chain};
+use crate::books::read_books;
+use crate::ending::read_ending;
+use crate::facts::StoreFacts;
+use crate::form::Form;
+use crate::listing::{keeps_latest, read_listing};
+use crate::rebuilt::is_rebuilt;
+use crate::totals::read_totals;
+use esc_acceptance::{Report, Seen, report_of};
+use esc_bundle::NoMemory;
+use esc_cli::DONE;
+use esc_conformity::Flaws;
+use esc_desk::{Reads, StoreFault};
+use esc_handover::{Answer, Progress, page_of};
+use std::alloc::Global;
+
+/// Inspects a store that a reader reads, at a time that a clock says, if one does. It tells how far
+/// it is. `S1`, `S2`.
+#[tactic(auto, using(crate::proofs::Reading::reads_stay))]
+pub fn inspect<R: Reads>(
+    alloc: Global,
+    reader: &mut R,
+    clock: Option<i64>,
+    progress: &mut Progress<'_>,
+) -> Result<StoreFacts, StoreFault>
+    ensures read { IsReadOf R.follows R.reflects reader.old reader.new result }
+    ensures facts { OkForEvents R.is_honest R.reflects reader.old reader.new result AreFactsAfter }
+    ensures at_clock { IfOk result (λ facts. facts.clock ≡ clock) }
+    ensures cause { IfErr result IsFailure }
+{
+    let books = read_books(alloc, reader)?;
+    let totals = read_totals(alloc, reader)?;
+    let ending = read_ending(alloc, reader, progress)?;
+    let listing = read_listing(alloc, reader, books.moment)?;
+    let parked = reader.parked(alloc)?;
+    let is_latest = keeps_latest(alloc, reader, &listing.held, books.moment)?;
+    let bodies = read_bodies(alloc, reader, &listing.held, progress)?;
+    let chain = read_chain(alloc, reader, progress)?;
+    let is_rebuilt = is_rebuilt(alloc, reader, &chain, progress)?;
+    let flaws = Flaws::find(alloc, &chain.objects, bodies.tlds.only())?;
+    Ok(StoreFacts {
+        clock,
+        books,
+        totals,
+        ending,
+        listing,
+        parked,
+        is_latest,
+        bodies,
+        chain,
+        flaws,
+        is_rebuilt,
+    })
+}
+
+/// Whether a registry may be taken over, in this form, at a time that a clock says, if one does.
+#[tactic(auto, using(crate::proofs::Reading::reads_stay))]
+pub fn acceptance<R: Reads>(
+    alloc: Global,
+    reader: &mut R,
+    form: Form,
+    clock: Option<i64>,
+    progress: &mut Progress<'_>,
+) -> Result<Answer, StoreFault>
+    ensures read { IsReadOf R.follows R.reflects reader.old reader.new result }
+    ensures answer { OkForEvents R.is_honest R.reflects reader.old reader.new result
+        (λ e answer. IsAnswerAfter e clock form answer) }
+    ensures cause { IfErr result IsFailure }
+{
+    let facts = inspect(alloc, reader, clock, progress)?;
+    Ok(answer_of(alloc, &facts, form)?)
+}
+
+/// The lines or the page of what was seen of a store.
+pub fn answer_of(alloc: Global, facts: &StoreFacts, form: Form) -> Result<Answer, NoMemory>
+    ensures shown { IfOk result (Shows (seen_in facts.now) form) }
+{
+    let seen = facts.seen();
+    match form {
+        Form::Lines { is_strict } => lines_answer(alloc, &seen, is_strict),
+        Form::Page => {
+            let text = page_of(alloc, &seen, &facts.books.receipts, &facts.parked)?;
+            Ok(Answer { text, status: DONE })
+        },
+    }
+}
+
+fn lines_answer(alloc: Global, seen: &Seen<'_>, is_strict: bool) -> Result<Answer, NoMemory>
+    ensures text { IfOk result (λ answer. IsTextOf seen.now answer.text.items) }
+    ensures status { IfOk result (λ answer. answer.status ≡ status_of is_strict seen.now) }
+{
+    let Report { text, status } = report_of(alloc, seen, is_strict)?;
+    Ok(Answer { text, status })
+}

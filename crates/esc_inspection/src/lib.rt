@@ -1,0 +1,58 @@
+//! What is seen of a store, for the acceptance of the registry in it.
+//!
+//! # In and out
+//!
+//! [`inspect`] takes a reader of a store (`Reads` of `esc_desk`: a desk, or a reader of trees) and
+//! the time, and gives [`StoreFacts`]: the moment and the receipts, the end of the chain and how
+//! many objects there are, what that end declares and the findings V1 to V7, the line of each listed
+//! place, the parked bodies, which held bodies aren't as listed, what the bodies of the chain make,
+//! which of these objects break a rule of RFC 9022, and whether the tables are those. [`acceptance`]
+//! makes the lines or the page of it ([`Form`]), with the status. It tells a `Progress` how far it
+//! is. It changes nothing. Errors are those of reads: `S1`, `S2`.
+//!
+//! ```text
+//! let form = Form::Lines { is_strict: false };
+//! let answer = acceptance(alloc, &mut reader, form, clock, &mut progress)?;
+//! answer.status                                       // 0 exactly where the registry is accepted
+//! ```
+//!
+//! In memory are the objects that the bodies of the chain make, and the keys of a walk.
+//!
+//! # What the contracts mean
+//!
+//! The premises are those of each read: the store reflects a list of events, and the disk gave back
+//! what was written. `specs/Parts.antt` and `specs/Inspected.antt` say what is seen, by these events
+//! (`AreFactsAfter`), and `specs/Answers.antt` that this is what is shown (`IsAnswerAfter`): a line
+//! for each test, `ok` exactly where it passes, and the status.
+//!
+//! [`status_zero_is_all_clear`] is a law, and what an operator believes: where the status is 0, the
+//! tables, and so the exports, are those of the greatest listed deposit's chain, each deposit of it
+//! is the newest revision that is listed and has no orphan, and nothing in them is a finding
+//! (`specs/AllClear.antt`).
+//!
+//! On an honest disk the bodies are as listed, the chain is the latest, and the tables are those of
+//! the bodies. So that these three tests find a disk that isn't is said by the calls that compare,
+//! `is_as_listed`, `is_latest` and `are_listed` of `esc_acceptance`, and it is tested. Which TLDs,
+//! notes and declared tables there are has no contract.
+#![tactic(auto)]
+
+mod bodies;
+mod books;
+mod ending;
+mod facts;
+mod form;
+mod inspection;
+mod laws;
+mod listing;
+mod rebuilt;
+mod totals;
+
+pub use bodies::Bodies;
+pub use books::Books;
+pub use ending::Ending;
+pub use facts::StoreFacts;
+pub use form::Form;
+pub use inspection::{acceptance, answer_of, inspect};
+pub use laws::status_zero_is_all_clear;
+pub use listing::Listing;
+pub use totals::Totals;
