@@ -243,8 +243,7 @@ def test_a_field_that_not_each_object_has(stage: Stage) -> None:
     check_lines(
         stage, 'a.db', 1,
         'wrong fields: domain clID declared by no deposit of the chain, or not for each object, '
-        'and so not '
-        'checked; ask the agent which fields they are', end='2024-03-04T00:00:00Z DIFF')
+        'and so not checked; ask the agent which fields they are', end='2024-03-04T00:00:00Z DIFF')
 
 
 def test_a_chain_that_is_not_the_latest(stage: Stage) -> None:
@@ -277,9 +276,8 @@ def test_a_held_body_that_is_gone(stage: Stage) -> None:
     change_row(stage, 'a.db', 'DELETE FROM held WHERE row = ?', (0,))
     check_lines(
         stage, 'a.db', 1,
-        'wrong bodies: 1 held are gone or have another SHA-256 than listed, the first of row 1; '
-        'go back to a '
-        'copy of the store, or make it anew')
+        'wrong bodies: 1 held are gone or have another SHA-256 than listed, the first of row 1; go '
+        'back to a copy of the store, or make it anew')
 
 
 def test_a_body_of_the_chain_that_is_no_deposit(stage: Stage) -> None:
@@ -312,8 +310,7 @@ def test_a_registrar_that_is_not_there(stage: Stage) -> None:
     check_lines(
         stage, 'a.db', 1,
         "wrong registrars: 2 name a registrar that isn't there, by crRr, upRr, reRr or acRr; ask "
-        "the agent for "
-        'it: domain a.example, domain b.example', end='2024-03-04T00:00:00Z DIFF')
+        "the agent for it: domain a.example, domain b.example", end='2024-03-04T00:00:00Z DIFF')
 
 
 def test_a_name_of_a_domain_and_an_nndn(stage: Stage) -> None:
@@ -342,8 +339,7 @@ def test_equal_roids(stage: Stage) -> None:
     check_lines(
         stage, 'a.db', 0,
         'told roids: 2 have a ROID that another of their kind has; ask the agent which has it: '
-        'domain a.example, '
-        'domain b.example', strict=1)
+        'domain a.example, domain b.example', strict=1)
 
 
 def test_what_is_required(stage: Stage) -> None:
@@ -384,8 +380,7 @@ def test_names_outside(stage: Stage) -> None:
     check_lines(
         stage, 'a.db', 0,
         'told outside: 3 are not below the TLD; ask the agent why they are there: domain '
-        'anexample, domain b.test, '
-        'nndn example', tld='EXAMPLE', strict=1)
+        'anexample, domain b.test, nndn example', tld='EXAMPLE', strict=1)
     release_of((F1, deposit(F1, tables, counts=counts))).rebuild(stage, 'b.db')
     check_lines(stage, 'b.db', 0)
 
@@ -421,9 +416,8 @@ def test_an_end_in_the_future(stage: Stage) -> None:
     release_of((late, full(late))).rebuild(stage)
     check_lines(
         stage, 'a.db', 1,
-        'wrong future: 2260-01-01T00:00:00Z FULL is later than now; set this machine\'s clock, or '
-        'ask the agent which '
-        'watermark it has', end='2260-01-01T00:00:00Z FULL')
+        "wrong future: 2260-01-01T00:00:00Z FULL is later than now; set this machine's clock, or "
+        "ask the agent which watermark it has", end='2260-01-01T00:00:00Z FULL')
 
 
 def test_a_moment(stage: Stage) -> None:
@@ -432,9 +426,8 @@ def test_a_moment(stage: Stage) -> None:
                moment='2024-03-03T00:00:00Z').rebuild(stage)
     check_lines(
         stage, 'a.db', 0,
-        'told moment: 2024-03-03T00:00:00Z is set, and what is later doesn\'t count; take it back '
-        'by `restore '
-        'as-of` with `latest`',
+        "told moment: 2024-03-03T00:00:00Z is set, and what is later doesn't count; take it back "
+        "by `restore as-of` with `latest`",
         end='2024-03-03T00:00:00Z FULL, up to the moment 2024-03-03T00:00:00Z', strict=1)
 
 
@@ -456,5 +449,4 @@ def test_an_early_arrival(stage: Stage) -> None:
     check_lines(
         stage, 'a.db', 0,
         "told early: 1 arrivals of version 1 had no row, and their bodies weren't kept; take them "
-        "again unless "
-        'they are held', strict=1)
+        "again unless they are held", strict=1)
