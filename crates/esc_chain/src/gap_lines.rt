@@ -52,7 +52,12 @@ pub fn gaps_at(
     let mut lines = Vec::new(alloc);
     for (place, greatest) in unheld.iter() {
         let used = ways.used.get(place).copied();
-        let line = line_of(alloc, manifest, &ways, *place, used, *greatest)?;
+        let rows = PlaceRows {
+            place: *place,
+            used,
+            unheld: *greatest,
+        };
+        let line = line_of(alloc, manifest, &ways, rows)?;
         lines.push(line)?;
     }
     Ok(lines)
@@ -116,27 +121,39 @@ fn set_of(alloc: Global, rows: &[usize]) -> Result<BTreeSet<usize>, NoMemory>
     Ok(rows.iter().copied().collect(alloc)?)
 }
 
-// The line of a place with this used row, or none. `greatest` is the greatest resend of its rows
-// that aren't held, if any.
+// What is known of the rows of a place: the used one, if there is one, and the greatest resend of
+// those that aren't held, if any.
+#[derive(Clone, Copy)]
+struct PlaceRows {
+    place: Place,
+    used: Option<usize>,
+    unheld: Option<u32>,
+}
+
+// The line of a place.
 fn line_of(
     alloc: Global,
     manifest: &Manifest,
     ways: &Ways,
-    place: Place,
-    used: Option<usize>,
-    greatest: Option<u32>,
+    rows: PlaceRows,
 ) -> Result<GapLine, NoMemory>
-    requires used { IsRowIn manifest.now ways.now used }
+    requires used { IsRowIn manifest.now ways.now rows.used }
     requires bases { AreBases manifest.now (length manifest.now) ways.now.bases.items }
-    ensures { IfOk result (λ line. line ≡ line_by manifest.now ways.now place used greatest) }
+    ensures { IfOk result
+        (λ line. line ≡ line_by manifest.now ways.now rows.place rows.used rows.unheld) }
 {
+    let PlaceRows {
+        place,
+        used,
+        unheld,
+    } = rows;
     let Some(row) = used else {
         return Ok(GapLine {
             place,
             used: None,
             state: State::Missing,
             blocker: None,
-            awaited: greatest,
+            awaited: unheld,
         });
     };
     let stop = stop_at(&ways.stops, row);
@@ -148,7 +165,7 @@ fn line_of(
         used: Some(resend),
         state,
         blocker,
-        awaited: over(greatest, resend),
+        awaited: over(unheld, resend),
     })
 }
 

@@ -33,7 +33,6 @@ fn is_empty(files: &[Section<'_>], table: &Table) -> bool
 // Notes one more row of a table, and appends what is read of it to `found` if the survey is right
 // after it.
 fn read_row<T: FromRow>(
-    alloc: Global,
     shared: &T::Shared,
     table: &Table,
     row: &Record,
@@ -47,6 +46,7 @@ fn read_row<T: FromRow>(
 {
     let survey = survey.note(table, row)?;
     if survey.is_right() {
+        let alloc = *found.allocator();
         found.push(T::read(alloc, shared, table, row)?)?;
     }
     Ok(survey)
@@ -68,7 +68,7 @@ fn read_records<T: FromRow>(
     let shared = T::shared_in(alloc, table)?;
     let mut row = Record::new(alloc);
     while rows.next(&mut row)? {
-        survey = read_row(alloc, &shared, table, &row, survey, found)?;
+        survey = read_row(&shared, table, &row, survey, found)?;
     }
     Ok(survey)
 }
