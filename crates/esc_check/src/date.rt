@@ -8,7 +8,7 @@ ghost use Rattle.esc_check.specs.Gathered.{late_findings, early_findings, malfor
 ghost use Rattle.esc_check.specs.Gathered.{moment_findings, form_findings};
 
 use crate::field::{created, expires};
-use crate::finding::{Finding, add};
+use crate::finding::{Breach, Finding, add};
 use crate::rule::Rule;
 use esc_bundle::NoMemory;
 use esc_envelope::{watermark as moment_of, watermark_text};
@@ -72,15 +72,13 @@ fn add_late(
         ++ late_findings limit.now.moment (string_bytes limit.now.text) key.now created.now) }
 {
     if is_after(moment_of(created), limit.moment) {
-        return add(
-            alloc,
-            found,
-            Rule::CreatedBefore,
-            key,
-            "crDate",
-            created,
-            limit.text.as_str(),
-        );
+        let breach = Breach {
+            rule: Rule::CreatedBefore,
+            field: "crDate",
+            value: created,
+            other: limit.text.as_str(),
+        };
+        return add(alloc, found, key, breach);
     }
     Ok(())
 }
@@ -96,15 +94,13 @@ fn add_early(
         ++ early_findings key.now expires.now created.now) }
 {
     if is_before(moment_of(expires), moment_of(created)) {
-        return add(
-            alloc,
-            found,
-            Rule::ExpiresAfter,
-            key,
-            "exDate",
-            expires,
-            created,
-        );
+        let breach = Breach {
+            rule: Rule::ExpiresAfter,
+            field: "exDate",
+            value: expires,
+            other: created,
+        };
+        return add(alloc, found, key, breach);
     }
     Ok(())
 }
@@ -120,7 +116,13 @@ fn add_malformed(
         ++ malformed_findings key.now field.now text.now) }
 {
     if is_malformed(text) {
-        return add(alloc, found, Rule::DateForm, key, field, text, "");
+        let breach = Breach {
+            rule: Rule::DateForm,
+            field,
+            value: text,
+            other: "",
+        };
+        return add(alloc, found, key, breach);
     }
     Ok(())
 }

@@ -147,48 +147,33 @@ fn write_row(
 {
     let text = decimal_text(alloc, number)?;
     for at in 0..row.len() {
-        if let Some((field, value)) = row.cell(at) {
-            write_cell(lines, key, text.as_str(), row, field, value)?;
+        if let Some(cell) = row.cell(at) {
+            write_cell(lines, key, row, text.as_str(), cell)?;
         }
     }
     Ok(())
 }
 
-fn write_cell(
+// Writes the line of a cell, a field's name and its text, in the row with this number.
+fn write_cell<'x>(
     lines: &mut Lines,
-    key: &Key,
-    number: &str,
-    row: &Row,
-    field: &str,
-    value: &str,
+    key: &'x Key,
+    row: &'x Row,
+    number: &'x str,
+    cell: (&'x str, &'x str),
 ) -> Result<(), NoMemory>
     ensures { OnOk result (lines.new
         ≡ lines.old ++ line_text (kind_name key.now.kind ∷ key.now.text ∷ row.now.table ∷ number.now
-        ∷ field.now ∷ value.now ∷ [])) }
+        ∷ cell.entry.0.now ∷ cell.entry.1.now ∷ [])) }
 {
-    write_fields(
-        lines,
-        key.kind.name().as_bytes(),
-        key.text.as_str().as_bytes(),
+    let kind: &'x str = key.kind.name();
+    let (field, value) = cell;
+    lines.write(&[
+        kind.as_bytes(),
+        key.text.as_bytes(),
         row.table().as_bytes(),
         number.as_bytes(),
         field.as_bytes(),
         value.as_bytes(),
-    )
-}
-
-fn write_fields<'x>(
-    lines: &mut Lines,
-    kind: &'x [u8],
-    key: &'x [u8],
-    table: &'x [u8],
-    row: &'x [u8],
-    field: &'x [u8],
-    value: &'x [u8],
-) -> Result<(), NoMemory>
-    ensures { OnOk result (lines.new
-        ≡ lines.old ++ line_text (kind.now ∷ key.now ∷ table.now ∷ row.now ∷ field.now ∷ value.now
-        ∷ [])) }
-{
-    lines.write(&[kind, key, table, row, field, value])
+    ])
 }

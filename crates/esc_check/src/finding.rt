@@ -102,33 +102,39 @@ impl Ord for Finding {
     }
 }
 
-/// Adds what is found of the object with this key.
+/// How an object breaks a rule: what a finding has besides the object's key.
+#[derive(Clone, Copy)]
+pub struct Breach<'a> {
+    pub rule: Rule,
+    pub field: &'a str,
+    pub value: &'a str,
+    pub other: &'a str,
+}
+
+/// Adds that the object with this key breaks a rule.
 pub fn add(
     alloc: Global,
     found: &mut Vec<Finding>,
-    rule: Rule,
     key: &Key,
-    field: &str,
-    value: &str,
-    other: &str,
+    breach: Breach<'_>,
 ) -> Result<(), NoMemory>
     ensures { OnOk result (found.new.items ≡ found.old.items
         ++ record {
-          code = rule_number rule;
+          code = rule_number breach.entry.rule;
           kind = key.now.kind;
           key = key.now.text;
-          field = field.now;
-          value = value.now;
-          other = other.now;
+          field = breach.entry.field.now;
+          value = breach.entry.value.now;
+          other = breach.entry.other.now;
         } ∷ []) }
 {
     found.push(Finding {
-        rule,
+        rule: breach.rule,
         kind: key.kind,
         key: String::from_str(alloc, key.text.as_str())?,
-        field: String::from_str(alloc, field)?,
-        value: String::from_str(alloc, value)?,
-        other: String::from_str(alloc, other)?,
+        field: String::from_str(alloc, breach.field)?,
+        value: String::from_str(alloc, breach.value)?,
+        other: String::from_str(alloc, breach.other)?,
     })?;
     Ok(())
 }

@@ -10,7 +10,7 @@ ghost use Rattle.esc_check.specs.Gathered.{text_links, field_links, child_links,
 ghost use Rattle.esc_check.specs.Gathered.{is_present, link_findings};
 
 use crate::field::{LinkField, cell, child_field, parent_fields};
-use crate::finding::{Finding, add};
+use crate::finding::{Breach, Finding, add};
 use crate::rule::Rule;
 use esc_bundle::NoMemory;
 use esc_tables::{Key, Object, Row};
@@ -117,15 +117,13 @@ fn is_missing(tables: &BTreeMap<Key, Object>, link: &Link) -> bool
 fn add_missing(alloc: Global, found: &mut Vec<Finding>, link: &Link) -> Result<(), NoMemory>
     ensures { OnOk result (found.new.items ≡ found.old.items ++ missing_target link.now ∷ []) }
 {
-    add(
-        alloc,
-        found,
-        Rule::LinkTarget,
-        &link.from,
-        link.field.name(),
-        link.to.text.as_str(),
-        link.to.kind.name(),
-    )
+    let breach = Breach {
+        rule: Rule::LinkTarget,
+        field: link.field.name(),
+        value: link.to.text.as_str(),
+        other: link.to.kind.name(),
+    };
+    add(alloc, found, &link.from, breach)
 }
 
 /// Adds the findings V1 of these links: of each that leads to no object of these tables.

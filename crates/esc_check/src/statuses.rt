@@ -10,7 +10,7 @@ ghost use Rattle.esc_check.specs.Gathered.{one_unknown, status_findings};
 ghost use Rattle.esc_check.specs.Statuses.{status_words};
 
 use crate::field::{cell, is_domain};
-use crate::finding::{Finding, add};
+use crate::finding::{Breach, Finding, add};
 use crate::rule::Rule;
 use esc_bundle::NoMemory;
 use esc_envelope::Kind;
@@ -151,7 +151,13 @@ fn add_unknown(
     if is_status(key.kind, status) {
         return Ok(());
     }
-    add(alloc, found, Rule::KnownStatus, key, "status", status, "")
+    let breach = Breach {
+        rule: Rule::KnownStatus,
+        field: "status",
+        value: status,
+        other: "",
+    };
+    add(alloc, found, key, breach)
 }
 
 fn check_each(
@@ -167,7 +173,13 @@ fn check_each(
         add_unknown(alloc, found, key, status)?;
     }
     if is_mixed(key.kind, statuses) {
-        return add(alloc, found, Rule::OkAlone, key, "status", "ok", "");
+        let breach = Breach {
+            rule: Rule::OkAlone,
+            field: "status",
+            value: "ok",
+            other: "",
+        };
+        return add(alloc, found, key, breach);
     }
     Ok(())
 }

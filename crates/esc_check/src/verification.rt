@@ -55,22 +55,6 @@ fn check_linked(
     check_links(alloc, found, tables, &links)
 }
 
-fn check_object(
-    alloc: Global,
-    found: &mut Vec<Finding>,
-    tables: &BTreeMap<Key, Object>,
-    limit: &Limit,
-    key: &Key,
-    object: &Object,
-) -> Result<(), NoMemory>
-    ensures { OnOk result (found.new.items ≡ found.old.items
-        ++ object_findings (is_present tables.now.entries) limit.now.moment
-        (string_bytes limit.now.text) (key.now, object.now)) }
-{
-    check_linked(alloc, found, tables, key, object)?;
-    check_own(alloc, found, limit, key, object)
-}
-
 fn check_objects(
     alloc: Global,
     found: &mut Vec<Finding>,
@@ -83,7 +67,8 @@ fn check_objects(
         (string_bytes limit.now.text)) tables.now.entries) }
 {
     for (key, object) in tables.iter() {
-        check_object(alloc, found, tables, limit, key, object)?;
+        check_linked(alloc, found, tables, key, object)?;
+        check_own(alloc, found, limit, key, object)?;
     }
     Ok(())
 }

@@ -15,7 +15,7 @@ loop-at-preserved c =
     let at = c.loop-at.at in
     elim c.match-cell.branch [
       | in-Some+in_ok-write_cell w ↦
-          (let x : Cell = (w.in-Some.field.now, w.in-Some.value.now) in
+          (let x : Cell = (w.in-Some.cell.0.now, w.in-Some.cell.1.now) in
           let number : w.as_str.result.now ≡ decimal c.args.number =
           w.as_str.ensures.value ∙ c.in_ok-text.ensures in
           let wrote = ap (λ (n : List _). c.loop-at.lines
