@@ -51,8 +51,8 @@ SEEDS = (*range(26), 305, 129, 68, 28)
 # Those of releases whose deposits are series.
 SERIES = (2, 3, 4, 7, 9, 13, 15, 16, 18, 29, 33, 37)
 # The tests that each pass in some of these releases, and not in others.
-TESTS = ('end', 'resends', 'gaps', 'moment', 'parked', 'findings', 'orphans', 'counts', 'fields',
-         'names', 'bodies', 'tables')
+TESTS = ('end', 'resends', 'gaps', 'moment', 'parked', 'findings', 'addresses', 'orphans', 'counts',
+         'fields', 'names', 'bodies', 'tables')
 
 
 def changed_body(change: Callable[[bytes], bytes]) -> Change:
@@ -156,7 +156,7 @@ def test_random_series(stage: Stage) -> None:
         release.rebuild(stage, store)
         with case(f'seed {seed}'):
             check_store(stage, store, release.desk(), seen)
-    check_words(seen, [it for it in TESTS if it not in ('bodies', 'moment', 'tables')])
+    check_words(seen, [it for it in TESTS if it not in ('addresses', 'bodies', 'moment', 'tables')])
 
 
 def check_words(seen: Mapping[str, set[str]], tests: Iterable[str]) -> None:
@@ -408,6 +408,40 @@ def test_digests(stage: Stage) -> None:
         'told digests: 8 have a DS that is none, which a zone leaves out; ask the agent for it: '
         f'{wrong}',
         strict=1)
+
+
+def test_addresses(stage: Stage) -> None:
+    """Hosts with addresses of both versions, with texts that are none, with addresses of another
+    version than said, and one without. The same of servers of domains, which may be without."""
+    addresses = {
+        'a': '192.0.2.255,v4', 'b': '2001:DB8::1,v6', 'c': '192.0.2.1,', 'd': '::ffff:192.0.2.1,v6',
+        'e': '1:2:3:4:5:6:7:8,v6', 'f': ',v4', 'g': '192.0.2.01,v4', 'h': '192.0.2.256,v4',
+        'i': '192.0.2.1 ,v4', 'j': '::1%eth0,v6', 'k': '1::2::3,v6', 'l': '2001:db8::1,',
+        'm': '192.0.2.1,v6', 'n': '2001:db8::1,V6', 'o': '2001:db8::1,v4'
+    }
+    hosts = Table('host', 'host', 'parent', ('name', 'roid', 'clID', 'crDate'), ''.join(
+        f'{it}.test,H{it}-EX,R1,2020-01-01T00:00:00Z\n' for it in [*addresses, 'p']).encode())
+    statuses = Table('hostStatuses', 'host', 'child', ('name', 'status'),
+                     ''.join(f'{it}.test,ok\n' for it in [*addresses, 'p']).encode())
+    of_hosts = Table('hostAddresses', 'host', 'child', ('name', 'addr', 'addrVersion'),
+                     ''.join(f'{it}.test,{text}\n' for it, text in addresses.items()).encode())
+    servers = {'a': ',', 'b': ',v6', 'c': '192.0.2.1,v4', 'd': '::1,v6', 'e': '::1,', 'f': 'no,v4'}
+    names = domains(*(f'{it}.example,R1,,{DATES},D{it}-EX' for it in servers))
+    of_all = Table('domainStatuses', 'domain', 'child', ('domainName', 'status'),
+                   ''.join(f'{it}.example,ok\n' for it in servers).encode())
+    rows = ''.join(f'{it}.example,ns.test,{text}\n' for it, text in servers.items())
+    of_domains = Table('domainHostAttr', 'domain', 'child',
+                       ('domainName', 'hostName', 'addr', 'addrVersion'), rows.encode())
+    counts = dict.fromkeys(KINDS, 0) | {
+        'registrar': 1, 'host': len(addresses) + 1, 'domain': len(servers)}
+    tables = (REGISTRARS, hosts, statuses, of_hosts, names, *CHILDREN[:2], of_all, of_domains)
+    release_of((F1, deposit(F1, tables, counts=counts))).rebuild(stage)
+    wrong = ', '.join([*(f'host {it}.test' for it in 'fghijklmno'),
+                       *(f'domain {it}.example' for it in 'ef')])
+    check_lines(
+        stage, 'a.db', 0,
+        'told addresses: 12 have an address that is none, or of another version than said; ask the '
+        f'agent for it: {wrong}', strict=1)
 
 
 def test_an_end_in_the_future(stage: Stage) -> None:

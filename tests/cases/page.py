@@ -318,7 +318,7 @@ def test_hostile_texts(stage: Stage) -> None:
     text = check_page(stage, Release(manifest([(F1, body)]), numbered([body])))
     if b'<script' in text or b'<img' in text or has_controls(text, 2):
         raise Failed('a text of a deposit stands in the page as it is')
-    if has_controls(run(stage, 'check --store a.db', 'handover', (1,)), 23):
+    if has_controls(run(stage, 'check --store a.db', 'handover', (1,)), 24):
         raise Failed('a text of a deposit stands in the lines of check as it is')
 
 

@@ -3,6 +3,7 @@
 It looks at what a store keeps (model.py), and says how each line begins. Nothing of the program is
 used."""
 import hashlib
+import ipaddress
 import re
 import time
 import unicodedata
@@ -59,13 +60,14 @@ GUIDES: tuple[Guide, ...] = (
     ('nndn', None, 'idnTableId'),
 )
 # The tests that are only told.
-TOLD_ALONE = ('gaps', 'moment', 'early', 'roids', 'required', 'outside', 'digests', 'notes')
+TOLD_ALONE = ('gaps', 'moment', 'early', 'roids', 'required', 'outside', 'digests', 'addresses',
+              'notes')
 # How the line of a rule of RFC 9022, section 8, begins after the number of objects that break it.
 RULES = {
     'registrars': "name a registrar that isn't there", 'nndns': "have a domain's name",
     'roids': 'have a ROID that another of their kind has',
     'required': 'lack what RFC 9022 requires of them', 'outside': 'are not below the TLD',
-    'digests': 'have a DS that is none'
+    'digests': 'have a DS that is none', 'addresses': 'have an address that is none'
 }
 # The fields of a parent row, by kind, and those of a postal address, that have a text (RFC 9022,
 # sections 5.1 to 5.4).
@@ -236,6 +238,24 @@ def is_wrong_ds(cells: list[tuple[str, str]]) -> bool:
     return not (is_long and re.fullmatch('[0-9A-Fa-f]*', digest))
 
 
+def version_of(text: str) -> str | None:
+    """The version of the IP address that a text writes, or None. (Python knows addresses with a
+    scope, as `fe80::1%eth0`.)"""
+    try:
+        return None if '%' in text else f'v{ipaddress.ip_address(text).version}'
+    except ValueError:
+        return None
+
+
+def is_wrong_address(kind: str, table: str, cells: list[tuple[str, str]]) -> bool:
+    """Whether a child row has an address that is none, or of another version than it says. The
+    server of a domain may be without."""
+    row = dict(reversed(cells))
+    is_address = kind == 'host' and table == 'hostAddresses' or (
+        kind == 'domain' and table == 'domainHostAttr' and row.get('addr', '') != '')
+    return is_address and version_of(row.get('addr', '')) != (row.get('addrVersion') or 'v4')
+
+
 def flaws_of(objects: Objects, tld: str | None) -> dict[str, list[Named]]:
     """The objects that break each rule, in order; tld is the one that is known, or None."""
     keys = sorted(objects, key=lambda it: (KINDS.index(it[0]), it[1]))
@@ -250,6 +270,9 @@ def flaws_of(objects: Objects, tld: str | None) -> dict[str, list[Named]]:
         'outside': lambda kind, key: kind in ('domain', 'nndn') and not key.lower().endswith(below),
         'digests': lambda kind, key: kind == 'domain' and any(
             table == 'secDNS' and is_wrong_ds(cells)
+            for table, cells in read_record(objects[kind, key])[1:]),
+        'addresses': lambda kind, key: any(
+            is_wrong_address(kind, table, cells)
             for table, cells in read_record(objects[kind, key])[1:]),
     }
     return {rule: [it for it in keys if breaks[rule](*it)] for rule in RULES}

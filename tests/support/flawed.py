@@ -45,6 +45,12 @@ OTHER_TEXTS = {
     'exDate': '2009-12-31T00:00:00Z'
 }
 NO_DATE = 'never'
+# Addresses with the version that a row says: some are right, others are none, or of another one.
+ADDRESSES = (('192.0.2.255', 'v4'), ('192.0.2.1', ''), ('2001:DB8::1', 'v6'),
+             ('::ffff:192.0.2.1', 'v6'), ('1:2:3:4:5:6:7:8', 'v6'), ('', 'v4'), ('192.0.2', 'v4'),
+             ('192.0.2.01', 'v4'), ('192.0.2.256', 'v4'), ('192.0.2.1 ', ''), ('::1%eth0', 'v6'),
+             ('1::2::3', 'v6'), ('1:2:3:4:5:6:7:8::', 'v6'), ('12345::', 'v6'), ('::1', ''),
+             ('2001:db8::1', 'v4'), ('192.0.2.1', 'v6'), ('2001:db8::1', 'V6'), ('', ''))
 
 
 class Contents:
@@ -92,6 +98,17 @@ class Contents:
                 lines.append([*lines[1][:at], 'ok', *lines[1][at + 1:]])
             lines[1][at] = text
 
+    def spoil_addresses(self, chance: random.Random) -> None:
+        """Gives some hosts and the servers of some domains other addresses."""
+        for it in self.tables['hostAddresses'][2][1:]:
+            if chance.random() < 0.3:
+                it[1:] = chance.choice(ADDRESSES)
+        keys = [it[0] for it in self.tables['domain'][2][1:] if chance.random() < 0.3]
+        fields = ['name', 'hostName', 'addr', 'addrVersion']
+        self.tables['domainHostAttr'] = ('domain', 'child', [
+            fields, *([it, 'ns.other.example', *chance.choice(ADDRESSES)] for it in keys)
+        ])
+
     def body(self, header: Header, deletes: Sequence[str], counts: dict[str, int]) -> bytes:
         tables = {
             name: it
@@ -124,6 +141,8 @@ class Agent:
 
     def __init__(self, seed: int, flaws: Sequence[str] = ()) -> None:
         self.random, self.flaws = random.Random(seed), flaws
+        # What draws addresses, so that all else of a seed is the same with them and without.
+        self.chance = random.Random(f'addresses {seed}')
         self.registry = Registry(seed, FIRST, words=0)
         self.last_id = ''
         self.deleted: list[str] = []
@@ -153,6 +172,8 @@ class Agent:
         return [(kind, key) for kind, keys in self.registry.keys.items() for key in keys]
 
     def spoil(self, contents: Contents) -> None:
+        if 'addresses' in self.flaws:
+            contents.spoil_addresses(self.chance)
         if self.has('cells', 0.7):
             for guide in self.random.sample(GUIDES, 4):
                 contents.spoil_cell(
@@ -282,8 +303,9 @@ def draw_series(seed: int) -> Release:
 
 
 def draw_release(seed: int) -> Release:
-    """The release of a seed."""
-    return Agent(seed, draw_flaws(random.Random(seed), FLAWS)).make()
+    """The release of a seed. Of two in three some addresses are wrong."""
+    flaws = draw_flaws(random.Random(seed), FLAWS)
+    return Agent(seed, [*flaws, *(['addresses'] if seed % 3 else [])]).make()
 
 
 def some_release(seed: int) -> Release:

@@ -15,6 +15,7 @@ use Rattle.esc_chain.specs.declared.gap.State.TheVariants as state
 use Rattle.esc_conformity.specs.declared.rule.Rule.{Rule}
 use Rattle.esc_conformity.specs.declared.rule.Rule.TheVariants.{Registrars, Nndns, Roids}
 use Rattle.esc_conformity.specs.declared.rule.Rule.TheVariants.{Required, Outside, Digests}
+use Rattle.esc_conformity.specs.declared.rule.Rule.TheVariants.{Addresses}
 use Rattle.esc_conformity.specs.declared.found.Flaws.{Flaws}
 use Rattle.esc_conformity.specs.Flaws.{rule_name}
 use Rattle.esc_conformity.specs.Found.{keys_by}
@@ -129,8 +130,8 @@ tests =
     test.Tld ∷ test.End ∷ test.Future ∷ test.Chain ∷ test.Resends ∷ test.Gaps ∷ test.Moment ∷
     test.Parked ∷ test.Early ∷ test.Findings ∷ test.Conforms Registrars ∷ test.Conforms Nndns ∷
     test.Conforms Roids ∷ test.Conforms Required ∷ test.Conforms Outside ∷ test.Conforms Digests ∷
-    test.Orphans ∷ test.Counts ∷ test.Fields ∷ test.Names ∷ test.Bodies ∷ test.Tables ∷
-    test.Notes ∷ []
+    test.Conforms Addresses ∷ test.Orphans ∷ test.Counts ∷ test.Fields ∷ test.Names ∷
+    test.Bodies ∷ test.Tables ∷ test.Notes ∷ []
 
 -- whether a registry may be taken over where objects break a rule
 abbrev pub is_rule_told : Rule → Bool
@@ -140,6 +141,7 @@ is_rule_told Roids = true
 is_rule_told Required = true
 is_rule_told Outside = true
 is_rule_told Digests = true
+is_rule_told Addresses = true
 
 -- whether a registry may be taken over where a test fails: then it is only told
 abbrev pub is_told_alone : Test → Bool

@@ -191,7 +191,7 @@ pub fn passes(test: Test, seen: &Seen<'_>) -> bool
 }
 
 #[tactic(auto, unfolding(crate::specs::Acceptance::tests))]
-pub(crate) fn all_tests() -> [Test; 23]
+pub(crate) fn all_tests() -> [Test; 24]
     ensures { result ≡ tests }
 {
     Test::ALL

@@ -204,6 +204,9 @@ fn said_of(rule: Rule) -> &'static str {
         }
         Rule::Outside => "are not below the TLD; ask the agent why they are there",
         Rule::Digests => "have a DS that is none, which a zone leaves out; ask the agent for it",
+        Rule::Addresses => {
+            "have an address that is none, or of another version than said; ask the agent for it"
+        }
     }
 }
 

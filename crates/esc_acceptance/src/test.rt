@@ -52,14 +52,14 @@ fn is_rule_told(rule: Rule) -> bool
     ensures { result ≡ is_rule_told rule }
 {
     match rule {
-        Rule::Roids | Rule::Required | Rule::Outside | Rule::Digests => true,
+        Rule::Roids | Rule::Required | Rule::Outside | Rule::Digests | Rule::Addresses => true,
         Rule::Registrars | Rule::Nndns => false,
     }
 }
 
 impl Test {
     /// All tests, in the order in which they are told.
-    pub const ALL: [Test; 23] = [
+    pub const ALL: [Test; 24] = [
         Test::Tld,
         Test::End,
         Test::Future,
@@ -76,6 +76,7 @@ impl Test {
         Test::Conforms(Rule::Required),
         Test::Conforms(Rule::Outside),
         Test::Conforms(Rule::Digests),
+        Test::Conforms(Rule::Addresses),
         Test::Orphans,
         Test::Counts,
         Test::Fields,

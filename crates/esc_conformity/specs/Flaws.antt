@@ -18,7 +18,9 @@ use Rattle.esc_check.specs.Gathered.{is_empty_text, is_present}
 use Rattle.esc_conformity.specs.declared.rule.Rule.{Rule}
 use Rattle.esc_conformity.specs.declared.rule.Rule.TheVariants.{Registrars, Nndns, Roids}
 use Rattle.esc_conformity.specs.declared.rule.Rule.TheVariants.{Required, Outside, Digests}
+use Rattle.esc_conformity.specs.declared.rule.Rule.TheVariants.{Addresses}
 use Rattle.esc_conformity.specs.Digests.{has_wrong_ds}
+use Rattle.esc_conformity.specs.HostAddresses.{has_wrong_address}
 use Rattle.esc_conformity.specs.Required.{lacks_required}
 
 -- the name of a rule
@@ -29,6 +31,7 @@ rule_name Roids = codes "roids"
 rule_name Required = codes "required"
 rule_name Outside = codes "outside"
 rule_name Digests = codes "digests"
+rule_name Addresses = codes "addresses"
 
 -- ---- registrars
 
@@ -96,6 +99,7 @@ breaks Roids tld es e = shares_roid es e
 breaks Required tld es e = lacks_required e
 breaks Outside tld es e = is_outside tld e.0
 breaks Digests tld es e = has_wrong_ds e
+breaks Addresses tld es e = has_wrong_address e
 
 -- its key, if it does
 abbrev pub flaw_of : Bool → KeyName → List KeyName

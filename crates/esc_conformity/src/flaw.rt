@@ -4,6 +4,7 @@ ghost use Rattle.std.specs.Prelude.{◌≡◌, ◌++◌, IfOk, OnOk, option_map}
 ghost use Rattle.esc_conformity.specs.Flaws.{breaks, flaw_of, flaws};
 ghost use Rattle.esc_conformity.specs.Roids.{AreShared};
 
+use crate::address::has_wrong_address;
 use crate::digest::has_wrong_ds;
 use crate::name::{is_doubled, is_outside};
 use crate::registrar::has_stranger;
@@ -44,6 +45,7 @@ fn breaks(
         Rule::Required => Ok(lacks_required(key, object)),
         Rule::Outside => Ok(is_outside(registry.tld, key)),
         Rule::Digests => Ok(has_wrong_ds(key, object)),
+        Rule::Addresses => Ok(has_wrong_address(key, object)),
     }
 }
 

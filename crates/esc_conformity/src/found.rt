@@ -21,6 +21,7 @@ pub struct Flaws {
     pub required: Vec<Key>,
     pub outside: Vec<Key>,
     pub digests: Vec<Key>,
+    pub addresses: Vec<Key>,
 }
 
 impl Flaws {
@@ -35,6 +36,7 @@ impl Flaws {
             required: Vec::new(alloc),
             outside: Vec::new(alloc),
             digests: Vec::new(alloc),
+            addresses: Vec::new(alloc),
         }
     }
 
@@ -61,6 +63,7 @@ impl Flaws {
             required: flawed_keys(alloc, Rule::Required, &registry)?,
             outside: flawed_keys(alloc, Rule::Outside, &registry)?,
             digests: flawed_keys(alloc, Rule::Digests, &registry)?,
+            addresses: flawed_keys(alloc, Rule::Addresses, &registry)?,
         })
     }
 
@@ -75,6 +78,7 @@ impl Flaws {
             Rule::Required => &self.required,
             Rule::Outside => &self.outside,
             Rule::Digests => &self.digests,
+            Rule::Addresses => &self.addresses,
         }
     }
 }

@@ -14,7 +14,10 @@
 //! - `Outside`: a domain or an NNDN is not below the TLD, if that is known;
 //! - `Digests`: a row of `secDNS` of a domain has a part of a DS, and `keyTag` is no number of two
 //!   bytes, `dsAlg` or `digestType` none of one byte, or `digest` not in hexadecimal digits: 40 of
-//!   type 1, 64 of type 2, 96 of type 4, of other types two or more, and no odd number.
+//!   type 1, 64 of type 2, 96 of type 4, of other types two or more, and no odd number;
+//! - `Addresses`: the `addr` of a row of `hostAddresses` of a host, or of `domainHostAttr` of a
+//!   domain, writes no IP address, or one of another version than `addrVersion` says (`v4` or `v6`,
+//!   and `v4` where it is empty). Only in `domainHostAttr` it may be empty.
 //!
 //! An empty text names nobody. (`esc_check` has links by `clID`, contacts, hosts and IDN tables.)
 //!
@@ -29,6 +32,7 @@
 //! What `find` returns are just the keys of those that do.
 #![tactic(auto)]
 
+mod address;
 mod cell;
 mod digest;
 mod flaw;

@@ -19,6 +19,8 @@ pub enum Rule {
     Outside,
     /// Each part of a DS is of a whole one (RFC 4034, section 5.1).
     Digests,
+    /// An address of a host is one, of the version that is said (RFC 5732, section 2.5).
+    Addresses,
 }
 
 impl Rule {
@@ -33,6 +35,7 @@ impl Rule {
             Rule::Required => "required",
             Rule::Outside => "outside",
             Rule::Digests => "digests",
+            Rule::Addresses => "addresses",
         }
     }
 }

@@ -49,4 +49,4 @@ module _ (is_strict : Bool) (s : SeenValue) (zero : status_of is_strict s ≡ 0)
   pub orphans_pass : passes test.Orphans s ≡ true
   unfolding tests
   orphans_pass = AllPass-from_list_all (λ t. is_told_alone t || passes t s) tests
-      (zero_accepts is_strict s zero) 16 test.Tld (omega arith)
+      (zero_accepts is_strict s zero) 17 test.Tld (omega arith)

@@ -82,6 +82,7 @@ roids       no two objects of a kind have one ROID (told)
 required    each object has what RFC 9022 requires of its kind (told)
 outside     each domain and NNDN is below the TLD, where the bundles name one (told)
 digests     each DS has its numbers, and a digest as long as its type asks for (told)
+addresses   each address of a host is one, of the version that is said (told)
 orphans     each child row in the chain's deposits has its parent row
 counts      the chain's last deposit declares how many objects of each kind there are
 fields      each field that has links, statuses or dates is in each object of its kind
