@@ -28,6 +28,13 @@ struct FilePlace {
     file: usize,
 }
 
+/// A file of a table, and whether it begins with a heading.
+#[derive(Clone, Copy)]
+struct GivenFile<'a> {
+    text: &'a [u8],
+    has_heading: bool,
+}
+
 // The fields of a record.
 fn fields_of(alloc: Global, line: &Record) -> Result<Vec<&[u8]>, NoMemory>
     ensures { IfOk result (λ fields. map (λ f. f.now) fields.items ≡ line.now) }
@@ -132,21 +139,20 @@ fn write_file(
     alloc: Global,
     lines: &mut Lines,
     table: &Table,
-    has_heading: bool,
-    file: &[u8],
+    file: GivenFile<'_>,
     place: FilePlace,
 ) -> Result<(), BundleFault>
     ensures written { OnOk result (lines.new
-        ≡ lines.old ++ text_of (file_rows has_heading file.now)) }
+        ≡ lines.old ++ text_of (file_rows file.entry.has_heading file.entry.text.now)) }
     ensures whole { OnOk result (list_all (has_width (length table.now.fields))
-        (file_rows has_heading file.now) ≡ true) }
-    ensures headed { OnOk result (has_heading ≡ true
-        → IsHeaded table.now file.now) }
-    ensures refused { IfErr result (OrNoMemory
-        (IsFileRefusal table.now has_heading file.now place.table place.file)) }
+        (file_rows file.entry.has_heading file.entry.text.now) ≡ true) }
+    ensures headed { OnOk result (file.entry.has_heading ≡ true
+        → IsHeaded table.now file.entry.text.now) }
+    ensures refused { IfErr result (OrNoMemory (IsFileRefusal table.now file.entry.has_heading
+        file.entry.text.now place.table place.file)) }
 {
-    let mut rows = Records::of(alloc, file);
-    if has_heading && !skip_heading(alloc, &mut rows, table)? {
+    let mut rows = Records::of(alloc, file.text);
+    if file.has_heading && !skip_heading(alloc, &mut rows, table)? {
         return Err(BundleFault::Heading {
             table: place.table,
             file: place.file,
@@ -170,12 +176,16 @@ fn write_files(
     ensures refused { IfErr result
         (OrNoMemory (IsTableRefusal (table.now, given.now) number)) }
 {
-    for (at, file) in given.files.iter().enumerate() {
+    for (at, text) in given.files.iter().enumerate() {
         let place = FilePlace {
             table: number,
             file: at,
         };
-        write_file(alloc, lines, table, given.has_heading, file, place)?;
+        let file = GivenFile {
+            text,
+            has_heading: given.has_heading,
+        };
+        write_file(alloc, lines, table, file, place)?;
     }
     Ok(())
 }

@@ -46,49 +46,33 @@ fn digest_field(alloc: Global, digest: &[u8; 32]) -> Result<String, NoMemory>
 fn write_heading(lines: &mut Lines) -> Result<(), NoMemory>
     ensures { OnOk result (lines.new ≡ lines.old ++ line_text manifest_heading) }
 {
-    write_fields(
-        lines,
+    lines.write(&[
         b"id",
         b"type",
         b"watermark",
         b"prevId",
         b"resend",
         b"sha256",
-    )
+    ])
 }
 
-fn write_fields<'x>(
-    lines: &mut Lines,
-    id: &'x [u8],
-    kind: &'x [u8],
-    watermark: &'x [u8],
-    prev: &'x [u8],
-    resend: &'x [u8],
-    digest: &'x [u8],
-) -> Result<(), NoMemory>
-    ensures { OnOk result (lines.new ≡ lines.old ++ line_text (id.now ∷ kind.now
-        ∷ watermark.now ∷ prev.now ∷ resend.now ∷ digest.now ∷ [])) }
-{
-    lines.write(&[id, kind, watermark, prev, resend, digest])
-}
-
-fn write_row(alloc: Global, lines: &mut Lines, row: &MRow) -> Result<(), NoMemory>
+fn write_row<'x>(alloc: Global, lines: &mut Lines, row: &'x MRow) -> Result<(), NoMemory>
     requires { IsInYears row.now.header.place.watermark }
     ensures written { OnOk result (lines.new ≡ lines.old ++ line_text (manifest_line row.now)) }
     ensures legible { OnOk result (IsLegible row.now) }
 {
+    let kind: &'x str = row.header.place.kind.name();
     let watermark = moment_field(alloc, row.header.place.watermark)?;
     let resend = resend_field(alloc, row.header.resend)?;
     let digest = digest_field(alloc, &row.digest)?;
-    write_fields(
-        lines,
+    lines.write(&[
         row.header.id.as_bytes(),
-        row.header.place.kind.name().as_bytes(),
+        kind.as_bytes(),
         watermark.as_bytes(),
         row.header.prev.as_deref().unwrap_or("").as_bytes(),
         resend.as_bytes(),
         digest.as_bytes(),
-    )
+    ])
 }
 
 fn write_rows(alloc: Global, lines: &mut Lines, rows: &[MRow]) -> Result<(), NoMemory>

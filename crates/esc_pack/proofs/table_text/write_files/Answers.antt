@@ -10,7 +10,7 @@ use Rattle.esc_pack.proofs.table_text.write_files.Goals as goal
 pub loop-at-preserved : goal.loop-at-preserved
 loop-at-preserved c =
     let nothing : Bor (List ℕ) = record { ref_ptr = (0, 0); now = [] } in
-    let file = file_at nothing c.given.view_is c.deref-file-items.ensures.value c.loop-at-test.true in
+    let file = file_at nothing c.given.view_is c.deref-text-items.ensures.value c.loop-at-test.true in
     let fields = c.args.table.now.fields in
     let table = c.args.table.now in
     record {
@@ -24,15 +24,15 @@ loop-at-preserved c =
 
 pub returns-clause-headed : goal.returns-clause-headed
 returns-clause-headed c =
-    let end = all_taken c.given.view_is c.deref-file-items.ensures.value c.loop-at-test.false in
+    let end = all_taken c.given.view_is c.deref-text-items.ensures.value c.loop-at-test.false in
     λ is. subst (λ (fs : List (List ℕ)). All (IsHeaded c.args.table.now) fs) end (c.loop-at.invariant.headed is)
 
 pub returns-in_err-write_file-clause-refused : goal.returns-in_err-write_file-clause-refused
 returns-in_err-write_file-clause-refused c =
     let nothing : Bor (List ℕ) = record { ref_ptr = (0, 0); now = [] } in
-    let file = file_at nothing c.given.view_is c.deref-file-items.ensures.value c.loop-at-test.true in
+    let file = file_at nothing c.given.view_is c.deref-text-items.ensures.value c.loop-at-test.true in
     let table = c.args.table.now in
-    let text : List ℕ = (get_or c.deref-file-items.result.now c.loop-at.at nothing).now in
+    let text : List ℕ = (get_or c.deref-text-items.result.now c.loop-at.at nothing).now in
     let p = err_from_is_err_and c.from_residual.result c.from_residual.ensures.1 in
     rw (p.1, p.2)
     (or_weaker (IsFileRefusal table c.given.inside.has_heading text c.args.number c.loop-at.at)
