@@ -60,17 +60,17 @@ use Rattle.esc_desk.proofs.OneArrival.{new_reply}
 use Rattle.esc_desk.proofs.RunLemmas.{reply_stays}
 
 -- what a store was asked
-pub asked_of : {S : Type 0} (g : Ghosts S) (desk : Desk S) (mid : Store S) (cache : Option Cache) (n
-    digest : List ℕ) (kept : Option ReplyValue) (e : List EventValue) (served : DeskReflects g desk e)
-    → IsAsBefore g desk.store mid → cache ≡ desk.cache
+pub asked_of : {S : Type 0} (g : Ghosts S) (desk : Desk S) (mid : Store S) (n digest : List ℕ)
+    (kept : Option ReplyValue) (e : List EventValue) (served : DeskReflects g desk e)
+    → IsAsBefore g desk.store mid
     → kept ≡ reply_alike served.serves.kept.listed 1 n digest served.serves.kept.receipts
-    → IsAsked g mid cache n digest kept e served.serves.kept
-asked_of g desk mid cache n digest kept e served same is found =
+    → IsAsked g mid desk.cache n digest kept e served.serves.kept
+asked_of g desk mid n digest kept e served same found =
     let k = served.serves.kept in
     record {
       stood = same.stands k served.serves.stands;
       stands_for = served.serves.stands_for;
-      cache_is = subst (λ (o : Option Cache). IfSome o (IsCacheOf k)) (sym is) served.remembers;
+      cache_is = served.remembers;
       kept_is = sym (found ∙ ap (λ (m : List MRow). reply_alike m 1 n digest k.receipts)
           served.serves.stands_for.books.listed);
     }

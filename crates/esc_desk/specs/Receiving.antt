@@ -2,10 +2,15 @@
 use Rattle.std.specs.Prelude.{◌≡◌, List, [], ◌∷◌, ◌++◌}
 use Rattle.esc_store.specs.StoreState.{StoreState, AreHeldBy}
 use Rattle.esc_events.specs.declared.cache.Cache.{Cache}
-use Rattle.esc_events.specs.ArrivalValue.{ArrivalValue}
+use Rattle.esc_events.specs.ArrivalValue.{ArrivalValue, an_arrival}
 use Rattle.esc_events.specs.Events.{EventValue}
 use Rattle.esc_events.specs.Taking.{IsNew}
+use Rattle.esc_desk.specs.declared.delivery.Delivery.{Delivery}
 use Rattle.esc_desk.specs.declared.receiving.Received.{Received}
+
+-- what was delivered, as an arrival
+abbrev pub delivered : Delivery → ArrivalValue
+delivered d = an_arrival d.number.now d.content.body.now
 
 -- this is the receipt, by what was found and was known of the rows before, and this is known then
 pub record IsReceived (e : List EventValue) (a : ArrivalValue) (k : StoreState) (before : Cache)

@@ -5,7 +5,6 @@
 //! as that of a new arrival would be, unless it is there.
 
 ghost use Rattle.std.specs.Prelude.{◌≡◌, ℕ, List, Some, None, IfOk, IfErr};
-ghost use Rattle.sha2.specs.Sha256.{sha256};
 ghost use Rattle.esc_store.specs.Faults.{IsArrivalFault};
 ghost use Rattle.esc_store.specs.StoreState.{StoreState};
 ghost use Rattle.esc_store.specs.Representation.{IsHonest, IsAsBefore};
@@ -14,16 +13,16 @@ ghost use Rattle.esc_events.specs.Events.{EventValue};
 ghost use Rattle.esc_desk.specs.Answering.{IsAsked, IsAnswer, numbered};
 ghost use Rattle.esc_desk.specs.Calls.{IsCause};
 ghost use Rattle.esc_desk.specs.Decisions.{IsSound};
+ghost use Rattle.esc_desk.specs.Receiving.{delivered};
 
-use crate::assessment::find;
-use crate::caching::cache_or;
+use crate::assessment::{Assessed, find};
 use crate::decision::Decision;
+use crate::delivery::{Content, Delivery};
+use crate::desk::Desk;
 use crate::edit::Storing;
-use crate::intake::decide_arrival;
+use crate::intake::{Noted, decide_arrival};
 use crate::receiving::{Received, receive};
-use crate::reread::Reread;
-use esc_events::Cache;
-use esc_store::{Number, Reply, Store, StoreFault, Verdict};
+use esc_store::{Reply, StoreFault, Verdict};
 use sqlite::Alter;
 use std::alloc::Global;
 
@@ -46,113 +45,120 @@ pub(crate) fn numbered(reply: Reply, is_new: bool, number: u64) -> Reply
     reply
 }
 
-/// What an arrival is answered, and what it comes to: `kept` is the reply that the store keeps for
-/// it, and `cache` what is known of the store's rows, if anything is.
-pub(crate) fn answer_arrival<'n, 'b, S: Alter>(
-    store: &mut Store<S>,
-    alloc: Global,
-    kept: Option<Reply>,
-    number: &Number<'n>,
-    digest: [u8; 32],
-    body: &'b [u8],
-    cache: Option<Cache>,
-    last: &mut Option<Reread>,
-) -> Result<Answer<'n, 'b>, StoreFault>
-    requires { digest ≡ sha256 body.now }
-    ensures same { IsAsBefore S.Store store.old store.new }
-    ensures sound { IfOk result (λ p. IsSound store.new.manifest p.decision) }
-    ensures answers { IsHonest S.Store store.new → (e : List EventValue) (k : StoreState)
-        → IsAsked S.Store store.old cache number.now digest kept e k
-        → IfOk result (IsAnswer e (an_arrival number.now body.now) k) }
-    ensures cause { IfErr result IsArrivalFault }
-    ensures full { IsHonest S.Store store.new → (e : List EventValue) (k : StoreState)
-        → IsAsked S.Store store.old cache number.now digest kept e k
-        → IfErr result (IsCause e (an_arrival number.now body.now)) }
-{
-    match kept {
-        Some(reply) => answer_again(store, alloc, reply, digest, body, cache, last),
-        None => answer_new(store, alloc, number, digest, body, cache, last),
-    }
-}
-
-// What an arrival is answered for which no receipt is kept.
-#[tactic(auto, using(esc_store::specs::StandingLaws::was_honest))]
-fn answer_new<'n, 'b, S: Alter>(
-    store: &mut Store<S>,
-    alloc: Global,
-    number: &Number<'n>,
-    digest: [u8; 32],
-    body: &'b [u8],
-    cache: Option<Cache>,
-    last: &mut Option<Reread>,
-) -> Result<Answer<'n, 'b>, StoreFault>
-    requires { digest ≡ sha256 body.now }
-    ensures same { IsAsBefore S.Store store.old store.new }
-    ensures sound { IfOk result (λ p. IsSound store.new.manifest p.decision) }
-    ensures answers { IsHonest S.Store store.new → (e : List EventValue) (k : StoreState)
-        → IsAsked S.Store store.old cache number.now digest None e k
-        → IfOk result (IsAnswer e (an_arrival number.now body.now) k) }
-    ensures cause { IfErr result IsArrivalFault }
-    ensures full { IsHonest S.Store store.new → (e : List EventValue) (k : StoreState)
-        → IsAsked S.Store store.old cache number.now digest None e k
-        → IfErr result (IsCause e (an_arrival number.now body.now)) }
-{
-    let before = cache_or(store, alloc, cache)?;
-    let first = last.take();
-    let manifest = store.manifest();
-    let Received {
-        found,
-        receipt,
-        reply,
-        cache,
-    } = receive(alloc, manifest, number, digest, body, first, before)?;
-    let decision = decide_arrival(
-        store,
-        alloc,
-        Some(receipt),
-        cache,
-        found,
-        digest,
-        body,
-        last,
-    )?;
-    Ok(Answer { reply, decision })
-}
-
-// What a duplicate of an arrival with this reply is answered.
-#[tactic(auto, using(esc_store::specs::StandingLaws::was_honest))]
-fn answer_again<'n, 'b, S: Alter>(
-    store: &mut Store<S>,
-    alloc: Global,
-    reply: Reply,
-    digest: [u8; 32],
-    body: &'b [u8],
-    cache: Option<Cache>,
-    last: &mut Option<Reread>,
-) -> Result<Answer<'n, 'b>, StoreFault>
-    requires { digest ≡ sha256 body.now }
-    ensures same { IsAsBefore S.Store store.old store.new }
-    ensures sound { IfOk result (λ p. IsSound store.new.manifest p.decision) }
-    ensures answers { IsHonest S.Store store.new
-        → (e : List EventValue) (n : List ℕ) (k : StoreState)
-        → IsAsked S.Store store.old cache n digest (Some reply) e k
-        → IfOk result (IsAnswer e (an_arrival n body.now) k) }
-    ensures cause { IfErr result IsArrivalFault }
-    ensures full { IsHonest S.Store store.new → (e : List EventValue) (n : List ℕ) (k : StoreState)
-        → IsAsked S.Store store.old cache n digest (Some reply) e k
-        → IfErr result (IsCause e (an_arrival n body.now)) }
-{
-    match reply.verdict {
-        Verdict::A2 => {
-            let cache = cache_or(store, alloc, cache)?;
-            let first = last.take();
-            let found = find(alloc, store.manifest(), &digest, body, first)?;
-            let decision = decide_arrival(store, alloc, None, cache, found, digest, body, last)?;
-            Ok(Answer { reply, decision })
+impl<S: Alter> Desk<S> {
+    /// What an arrival is answered, and what it comes to: `kept` is the reply that the store keeps
+    /// for it. What was known of the store's rows is forgotten.
+    pub(crate) fn answer_arrival<'n, 'b>(
+        &mut self,
+        alloc: Global,
+        kept: Option<Reply>,
+        delivery: Delivery<'_, 'n, 'b>,
+    ) -> Result<Answer<'n, 'b>, StoreFault>
+        ensures same { IsAsBefore S.Store self.old.store self.new.store }
+        ensures forgotten { self.new.cache ≡ None }
+        ensures sound { IfOk result (λ p. IsSound self.new.store.manifest p.decision) }
+        ensures answers { IsHonest S.Store self.new.store
+            → (e : List EventValue) (k : StoreState)
+            → IsAsked S.Store self.old.store self.old.cache
+            delivery.entry.number.now delivery.entry.content.digest kept e k
+            → IfOk result (IsAnswer e (delivered delivery.entry) k) }
+        ensures cause { IfErr result IsArrivalFault }
+        ensures full { IsHonest S.Store self.new.store
+            → (e : List EventValue) (k : StoreState)
+            → IsAsked S.Store self.old.store self.old.cache
+            delivery.entry.number.now delivery.entry.content.digest kept e k
+            → IfErr result (IsCause e (delivered delivery.entry)) }
+    {
+        match kept {
+            Some(reply) => self.answer_again(alloc, reply, delivery.content),
+            None => self.answer_new(alloc, delivery),
         }
-        Verdict::A1 | Verdict::A3(_) | Verdict::A4 | Verdict::A5 => Ok(Answer {
+    }
+
+    // What an arrival is answered for which no receipt is kept.
+    #[tactic(auto, using(esc_store::specs::StandingLaws::was_honest))]
+    fn answer_new<'n, 'b>(
+        &mut self,
+        alloc: Global,
+        delivery: Delivery<'_, 'n, 'b>,
+    ) -> Result<Answer<'n, 'b>, StoreFault>
+        ensures same { IsAsBefore S.Store self.old.store self.new.store }
+        ensures forgotten { self.new.cache ≡ None }
+        ensures sound { IfOk result (λ p. IsSound self.new.store.manifest p.decision) }
+        ensures answers { IsHonest S.Store self.new.store
+            → (e : List EventValue) (k : StoreState)
+            → IsAsked S.Store self.old.store self.old.cache
+            delivery.entry.number.now delivery.entry.content.digest None e k
+            → IfOk result (IsAnswer e (delivered delivery.entry) k) }
+        ensures cause { IfErr result IsArrivalFault }
+        ensures full { IsHonest S.Store self.new.store
+            → (e : List EventValue) (k : StoreState)
+            → IsAsked S.Store self.old.store self.old.cache
+            delivery.entry.number.now delivery.entry.content.digest None e k
+            → IfErr result (IsCause e (delivered delivery.entry)) }
+    {
+        let content = delivery.content;
+        let before = self.take_cache(alloc)?;
+        let first = self.reread.take();
+        let manifest = self.store.manifest();
+        let Received {
+            found,
+            receipt,
             reply,
-            decision: Decision::still(None, cache, Storing::Nothing),
-        }),
+            cache,
+        } = receive(alloc, manifest, delivery, first, before)?;
+        let noted = Noted {
+            receipt: Some(receipt),
+            cache,
+        };
+        let assessed = Assessed { content, found };
+        let store = &mut self.store;
+        let decision = decide_arrival(store, alloc, noted, assessed, &mut self.reread)?;
+        Ok(Answer { reply, decision })
+    }
+
+    // What a duplicate of an arrival with this reply is answered.
+    #[tactic(auto, using(esc_store::specs::StandingLaws::was_honest))]
+    fn answer_again<'n, 'b>(
+        &mut self,
+        alloc: Global,
+        reply: Reply,
+        content: Content<'b>,
+    ) -> Result<Answer<'n, 'b>, StoreFault>
+        ensures same { IsAsBefore S.Store self.old.store self.new.store }
+        ensures forgotten { self.new.cache ≡ None }
+        ensures sound { IfOk result (λ p. IsSound self.new.store.manifest p.decision) }
+        ensures answers { IsHonest S.Store self.new.store
+            → (e : List EventValue) (n : List ℕ) (k : StoreState)
+            → IsAsked S.Store self.old.store self.old.cache n content.entry.digest (Some reply) e k
+            → IfOk result (IsAnswer e (an_arrival n content.entry.body.now) k) }
+        ensures cause { IfErr result IsArrivalFault }
+        ensures full { IsHonest S.Store self.new.store
+            → (e : List EventValue) (n : List ℕ) (k : StoreState)
+            → IsAsked S.Store self.old.store self.old.cache n content.entry.digest (Some reply) e k
+            → IfErr result (IsCause e (an_arrival n content.entry.body.now)) }
+    {
+        match reply.verdict {
+            Verdict::A2 => {
+                let cache = self.take_cache(alloc)?;
+                let first = self.reread.take();
+                let found = find(alloc, self.store.manifest(), content, first)?;
+                let noted = Noted {
+                    receipt: None,
+                    cache,
+                };
+                let assessed = Assessed { content, found };
+                let store = &mut self.store;
+                let decision = decide_arrival(store, alloc, noted, assessed, &mut self.reread)?;
+                Ok(Answer { reply, decision })
+            }
+            Verdict::A1 | Verdict::A3(_) | Verdict::A4 | Verdict::A5 => {
+                let cache = self.cache.take();
+                Ok(Answer {
+                    reply,
+                    decision: Decision::still(None, cache, Storing::Nothing),
+                })
+            }
+        }
     }
 }

@@ -7,6 +7,7 @@ ghost use Rattle.esc_tables.specs.Reading.{reading};
 ghost use Rattle.esc_events.specs.declared.assessment.Assessment.TheVariants.{Holding};
 ghost use Rattle.esc_events.specs.Assessment.{as_listed, compared, assessment, held_row};
 
+use crate::delivery::Content;
 use crate::reread::{Reread, deposit_of_body};
 use esc_bundle::{Fault, NoMemory};
 use esc_envelope::{DepositType, Header};
@@ -15,25 +16,33 @@ use esc_manifest::{MRow, Manifest};
 use esc_tables::Deposit;
 use std::alloc::Global;
 
-/// What is found of a body with this digest by the rows of a manifest. The body isn't read where
-/// it is that of `last`.
+/// A body with what was found of it by the listed rows.
+#[derive(Drop)]
+pub(crate) struct Assessed<'b> {
+    pub(crate) content: Content<'b>,
+    pub(crate) found: Assessment,
+    ghost read: { (r : ℕ) (d : DepositValue) → found ≡ Holding r d
+        → reading content.body.now ≡ Ok d },
+}
+
+/// What is found of a body by the rows of a manifest. The body isn't read where it is that of
+/// `last`.
 pub(crate) fn find(
     alloc: Global,
     manifest: &Manifest,
-    digest: &[u8; 32],
-    body: &[u8],
+    content: Content<'_>,
     last: Option<Reread>,
 ) -> Result<Assessment, NoMemory>
-    requires { digest.now ≡ sha256 body.now }
-    ensures found { IfOk result (λ f. f ≡ assessment sha256 reading manifest.now body.now) }
+    ensures found { IfOk result
+        (λ f. f ≡ assessment sha256 reading manifest.now content.entry.body.now) }
     ensures row { IfOk result (λ f. IfSome (held_row f) (λ r. r < length manifest.now)) }
     ensures read { IfOk result (λ f. (r : ℕ) (d : DepositValue) → f ≡ Holding r d
-        → reading body.now ≡ Ok d) }
+        → reading content.entry.body.now ≡ Ok d) }
 {
-    let Some(row) = manifest.row_by_digest(digest) else {
+    let Some(row) = manifest.row_by_digest(&content.digest) else {
         return Ok(Assessment::Unlisted);
     };
-    match deposit_of_body(alloc, last, body) {
+    match deposit_of_body(alloc, last, content.body) {
         Ok(deposit) => Ok(compare(manifest.rows(), row, deposit)),
         Err(Fault::Refused(refusal)) => Ok(Assessment::Unreadable(row, refusal)),
         Err(Fault::NoMemory) => Err(NoMemory),

@@ -15,8 +15,9 @@ ghost use Rattle.esc_desk.specs.Calls.{OkForDeskEvents, ForEventsInDoubt, IsWhol
 ghost use Rattle.esc_desk.specs.Calls.{Answers};
 ghost use Rattle.esc_desk.specs.Reflection.{StoreReflects, DeskReflects};
 
-use crate::answering::{Answer, answer_arrival, numbered};
+use crate::answering::{Answer, numbered};
 use crate::caching::cache_or;
+use crate::delivery::{Content, Delivery};
 use crate::reread::Reread;
 use esc_apply::Work;
 use esc_events::Cache;
@@ -102,10 +103,8 @@ impl<S: Alter> Desk<S> {
         // Read for the proof alone: it shows that the count is below 2^64.
         let _writes = self.store.writes();
         let kept = self.store.receipt_of(alloc, number, &digest)?;
-        let cache = self.cache.take();
-        let last = &mut self.reread;
-        let store = &mut self.store;
-        let answer = answer_arrival(store, alloc, kept, number, digest, body, cache, last)?;
+        let content = Content { digest, body };
+        let answer = self.answer_arrival(alloc, kept, Delivery { number, content })?;
         let Answer { reply, decision } = answer;
         let is_new = decision.edit.receipt.is_some();
         let (number, work) = self.make(alloc, decision)?;

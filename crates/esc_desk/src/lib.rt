@@ -121,10 +121,10 @@
 //! changed (`commit`). `Desk::make` does so for every event, and then remembers what is known of
 //! the rows; an edit that changes nothing is not committed.
 //!
-//! An arrival is decided by `answer_arrival`: a duplicate of an earlier one has that one's reply,
-//! and an empty edit unless the reply is `A2`; a new one is judged, and gets its receipt and its
-//! reply (`receive`); what either makes of its body is found by `decide_arrival`. An amendment is
-//! decided by `decide_union`, a moment by `decide_moment`.
+//! An arrival is decided by `Desk::answer_arrival`: a duplicate of an earlier one has that one's
+//! reply, and an empty edit unless the reply is `A2`; a new one is judged, and gets its receipt and
+//! its reply (`receive`); what either makes of its body is found by `decide_arrival`. An amendment
+//! is decided by `decide_union`, a moment by `decide_moment`.
 //!
 //! A further kind of event, once `EventValue` and its books are defined in `esc_events`, needs
 //!
@@ -172,6 +172,7 @@ mod assessment;
 mod caching;
 mod changes;
 mod decision;
+mod delivery;
 mod desk;
 mod desk_reads;
 mod edit;

@@ -14,15 +14,16 @@ ghost use Rattle.esc_events.specs.Events.{EventValue, union};
 ghost use Rattle.esc_events.specs.Cache.{IsCacheOf};
 ghost use Rattle.esc_events.specs.StateAfter.{IsStateAfter};
 ghost use Rattle.esc_events.specs.Taking.{IsNew};
-ghost use Rattle.esc_desk.specs.Receiving.{IsReceived};
+ghost use Rattle.esc_desk.specs.Receiving.{IsReceived, delivered};
 
 use crate::assessment::{find, held_row};
+use crate::delivery::Delivery;
 use crate::receipt::{is_among, receipt_by, reply_of};
 use crate::reread::Reread;
 use esc_bundle::NoMemory;
 use esc_events::{Assessment, Cache};
 use esc_manifest::Manifest;
-use esc_store::{Number, Receipt, Reply, StoreFault, insert_row};
+use esc_store::{Receipt, Reply, StoreFault, insert_row};
 use std::alloc::Global;
 
 /// What was found of an arrival, its receipt, the reply, without the receipt's number, and what is
@@ -40,27 +41,27 @@ pub(crate) struct Received<'n> {
 pub(crate) fn receive<'n>(
     alloc: Global,
     manifest: &Manifest,
-    number: &Number<'n>,
-    digest: [u8; 32],
-    body: &[u8],
+    delivery: Delivery<'_, 'n, '_>,
     last: Option<Reread>,
     cache: Cache,
 ) -> Result<Received<'n>, StoreFault>
-    requires { digest ≡ sha256 body.now }
     ensures received { (e : List EventValue) (k : StoreState) → manifest.now ≡ k.listed
         → IsStateAfter sha256 reading e k → IsCacheOf k cache
-        → reply_alike (union e) 1 number.now digest k.receipts ≡ None
-        → IfOk result (IsReceived e (an_arrival number.now body.now) k cache) }
+        → reply_alike (union e) 1 delivery.entry.number.now delivery.entry.content.digest
+        k.receipts ≡ None
+        → IfOk result (IsReceived e (delivered delivery.entry) k cache) }
     ensures reply { IfOk result (λ r. r.reply ≡ reply_kept manifest.now 0 r.receipt) }
-    ensures found { IfOk result (λ r. r.found ≡ assessment sha256 reading manifest.now body.now) }
-    ensures digest { IfOk result (λ r. r.receipt.digest ≡ digest) }
+    ensures found { IfOk result
+        (λ r. r.found ≡ assessment sha256 reading manifest.now delivery.entry.content.body.now) }
+    ensures digest { IfOk result (λ r. r.receipt.digest ≡ delivery.entry.content.digest) }
     ensures read { IfOk result (λ r. (q : ℕ) (d : DepositValue) → r.found ≡ Holding q d
-        → reading body.now ≡ Ok d) }
+        → reading delivery.entry.content.body.now ≡ Ok d) }
     ensures cause { IfErr result IsFailure }
 {
-    let found = find(alloc, manifest, &digest, body, last)?;
+    let Delivery { number, content } = delivery;
+    let found = find(alloc, manifest, content, last)?;
     let again = is_among(&cache.rows_with_receipt, held_row(&found));
-    let receipt = receipt_by(number, digest, &found, again);
+    let receipt = receipt_by(number, content.digest, &found, again);
     let reply = reply_of(alloc, manifest.rows(), &receipt)?;
     let mut cache = cache;
     tell(&mut cache, &found)?;

@@ -9,6 +9,7 @@ use Rattle.esc_desk.proofs.intake.decide_arrival.Goals as goal
 pub returns-in-Unreadable-clause-decided : goal.returns-in-Unreadable-clause-decided
 returns-in-Unreadable-clause-decided g c = λ clean e n k stood is.
     let refused = c.in-Unreadable.is in
-    subst (IsDecidedArrival e (an_arrival n c.args.body.now) k c.args.found) (sym c.still.ensures)
-    (decided_there is (λ unlisted. absurd (refused_listed c.args.found refused unlisted))
-    (λ q here. absurd (none-some _ (sym (refused_row c.args.found refused) ∙ here))))
+    let found = c.args.assessed.found in
+    subst (IsDecidedArrival e (an_arrival n c.args.assessed.content.body.now) k found) (sym c.still.ensures)
+    (decided_there is (λ unlisted. absurd (refused_listed found refused unlisted))
+    (λ q here. absurd (none-some _ (sym (refused_row found refused) ∙ here))))

@@ -34,7 +34,7 @@ pub returns-in_err-answer-clause-whole : goal.returns-in_err-answer-clause-whole
 returns-in_err-answer-clause-whole g c =
     let same = as_before_then c.in_ok-kept.ensures.same c.in_err-answer.ensures.same in
     whole_early g.S.Store c.args.self.now _ c.in_err-answer.field-0.0 (search rules)
-    same (forgets g.S.Store c.args.self.now _ same (search rules))
+    same (forgets g.S.Store c.args.self.now _ same c.in_err-answer.ensures.forgotten)
 
 pub returns-in_err-answer-clause-crash : goal.returns-in_err-answer-clause-crash
 returns-in_err-answer-clause-crash g c = λ e doubtful served left.
@@ -50,7 +50,7 @@ pub returns-in_err-number-clause-whole : goal.returns-in_err-number-clause-whole
 returns-in_err-number-clause-whole g c =
     let same = as_before_then c.in_ok-kept.ensures.same c.in_ok-answer.ensures.same in
     whole_lost g.S.Store c.args.self.now _ _ same (forgets g.S.Store c.args.self.now
-    _ same (search rules)) c.in_err-number.field-0.0 (search rules) c.in_err-number.ensures.whole
+    _ same c.in_ok-answer.ensures.forgotten) c.in_err-number.field-0.0 (search rules) c.in_err-number.ensures.whole
 
 pub returns-in_err-number-clause-crash : goal.returns-in_err-number-clause-crash
 returns-in_err-number-clause-crash g c = λ e doubtful served left.
@@ -62,8 +62,8 @@ returns-in_err-number-clause-crash g c = λ e doubtful served left.
     (c.in_err-number.ensures.crash
     e doubtful (arrived a) k (then.stands k (first.stands k served.serves.stands)) (λ clean.
     let before = c.in_err-number.ensures.whole.honest clean in
-    let asked = asked_of g.S.Store c.args.self.now c.receipt_of.new.self c.take-cache.result
-    a.number c.digest-digest.result c.in_ok-kept.kept e served first c.take-cache.ensures.value
+    let asked = asked_of g.S.Store c.args.self.now c.receipt_of.new.self
+    a.number c.digest-digest.result c.in_ok-kept.kept e served first
     (c.in_ok-kept.ensures.found (was_honest then before) k served.serves.stands) in
     (c.in_ok-answer.ensures.answers before e k asked).decided)
     (leaves_as g.S.Store _ _ e doubtful left (as_before_then first then).survives))
@@ -73,7 +73,7 @@ returns-in_err-number-clause-crash g c = λ e doubtful served left.
 made : (g : given.Over) (c : goal.After-numbered g) → IsHonest g.S.Store c.make.new.self.store
     → (e : List EventValue) (served : DeskReflects g.S.Store c.args.self.now e)
     → IsAnswer e (an_arrival c.args.number.now c.args.body.now) served.serves.kept c.in_ok-answer.answer
-    × IsDone g.S.Store c.answer_arrival.new.store
+    × IsDone g.S.Store c.answer_arrival.new.self.store
     c.make.new.self e (arrived (an_arrival c.args.number.now c.args.body.now))
     served.serves.kept c.in_ok-answer.answer.decision (c.in_ok-number.number, c.in_ok-number.work)
 made g c clean e served =
@@ -82,8 +82,8 @@ made g c clean e served =
     let first = c.in_ok-kept.ensures.same in
     let then = c.in_ok-answer.ensures.same in
     let before = c.in_ok-number.ensures.whole.honest clean in
-    let asked = asked_of g.S.Store c.args.self.now c.receipt_of.new.self c.take-cache.result
-    a.number c.digest-digest.result c.in_ok-kept.kept e served first c.take-cache.ensures.value
+    let asked = asked_of g.S.Store c.args.self.now c.receipt_of.new.self
+    a.number c.digest-digest.result c.in_ok-kept.kept e served first
     (c.in_ok-kept.ensures.found (was_honest then before) k served.serves.stands) in
     let is = c.in_ok-answer.ensures.answers before e k asked in (
       is,
@@ -116,11 +116,11 @@ pub returns-clause-whole : goal.returns-clause-whole
 returns-clause-whole g c =
     let same = as_before_then c.in_ok-kept.ensures.same c.in_ok-answer.ensures.same in
     whole_made g.S.Store c.args.self.now _ _
-    same (forgets g.S.Store c.args.self.now _ same (search rules)) refl c.in_ok-number.ensures.whole
+    same (forgets g.S.Store c.args.self.now _ same c.in_ok-answer.ensures.forgotten) refl c.in_ok-number.ensures.whole
 
 pub returns-clause-crash : goal.returns-clause-crash
 returns-clause-crash g c = λ e doubtful served left.
-    leaves_answered g.S.Store c.args.self.now.store c.answer_arrival.new.store
+    leaves_answered g.S.Store c.args.self.now.store c.answer_arrival.new.self.store
     c.make.new.self e doubtful (an_arrival c.args.number.now c.args.body.now) served.serves.kept
     c.in_ok-answer.answer (c.in_ok-number.number, c.in_ok-number.work) served.serves.stands_for
     left (as_before_then c.in_ok-kept.ensures.same c.in_ok-answer.ensures.same).survives
