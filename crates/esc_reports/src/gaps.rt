@@ -52,15 +52,15 @@ fn write_heading(lines: &mut Lines) -> Result<(), StoreFault>
     ensures written { OnOk result (lines.new ≡ lines.old ++ line_text gaps_heading) }
     ensures cause { IfErr result IsFailure }
 {
-    write_fields(
-        lines,
+    lines.write(&[
         b"watermark",
         b"type",
         b"used",
         b"state",
         b"blocker",
         b"awaited",
-    )
+    ])?;
+    Ok(())
 }
 
 fn write_lines(alloc: Global, lines: &mut Lines, gaps: &[GapLine]) -> Result<(), StoreFault>
@@ -73,24 +73,25 @@ fn write_lines(alloc: Global, lines: &mut Lines, gaps: &[GapLine]) -> Result<(),
     Ok(())
 }
 
-fn write_line(alloc: Global, lines: &mut Lines, gap: &GapLine) -> Result<(), StoreFault>
+fn write_line<'x>(alloc: Global, lines: &mut Lines, gap: &'x GapLine) -> Result<(), StoreFault>
     ensures written { OnOk result (lines.new ≡ lines.old ++ line_text (gap_line gap.now)) }
     ensures cause { IfErr result IsFailure }
 {
+    let kind: &'x str = gap.place.kind.name();
     let watermark = printed_watermark(alloc, gap.place.watermark)?;
     let used = resend_text(alloc, gap.used)?;
     let state = state_text(alloc, gap.state)?;
     let blocker = blocker_text(alloc, &gap.blocker)?;
     let awaited = resend_text(alloc, gap.awaited)?;
-    write_fields(
-        lines,
+    lines.write(&[
         watermark.as_bytes(),
-        gap.place.kind.name().as_bytes(),
+        kind.as_bytes(),
         used.as_bytes(),
         state.as_bytes(),
         blocker.as_bytes(),
         awaited.as_bytes(),
-    )
+    ])?;
+    Ok(())
 }
 
 fn state_text(alloc: Global, state: State) -> Result<String, AllocError>
@@ -107,22 +108,4 @@ fn blocker_text(alloc: Global, blocker: &Option<Blocker>) -> Result<String, NoMe
         Some(blocker) => Ok(format!(in alloc; "{blocker}")?),
         None => Ok(String::new(alloc)),
     }
-}
-
-fn write_fields<'x>(
-    lines: &mut Lines,
-    watermark: &'x [u8],
-    kind: &'x [u8],
-    used: &'x [u8],
-    state: &'x [u8],
-    blocker: &'x [u8],
-    awaited: &'x [u8],
-) -> Result<(), StoreFault>
-    ensures written { OnOk result (lines.new
-        ≡ lines.old ++ line_text (watermark.now ∷ kind.now ∷ used.now ∷ state.now ∷ blocker.now
-        ∷ awaited.now ∷ [])) }
-    ensures cause { IfErr result IsFailure }
-{
-    lines.write(&[watermark, kind, used, state, blocker, awaited])?;
-    Ok(())
 }

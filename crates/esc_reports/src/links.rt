@@ -23,9 +23,7 @@ pub(crate) fn links_text(alloc: Global, findings: &[Finding]) -> Result<Vec<u8>,
 fn write_heading(lines: &mut Lines) -> Result<(), NoMemory>
     ensures { OnOk result (lines.new ≡ lines.old ++ line_text links_heading) }
 {
-    write_fields(
-        lines, b"code", b"kind", b"key", b"field", b"value", b"other",
-    )
+    lines.write(&[b"code", b"kind", b"key", b"field", b"value", b"other"])
 }
 
 fn write_findings(alloc: Global, lines: &mut Lines, findings: &[Finding]) -> Result<(), NoMemory>
@@ -37,33 +35,17 @@ fn write_findings(alloc: Global, lines: &mut Lines, findings: &[Finding]) -> Res
     Ok(())
 }
 
-fn write_finding(alloc: Global, lines: &mut Lines, finding: &Finding) -> Result<(), NoMemory>
+fn write_finding<'x>(alloc: Global, lines: &mut Lines, finding: &'x Finding) -> Result<(), NoMemory>
     ensures { OnOk result (lines.new ≡ lines.old ++ line_text (finding_line finding.now)) }
 {
+    let kind: &'x str = finding.kind.name();
     let code = format!(in alloc; "{}", finding.rule)?;
-    write_fields(
-        lines,
+    lines.write(&[
         code.as_bytes(),
-        finding.kind.name().as_bytes(),
+        kind.as_bytes(),
         finding.key.as_bytes(),
         finding.field.as_bytes(),
         finding.value.as_bytes(),
         finding.other.as_bytes(),
-    )
-}
-
-fn write_fields<'x>(
-    lines: &mut Lines,
-    code: &'x [u8],
-    kind: &'x [u8],
-    key: &'x [u8],
-    field: &'x [u8],
-    value: &'x [u8],
-    other: &'x [u8],
-) -> Result<(), NoMemory>
-    ensures { OnOk result (lines.new
-        ≡ lines.old ++ line_text (code.now ∷ kind.now ∷ key.now ∷ field.now ∷ value.now ∷ other.now
-        ∷ [])) }
-{
-    lines.write(&[code, kind, key, field, value, other])
+    ])
 }

@@ -46,9 +46,9 @@ pub(crate) fn receipts_text(alloc: Global, replies: &[Reply]) -> Result<Vec<u8>,
 fn write_heading(lines: &mut Lines) -> Result<(), NoMemory>
     ensures { OnOk result (lines.new ≡ lines.old ++ line_text receipts_heading) }
 {
-    write_fields(
-        lines, b"receipt", b"number", b"verdict", b"fault", b"id", b"resend", b"copy", b"orphans",
-    )
+    lines.write(&[
+        b"receipt", b"number", b"verdict", b"fault", b"id", b"resend", b"copy", b"orphans",
+    ])
 }
 
 fn write_replies(alloc: Global, lines: &mut Lines, replies: &[Reply]) -> Result<(), NoMemory>
@@ -60,24 +60,25 @@ fn write_replies(alloc: Global, lines: &mut Lines, replies: &[Reply]) -> Result<
     Ok(())
 }
 
-fn write_reply(alloc: Global, lines: &mut Lines, reply: &Reply) -> Result<(), NoMemory>
+fn write_reply<'x>(alloc: Global, lines: &mut Lines, reply: &'x Reply) -> Result<(), NoMemory>
     ensures { OnOk result (lines.new ≡ lines.old ++ line_text (receipt_line reply.now)) }
 {
+    let verdict: &'x str = verdict_word(reply.verdict);
+    let copy: &'x str = copy_text(reply.again);
     let receipt = number_text(alloc, Some(reply.receipt))?;
     let fault = fault_of(alloc, reply.verdict)?;
     let resend = resend_text(alloc, reply.resend)?;
     let orphans = number_text(alloc, reply.orphans)?;
-    write_fields(
-        lines,
+    lines.write(&[
         receipt.as_bytes(),
         reply.number.as_bytes(),
-        verdict_word(reply.verdict).as_bytes(),
+        verdict.as_bytes(),
         or_empty(&fault).as_bytes(),
         or_empty(&reply.id).as_bytes(),
         resend.as_bytes(),
-        copy_text(reply.again).as_bytes(),
+        copy.as_bytes(),
         orphans.as_bytes(),
-    )
+    ])
 }
 
 fn or_empty(text: &Option<String>) -> &str
@@ -115,22 +116,4 @@ pub(crate) fn resend_text(alloc: Global, resend: Option<u32>) -> Result<String, 
         Some(resend) => Ok(format!(in alloc; "{resend}")?),
         None => Ok(String::new(alloc)),
     }
-}
-
-fn write_fields<'x>(
-    lines: &mut Lines,
-    receipt: &'x [u8],
-    number: &'x [u8],
-    verdict: &'x [u8],
-    fault: &'x [u8],
-    id: &'x [u8],
-    resend: &'x [u8],
-    copy: &'x [u8],
-    orphans: &'x [u8],
-) -> Result<(), NoMemory>
-    ensures { OnOk result (lines.new
-        ≡ lines.old ++ line_text (receipt.now ∷ number.now ∷ verdict.now ∷ fault.now ∷ id.now
-        ∷ resend.now ∷ copy.now ∷ orphans.now ∷ [])) }
-{
-    lines.write(&[receipt, number, verdict, fault, id, resend, copy, orphans])
 }
