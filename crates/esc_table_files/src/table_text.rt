@@ -1,9 +1,8 @@
 //! The text of a table.
 
-ghost use Rattle.std.specs.Prelude.{◌≡◌, ◌∷◌, ◌++◌, map, filter, codes, IfOk, OnOk};
+ghost use Rattle.std.specs.Prelude.{◌≡◌, ◌∷◌, ◌++◌, map, codes, IfOk, OnOk};
 ghost use Rattle.std.specs.Prelude.{string_bytes};
 ghost use Rattle.esc_csv.specs.Lines.{line_text, text_of};
-ghost use Rattle.esc_check.specs.Export.{is_of_table};
 ghost use Rattle.esc_table_files.specs.Layouts.{row_line, entry_lines};
 ghost use Rattle.esc_table_files.specs.Writing.{heading_csv};
 
@@ -57,28 +56,6 @@ fn write_row(
     lines.write(&line)
 }
 
-// Adds the lines of the child rows of this name.
-fn write_children(
-    alloc: Global,
-    lines: &mut Lines,
-    columns: &[String],
-    name: &str,
-    key: &Key,
-    rows: &[Row],
-) -> Result<(), NoMemory>
-    ensures { OnOk result (lines.new ≡ lines.old
-        ++ text_of (map (row_line (map string_bytes columns.now) key.now)
-        (filter (is_of_table name.now) rows.now))) }
-{
-    for row in rows {
-        if row.table() != name {
-            continue;
-        }
-        write_row(alloc, lines, columns, key, row)?;
-    }
-    Ok(())
-}
-
 // Adds the lines of an object's rows in a table.
 fn write_rows(
     alloc: Global,
@@ -93,13 +70,16 @@ fn write_rows(
     if key.kind != layout.table.kind {
         return Ok(());
     }
-    match &layout.table.child {
-        None => write_row(alloc, lines, &layout.columns, key, &object.parent),
-        Some(name) => {
-            let rows = &object.children;
-            write_children(alloc, lines, &layout.columns, name.as_str(), key, rows)
+    let Some(name) = &layout.table.child else {
+        return write_row(alloc, lines, &layout.columns, key, &object.parent);
+    };
+    for row in &object.children {
+        if row.table() != name.as_str() {
+            continue;
         }
+        write_row(alloc, lines, &layout.columns, key, row)?;
     }
+    Ok(())
 }
 
 /// The heading of a table as CSV.
