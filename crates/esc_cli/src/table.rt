@@ -33,7 +33,7 @@ pub struct Subcommand {
     pub arguments: &'static [Argument],
 }
 
-/// An argument of a command. Each but a flag is required.
+/// An argument of a command. Each is required but a flag and an option that may be left out.
 pub struct Argument {
     /// The name by which its value is asked for; of an option or a flag also its word, after `--`.
     pub id: &'static str,
@@ -52,6 +52,8 @@ pub struct Argument {
 pub enum ArgumentForm {
     /// An option, `--ID VALUE`.
     Option,
+    /// The same, which may be left out.
+    FreeOption,
     /// An option without a value, `--ID`, which may be left out.
     Flag,
     /// The same, for which also `-` and this letter may stand.
@@ -128,20 +130,19 @@ impl Argument {
     fn arg<'a>(&self, alloc: Global) -> Arg<'a> {
         let arg = Arg::new(alloc, self.id).help(self.help);
         match self.form {
-            ArgumentForm::Option => self.with_value(arg).long(self.id),
+            ArgumentForm::Option => self.with_value(arg).long(self.id).required(true),
+            ArgumentForm::FreeOption => self.with_value(arg).long(self.id),
             ArgumentForm::Flag => arg.long(self.id).action(ArgAction::SetTrue),
             ArgumentForm::ShortFlag(letter) => {
                 arg.short(letter).long(self.id).action(ArgAction::SetTrue)
             }
-            ArgumentForm::Word => self.with_value(arg),
-            ArgumentForm::Words => self.with_value(arg).num_args(1..),
+            ArgumentForm::Word => self.with_value(arg).required(true),
+            ArgumentForm::Words => self.with_value(arg).required(true).num_args(1..),
         }
     }
 
-    // An argument that has to be given, with its value.
+    // An argument with a value.
     fn with_value<'a>(&self, arg: Arg<'a>) -> Arg<'a> {
-        arg.value_name(self.value_name)
-            .required(true)
-            .value_parser(self.values)
+        arg.value_name(self.value_name).value_parser(self.values)
     }
 }

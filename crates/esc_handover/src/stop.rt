@@ -24,6 +24,8 @@ pub enum Stop {
         path: String,
         error: Error,
     },
+    /// `E3`: the word is no moment.
+    Moment(String),
     /// `S1` to `S3`: the store fails, or memory was refused.
     Store(StoreFault),
     /// `S1`: the files of the store aren't opened.
@@ -76,7 +78,7 @@ impl Stop {
                 refusal: BundleRefusal::NoMemory,
                 ..
             } => STOPPED,
-            Stop::Unbundled { .. } | Stop::Chainless => REFUSED,
+            Stop::Moment(_) | Stop::Unbundled { .. } | Stop::Chainless => REFUSED,
             Stop::Alike(_) | Stop::Undatabased(_) | Stop::Unloadable(_) => REFUSED,
         }
     }
@@ -91,6 +93,8 @@ impl fmt::Display for Stop {
     fn fmt<W: fmt::Write>(&self, f: &mut fmt::Formatter<W>) -> fmt::Result {
         match self {
             Stop::Unreadable { path, .. } => write!(f, "E1 {}", OneLine(path.as_str())),
+            Stop::Moment(word) if word.is_empty() => f.write_str("E3 (an empty moment)"),
+            Stop::Moment(word) => write!(f, "E3 {}", OneLine(word.as_str())),
             Stop::Store(fault) => write!(f, "{fault}"),
             Stop::Unopened(_) => f.write_str("S1"),
             Stop::Missing => f.write_str("S3"),
