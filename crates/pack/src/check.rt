@@ -1,7 +1,7 @@
 //! `check --manifest FILE DIR`: what `restore take` would find of a folder's files.
 
 use crate::files::{read_body, read_manifest_at};
-use crate::forecast_lines::{file_line, missing_line};
+use crate::forecast_lines::{found_text, missing_line};
 use crate::stop::{Stop, TOO_LARGE, or_stop, print};
 use crate::tlds::Tlds;
 use esc_cli::{Asked, OneLine, Why, path_in, plain_files, print_refusal};
@@ -106,14 +106,8 @@ impl<O: Write, E: Write> Check<'_, O, E> {
 
     fn check_body(&mut self, name: &str, body: &[u8]) -> Result<bool, Stop> {
         let forecast = forecast_of(self.rt.alloc(), self.manifest, body)?;
-        let line = file_line(
-            self.rt,
-            self.manifest,
-            &self.forecasts,
-            &forecast,
-            name,
-            body,
-        )?;
+        let found = found_text(self.rt, self.manifest, &self.forecasts, &forecast, body)?;
+        let line = format!(in self.rt.alloc(); "{name}: {found}\n")?;
         print(self.rt, self.out, line.as_bytes())?;
         self.tlds.add(self.rt, name, body, self.err)?;
         let is_held = forecast.held_row().is_some();

@@ -5,13 +5,12 @@ use esc_envelope::{Header, watermark_text};
 use esc_manifest::Manifest;
 use esc_pack::{Forecast, Member, differs, fault_spot, is_held};
 
-/// The line of a file: its number, and what would be found of it after these.
-pub fn file_line(
+/// What would be found of a file after these.
+pub fn found_text(
     rt: &HostRuntime,
     manifest: &Manifest,
     before: &[Forecast],
     forecast: &Forecast,
-    number: &str,
     body: &[u8],
 ) -> Result<String, Stop> {
     let alloc = rt.alloc();
@@ -40,7 +39,7 @@ pub fn file_line(
             format!(in alloc; "A5, not listed, {refusal}: {spot}")?
         }
     };
-    Ok(format!(in alloc; "{number}: {found}\n")?)
+    Ok(found)
 }
 
 /// The line of a listed deposit that no file has.
