@@ -5,7 +5,7 @@ use esc_cli::DONE;
 use esc_desk::Reads;
 use esc_envelope::Kind;
 use esc_handover::{Answer, Progress, Stop, TableFolder, read_layouts};
-use esc_table_files::{Database, Layout, check_database, check_layouts, check_loadable};
+use esc_table_files::{Layout, check_database, check_layouts, check_loadable};
 use std::alloc::Global;
 
 /// The words of the command: the folder, and whether a database and the statements for PostgreSQL
@@ -134,21 +134,9 @@ fn write_database<R: Reads>(
     progress: &mut Progress<'_>,
 ) -> Result<(), Stop> {
     let mut database = folder.create_database()?;
-    add_tables(alloc, reader, kinds, folder, &mut database, progress)?;
-    folder.finish_database(database, progress)
-}
-
-fn add_tables<R: Reads>(
-    alloc: Global,
-    reader: &mut R,
-    kinds: &[KindTables],
-    folder: &TableFolder<'_>,
-    database: &mut Database,
-    progress: &mut Progress<'_>,
-) -> Result<(), Stop> {
     for tables in kinds {
         let mut walk = walk(alloc, reader, Some(tables.kind))?;
-        folder.add_tables(database, &mut walk, &tables.layouts, progress)?;
+        folder.add_tables(&mut database, &mut walk, &tables.layouts, progress)?;
     }
-    Ok(())
+    folder.finish_database(database, progress)
 }
