@@ -27,6 +27,22 @@ use httparse::spans::{EMPTY_HEADER_SPAN, HeaderSpan};
 use sqlite::Alter;
 use std::alloc::Global;
 
+/// A head that was read: it is at the front of these bytes, which were read with it.
+#[derive(Clone, Copy)]
+struct ReadHead<'a> {
+    bytes: &'a [u8],
+    lines: &'a [HeaderSpan],
+    found: &'a FoundHead,
+}
+
+/// What is known of a body before it is read: its size, and the bytes at its front that were read
+/// with the head.
+#[derive(Clone, Copy)]
+struct BodyStart<'a> {
+    front: &'a [u8],
+    size: u32,
+}
+
 /// Reads a request, and returns its response. Nothing is read that the response doesn't need.
 pub(crate) fn answer_input<S: Alter, R: Source>(
     alloc: Global,
@@ -45,70 +61,78 @@ pub(crate) fn answer_input<S: Alter, R: Source>(
     let mut lines = [EMPTY_HEADER_SPAN; MOST_LINES];
     match read_head(source, &mut buffer, &mut lines)? {
         Some(found) => {
-            let bytes = &buffer[..found.filled];
-            answer_head(alloc, desk, source, bytes, &lines, &found)
+            let head = ReadHead {
+                bytes: &buffer[..found.filled],
+                lines: &lines,
+                found: &found,
+            };
+            answer_head(alloc, desk, source, head)
         }
         None => Ok(refusal_response(alloc, Refusal::BadRequest)),
     }
 }
 
-// The response to the request whose head is at the front of these bytes, which were read already.
+// The response to the request with this head.
 fn answer_head<S: Alter, R: Source>(
     alloc: Global,
     desk: &mut Desk<S>,
     source: &mut R,
-    bytes: &[u8],
-    lines: &[HeaderSpan],
-    found: &FoundHead,
+    head: ReadHead<'_>,
 ) -> Result<Option<Vec<u8>>, ReadFailed>
-    requires within { IsRequestWithin bytes.now lines.now found.now.spans }
-    requires head { ShowsHead bytes.now lines.now found.now.spans }
-    ensures answers { IfOk result (λ text. (h : RequestHead)
-        → IsRequestAt bytes.now lines.now found.now.spans h
-        → (request : Request) × IfSome
-        (prepend_known (drop found.now.spans.len bytes.now) (R.remaining source.old))
+    requires within { IsRequestWithin head.bytes.now head.lines.now head.found.now.spans }
+    requires head { ShowsHead head.bytes.now head.lines.now head.found.now.spans }
+    ensures answers { IfOk result (λ text. (h : RequestHead) → IsRequestAt
+        head.entry.bytes.now head.entry.lines.now head.entry.found.now.spans h
+        → (request : Request) × IfSome (prepend_known
+        (drop head.entry.found.now.spans.len head.entry.bytes.now) (R.remaining source.old))
         (λ rest. request ≡ request_with_body (plan_of_head h) rest)
         × IsAnswered S.Store desk.old desk.new request (text_or_memory text)) }
     ensures honest { WasHonest S.Store desk.old desk.new }
     ensures unread { (last : List ℕ) × ReadsWhile IsUndecided (R.pieces source.old)
-        (R.pieces source.new) bytes.now last }
+        (R.pieces source.new) head.entry.bytes.now last }
     ensures same { OnErr result (desk.new ≡ desk.old) }
     ensures err { OnErr result (IsTrue (R.failed source.new)) }
 {
     let Ok(router) = router(alloc) else {
         return Ok(None);
     };
+    let ReadHead {
+        bytes,
+        lines,
+        found,
+    } = head;
     match plan_of_head(&router, bytes, lines, found) {
         RequestPlan::Refuse(refusal) => Ok(refusal_response(alloc, refusal)),
         RequestPlan::Get(report) => Ok(answer_report(alloc, desk, report)),
         RequestPlan::Put(number, size) => {
-            let front = &bytes[found.spans.len..];
-            answer_put(alloc, desk, source, &number, front, size)
+            let body = BodyStart {
+                front: &bytes[found.spans.len..],
+                size,
+            };
+            answer_put(alloc, desk, source, &number, body)
         }
     }
 }
 
-// The response to an arrival. The bytes of `front` were read with the head: the body begins with
-// them.
+// The response to an arrival.
 fn answer_put<S: Alter, R: Source>(
     alloc: Global,
     desk: &mut Desk<S>,
     source: &mut R,
     number: &Number<'_>,
-    front: &[u8],
-    size: u32,
+    body: BodyStart<'_>,
 ) -> Result<Option<Vec<u8>>, ReadFailed>
     ensures answers { IfOk result (λ text. (request : Request)
-        × IfSome (prepend_known front.now (R.remaining source.old))
-        (λ rest. request ≡ request_with_body (Put number.now size) rest)
+        × IfSome (prepend_known body.entry.front.now (R.remaining source.old))
+        (λ rest. request ≡ request_with_body (Put number.now body.entry.size) rest)
         × IsAnswered S.Store desk.old desk.new request (text_or_memory text)) }
     ensures honest { WasHonest S.Store desk.old desk.new }
-    ensures unread { (last : List ℕ) × ReadsWhile (IsShorter size) (R.pieces source.old)
-        (R.pieces source.new) front.now last }
+    ensures unread { (last : List ℕ) × ReadsWhile (IsShorter body.entry.size)
+        (R.pieces source.old) (R.pieces source.new) body.entry.front.now last }
     ensures same { OnErr result (desk.new ≡ desk.old) }
     ensures err { OnErr result (IsTrue (R.failed source.new)) }
 {
-    match read_body(alloc, source, front, size as usize)? {
+    match read_body(alloc, source, body.front, body.size as usize)? {
         Body::Whole(body) => Ok(answer_arrival(alloc, desk, number, &body)),
         Body::Cut => Ok(refusal_response(alloc, Refusal::BadRequest)),
         Body::NoMemory => Ok(None),

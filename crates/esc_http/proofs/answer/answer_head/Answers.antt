@@ -30,7 +30,7 @@ returns-clause-answers g c =
     IfOk-weaker c.answer_put.result _ _ (λ text got h at. (
       got.0,
       same_request _ _ _ (Put c.in-Put.number c.in-Put.size) (plan_of_head h)
-          got.0 (take_rest c.args.bytes.now c.args.found.now.spans.len) (c.in-Put.ensures h at) got.1,
+          got.0 (take_rest c.args.head.bytes.now c.args.head.found.now.spans.len) (c.in-Put.ensures h at) got.1,
       got.2,
     )) c.answer_put.ensures.answers
 
@@ -38,18 +38,18 @@ pub returns-in_default-clause-answers : goal.returns-in_default-clause-answers
 returns-in_default-clause-answers g c = λ h at. memory_answers_some g.S.Store c.args.desk.now _ (plan_of_head h)
 
 pub returns-in-Refuse-clause-unread : goal.returns-in-Refuse-clause-unread
-returns-in-Refuse-clause-unread g c = (_, read_no_piece IsUndecided _ c.args.bytes.now)
+returns-in-Refuse-clause-unread g c = (_, read_no_piece IsUndecided _ c.args.head.bytes.now)
 
 pub returns-in-Get-clause-unread : goal.returns-in-Get-clause-unread
-returns-in-Get-clause-unread g c = (_, read_no_piece IsUndecided _ c.args.bytes.now)
+returns-in-Get-clause-unread g c = (_, read_no_piece IsUndecided _ c.args.head.bytes.now)
 
 pub returns-in_default-clause-unread : goal.returns-in_default-clause-unread
-returns-in_default-clause-unread g c = (_, read_no_piece IsUndecided _ c.args.bytes.now)
+returns-in_default-clause-unread g c = (_, read_no_piece IsUndecided _ c.args.head.bytes.now)
 
 pub returns-clause-unread : goal.returns-clause-unread
 returns-clause-unread g c =
     let (h, at, has) = c.requires.head in
-    let front = subst (λ (rest : List ℕ). HasHead c.args.bytes.now h rest)
-    (sym (take_rest c.args.bytes.now c.args.found.now.spans.len)) has in
-    undecided _ _ c.args.bytes.now _ _ h
+    let front = subst (λ (rest : List ℕ). HasHead c.args.head.bytes.now h rest)
+    (sym (take_rest c.args.head.bytes.now c.args.head.found.now.spans.len)) has in
+    undecided _ _ c.args.head.bytes.now _ _ h
     c.in-Put.number c.in-Put.size front (sym (c.in-Put.ensures h at)) c.answer_put.ensures.unread.1

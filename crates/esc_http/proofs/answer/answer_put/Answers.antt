@@ -12,7 +12,7 @@ returns-in-Whole-clause-answers g c =
     let seen = c.deref.result.now in (
       arrives (record { number = number; body = seen }),
       whole_arrives
-          _ number _ seen c.args.size c.deref.ensures.value body,
+          _ number _ seen c.args.body.size c.deref.ensures.value body,
       c.answer_arrival.ensures.answers,
     )
 
@@ -20,10 +20,10 @@ pub returns-in-Cut-clause-answers : goal.returns-in-Cut-clause-answers
 returns-in-Cut-clause-answers g c =
     let body = rw c.in-Cut.is at c.in_ok-body.ensures.body in (
       refused BadRequest,
-      cut_refused _ c.args.number.now c.args.size body,
+      cut_refused _ c.args.number.now c.args.body.size body,
       (refl, text_is _ c.refusal_response.result c.refusal_response.ensures.text),
     )
 
 pub returns-in-NoMemory-clause-answers : goal.returns-in-NoMemory-clause-answers
 returns-in-NoMemory-clause-answers g c =
-    memory_answers_some g.S.Store c.args.desk.now _ (Put c.args.number.now c.args.size)
+    memory_answers_some g.S.Store c.args.desk.now _ (Put c.args.number.now c.args.body.size)
