@@ -4,11 +4,14 @@ use Rattle.std.proofs.Common.{None, Some, true, false}
 use Rattle.std.proofs.Common.{refl, sym, ◌∙◌, ap, append-nil, append_assoc, Bool}
 use Rattle.std.specs.Prelude.{cond}
 use Rattle.std.specs.List.{flat_map}
-use Rattle.std.proofs.lemmas.List.{map-append}
+use Rattle.std.proofs.lemmas.List.{map-append, take_more}
 use Rattle.std.proofs.lemmas.Grind.{flat_map-append}
 use Rattle.esc_zone.specs.declared.signer.Ds.{Ds}
 use Rattle.esc_zone.specs.Records.{Data, RecordValue, RecordsValue, record_text}
-use Rattle.esc_zone.specs.Records.Data.{server, signer}
+use Rattle.std.specs.declared.net.ip_addr.IpAddr.{IpAddr}
+use Rattle.esc_zone.specs.Records.Data.{server, signer, address}
+use Rattle.esc_zone.specs.Glue.{address_records}
+use Rattle.esc_zone.specs.Signers.{ds_value}
 use Rattle.esc_zone.specs.Delegations.{with_records, server_records, signer_records}
 use Rattle.esc_zone.proofs.Listed.{front_more}
 
@@ -53,7 +56,17 @@ server_more ttl name hosts i host lt is =
 pub signer_more : (ttl : ℕ) (name : List ℕ) (signers : List Ds) (i : ℕ) (ds : Ds)
     → i < length signers → ds ≡ get_or signers i ds
     → signer_records ttl name (take (i + 1) signers)
-    ≡ signer_records ttl name (take i signers) ++ record { owner = name; ttl = ttl; said = signer ds } ∷ []
+    ≡ signer_records ttl name (take i signers) ++ record { owner = name; ttl = ttl; said = signer (ds_value ds) } ∷ []
 signer_more ttl name signers i ds lt is =
     ap (signer_records ttl name) (front_more signers i ds lt is)
-    ∙ map-append (λ (d : Ds). record { owner = name; ttl = ttl; said = signer d }) (take i signers) (ds ∷ [])
+    ∙ map-append (λ (d : Ds). record { owner = name; ttl = ttl; said = signer (ds_value d) }) (take i signers) (ds ∷ [])
+
+-- one address more is one record more
+pub address_more : (ttl : ℕ) (host : List ℕ) (addresses : List IpAddr) (i : ℕ) (d : IpAddr) → i < length addresses
+    → address_records ttl host (take (i + 1) addresses)
+    ≡ address_records ttl host (take i addresses)
+    ++ record { owner = host; ttl = ttl; said = address (get_or addresses i d) } ∷ []
+address_more ttl host addresses i d lt =
+    ap (address_records ttl host) (take_more addresses i d lt)
+    ∙ map-append (λ (a : IpAddr). record { owner = host; ttl = ttl; said = address a })
+    (take i addresses) (get_or addresses i d ∷ [])

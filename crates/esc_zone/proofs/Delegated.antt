@@ -18,21 +18,23 @@ use Rattle.esc_zone.specs.Delegations.{has_place, kept_out, texts_of, server_tex
 use Rattle.esc_zone.specs.Signers.{AreSigners}
 use Rattle.esc_zone.proofs.Added.{with_both}
 
-when_true : (b : Bool) (P Q : Type 0) → b ≡ true → P → MatchBool b P Q
+-- what is asked where this is so, or is not
+pub when_true : (b : Bool) (P Q : Type 0) → b ≡ true → P → MatchBool b P Q
 when_true true P Q h p = p
 when_true false P Q h p = absurd (cc h)
 
-when_false : (b : Bool) (P Q : Type 0) → b ≡ false → Q → MatchBool b P Q
+pub when_false : (b : Bool) (P Q : Type 0) → b ≡ false → Q → MatchBool b P Q
 when_false true P Q h q = absurd (cc h)
 when_false false P Q h q = q
 
-when_kept : (o : Option Hold) (none : Bool) (out : Outcome) (P Q : Type 0)
+-- what is asked of a domain that is kept out, or let in
+pub when_kept : (o : Option Hold) (none : Bool) (out : Outcome) (P Q : Type 0)
     → Some out ≡ kept_out o none → Q → (none ≡ true → P) → MatchOption o P (λ h. Q)
 when_kept (Some _) none out P Q e q p = q
 when_kept None true out P Q e q p = p refl
 when_kept None false out P Q e q p = absurd (cc e)
 
-when_let_in : (o : Option Hold) (none : Bool) (P Q : Type 0)
+pub when_let_in : (o : Option Hold) (none : Bool) (P Q : Type 0)
     → None ≡ kept_out o none → P → MatchOption o P (λ h. Q)
 when_let_in (Some _) none P Q e p = absurd (cc e)
 when_let_in None none P Q e p = p

@@ -1,7 +1,7 @@
 -- Lists that grow by what a list gives.
 use Rattle.std.proofs.Common.{◌≡◌, ℕ, ◌+◌, ◌<◌, List, [], ◌∷◌, ◌++◌, length, take, get_or}
 use Rattle.std.proofs.Common.{Option, None, Some, map}
-use Rattle.std.proofs.Common.{refl, sym, ◌∙◌, ap, subst}
+use Rattle.std.proofs.Common.{refl, sym, ◌∙◌, ap, subst, append_assoc}
 use Rattle.std.proofs.lemmas.List.{take_more, map-append}
 use Rattle.std.specs.Option.{option_map}
 use Rattle.std.specs.List.{cons_option, filter_map}
@@ -63,3 +63,38 @@ parts_step f h xs i x ys o lt is one before =
     map-append f ys (cons_option o []) ∙ ap (λ l. l ++ map f (cons_option o [])) before
     ∙ ap (λ l. filter_map h (take i xs) ++ l) (map_option f o (h x) one)
     ∙ sym (ap (filter_map h) (front_more xs i x lt is) ∙ filter_map-append h (take i xs) (x ∷ []))
+
+-- the same, after what was there before
+pub parts_step_after : {A B C : Type 0} → (f : A → B) (h : C → Option B) (xs : List C) (i : ℕ) (x : C) (ys : List A)
+    → (start : List B) (o : Option A) → i < length xs → x ≡ get_or xs i x → option_map f o ≡ h x
+    → map f ys ≡ start ++ filter_map h (take i xs)
+    → map f (ys ++ cons_option o []) ≡ start ++ filter_map h (take (i + 1) xs)
+parts_step_after f h xs i x ys start o lt is one before =
+    map-append f ys (cons_option o []) ∙ ap (λ l. l ++ map f (cons_option o [])) before
+    ∙ ap (λ l. (start ++ filter_map h (take i xs)) ++ l) (map_option f o (h x) one)
+    ∙ append_assoc start (filter_map h (take i xs)) (cons_option (h x) [])
+    ∙ ap (λ l. start ++ l)
+    (sym (ap (filter_map h) (front_more xs i x lt is) ∙ filter_map-append h (take i xs) (x ∷ [])))
+
+-- the same, of what a function makes of these
+pub parts_step_both : {A B C D : Type 0} → (f : A → B) (g : D → C) (h : C → Option B) (xs : List D) (i : ℕ) (x : D)
+    → (ys : List A) (o : Option A) → i < length xs → x ≡ get_or xs i x → option_map f o ≡ h (g x)
+    → map f ys ≡ filter_map h (map g (take i xs))
+    → map f (ys ++ cons_option o []) ≡ filter_map h (map g (take (i + 1) xs))
+parts_step_both f g h xs i x ys o lt is one before =
+    map-append f ys (cons_option o []) ∙ ap (λ l. l ++ map f (cons_option o [])) before
+    ∙ ap (λ l. filter_map h (map g (take i xs)) ++ l) (map_option f o (h (g x)) one)
+    ∙ sym (ap (λ l. filter_map h (map g l)) (front_more xs i x lt is)
+    ∙ ap (filter_map h) (map-append g (take i xs) (x ∷ []))
+    ∙ filter_map-append h (map g (take i xs)) (g x ∷ []))
+
+-- what is added itself
+pub parts_step_of : {A B C : Type 0} → (g : A → C) (h : C → Option B) (xs : List A) (i : ℕ) (x : A) (ys : List B)
+    → (o : Option B) → i < length xs → x ≡ get_or xs i x → o ≡ h (g x) → ys ≡ filter_map h (map g (take i xs))
+    → ys ++ cons_option o [] ≡ filter_map h (map g (take (i + 1) xs))
+parts_step_of g h xs i x ys o lt is one before =
+    ap (λ l. l ++ cons_option o []) before
+    ∙ ap (λ p. filter_map h (map g (take i xs)) ++ cons_option p []) one
+    ∙ sym (ap (λ l. filter_map h (map g l)) (front_more xs i x lt is)
+    ∙ ap (filter_map h) (map-append g (take i xs) (x ∷ []))
+    ∙ filter_map-append h (map g (take i xs)) (g x ∷ []))

@@ -1,5 +1,5 @@
 -- Addresses of servers (RFC 6890).
-use Rattle.std.specs.Prelude.{ℕ, ◌∷◌, [], List, map, ◌⊎◌, string_bytes}
+use Rattle.std.specs.Prelude.{◌↔◌, ℕ, ◌∷◌, [], List, map, ◌⊎◌, string_bytes}
 use Rattle.std.specs.Net.Addr.{MatchIp, HasPrefix, IsWithinAt, IsIpv4Mapped, ipv4_octets, ipv6_segments}
 use Rattle.std.specs.Net.Addr.{IsLoopbackV4, IsLoopbackV6, IsUnspecifiedV4, IsUnspecifiedV6}
 use Rattle.std.specs.Net.Addr.{IsMulticastV4, IsMulticastV6}
@@ -7,6 +7,13 @@ use Rattle.std.specs.Net.Grammar.{IsIpText}
 use Rattle.std.specs.declared.net.ipv4_addr.Ipv4Addr.{Ipv4Addr}
 use Rattle.std.specs.declared.net.ipv6_addr.Ipv6Addr.{Ipv6Addr}
 use Rattle.std.specs.declared.net.ip_addr.IpAddr.{IpAddr}
+use Rattle.std.specs.declared.net.ip_addr.IpAddr.TheVariants.{V4, V6}
+use Rattle.std.specs.declared.cmp.Ordering.{Ordering}
+use Rattle.std.specs.declared.cmp.Ordering.TheVariants.{Less, Greater}
+use Rattle.std.specs.Ordering.{nat_cmp}
+use Rattle.std.specs.Cmp.Lexicographic.{slice_cmp}
+use Rattle.std.specs.List.{Contains}
+use Rattle.std.specs.List.Sorted.{IsStrictlySortedBy}
 use Rattle.esc_zone.specs.declared.address.Said.{Said}
 
 -- no loopback, unspecified, multicast or link-local address
@@ -39,3 +46,15 @@ HasAddress texts = (a : IpAddr) × IsAmongTexts texts a
 -- the texts of rows
 abbrev pub said_texts : List Said → List (List ℕ)
 said_texts rows = map (λ row. string_bytes row.text) rows
+
+-- the order of addresses: IPv4 first, each by its number
+abbrev pub ip_cmp : IpAddr → IpAddr → Ordering
+ip_cmp (V4 a) (V4 b) = slice_cmp nat_cmp (ipv4_octets a) (ipv4_octets b)
+ip_cmp (V4 a) (V6 b) = Less
+ip_cmp (V6 a) (V4 b) = Greater
+ip_cmp (V6 a) (V6 b) = slice_cmp nat_cmp (ipv6_segments a) (ipv6_segments b)
+
+-- the addresses that these texts are, in order, each once
+pub record AreAddresses (texts : List (List ℕ)) (addresses : List IpAddr) : Type 0 where
+  pub order : IsStrictlySortedBy ip_cmp addresses
+  pub same : (a : IpAddr) → Contains addresses a ↔ IsAmongTexts texts a

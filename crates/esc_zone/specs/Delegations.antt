@@ -12,7 +12,7 @@ use Rattle.esc_zone.specs.Names.{is_below, is_server_name, is_name_with, name_cm
 use Rattle.esc_zone.specs.Records.{RecordValue, RecordsValue, record_text}
 use Rattle.esc_zone.specs.Records.Data.{server, signer}
 use Rattle.esc_zone.specs.Lists.{GivesEach, Itself, IsOrderedOnce}
-use Rattle.esc_zone.specs.Signers.{AreSigners}
+use Rattle.esc_zone.specs.Signers.{AreSigners, ds_value}
 use Rattle.esc_zone.specs.Statuses.{hold_of}
 use Rattle.esc_zone.specs.declared.signer.Ds.{Ds}
 use Rattle.esc_zone.specs.declared.status.Hold.{Hold}
@@ -72,7 +72,7 @@ with_records lines records = record lines { text = lines.text ++ flat_map record
 -- DS of a name
 abbrev pub signer_records : ℕ → List ℕ → List Ds → List RecordValue
 signer_records ttl name signers =
-    map (λ ds. record { owner = name; ttl = ttl; said = signer ds }) signers
+    map (λ ds. record { owner = name; ttl = ttl; said = signer (ds_value ds) }) signers
 
 -- the records of a name with these servers are added: these, and the DS that these rows give; and
 -- nothing without a server

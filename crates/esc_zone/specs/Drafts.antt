@@ -1,6 +1,6 @@
 -- What a draft has noted of the names in the zone.
 use Rattle.std.specs.Prelude.{ℕ, List, [], ◌∷◌, Bool, false, not, ◌&&◌, Option, None, filter}
-use Rattle.std.specs.Prelude.{IsTrue, IsSome, is_some, ◌⊎◌}
+use Rattle.std.specs.Prelude.{IsTrue, is_some, ◌⊎◌, ◌||◌}
 use Rattle.std.specs.List.{take_while, last_or}
 use Rattle.std.specs.Option.{option_map_or}
 use Rattle.std.specs.BTreeMap.{get}
@@ -12,6 +12,7 @@ use Rattle.esc_zone.specs.Names.{is_below, name_cmp, name_eq, names_above, name_
 -- has an address of it, and the texts of the addresses that the tables have of it as a server
 pub record ZoneNotes : Type 0 where
   pub origin : List ℕ
+  pub ttl : ℕ
   pub has_underscores : Bool
   pub has_orphan_glue : Bool
   pub is_delegated : List ℕ → Bool
@@ -22,6 +23,7 @@ pub record ZoneNotes : Type 0 where
 abbrev pub zone_notes : Draft → ZoneNotes
 zone_notes d = record {
   origin = d.settings.origin;
+  ttl = d.settings.ttl;
   has_underscores = d.settings.has_underscores;
   has_orphan_glue = d.settings.has_orphan_glue;
   is_delegated = λ name. option_map_or (λ place. place.is_cut) (get name_cmp d.places name) false;
@@ -46,8 +48,12 @@ cut_of z name = last_or None (cuts_at z name)
 abbrev pub cut_above : ZoneNotes → List ℕ → Option (List ℕ)
 cut_above z name = option_map_or (cut_of z) (name_above name) None
 
--- the zone has an address of a server in it: the operator's, or, unless no delegation is at or
--- above the server and such addresses are left out, one of the tables
+-- whether addresses that the tables have of a server may be in the zone: a delegation is at or
+-- above it, or addresses without one are not left out
+abbrev pub takes_glue : ZoneNotes → List ℕ → Bool
+takes_glue z host = z.has_orphan_glue || is_some (cut_of z host)
+
+-- the zone has an address of a server in it: the operator's, or one of the tables that may be there
 abbrev pub HasGlue : ZoneNotes → List ℕ → Type 0
 HasGlue z host = IsTrue (z.is_given host)
-    ⊎ (HasAddress (z.said host) × (IsTrue z.has_orphan_glue ⊎ IsSome (cut_of z host)))
+    ⊎ (HasAddress (z.said host) × IsTrue (takes_glue z host))

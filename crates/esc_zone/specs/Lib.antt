@@ -2,8 +2,13 @@ pub mod Addresses
 pub mod Delegations
 pub mod Drafts
 pub mod Fields
+pub mod Glue
 pub mod Lists
+pub mod Mirrors
 pub mod Names
+pub mod Noted
+pub mod Passes
 pub mod Records
 pub mod Signers
 pub mod Statuses
+pub mod Told

@@ -3,8 +3,10 @@
 ghost use Rattle.std.specs.Prelude.{◌≡◌, ◌↔◌, IsTrue, IfOk, string_bytes};
 ghost use Rattle.std.specs.Net.Grammar.{Parses};
 ghost use Rattle.esc_zone.specs.Addresses.{IsServersV4, IsServersV6, IsServers, IsServersText};
-ghost use Rattle.esc_zone.specs.Addresses.{HasAddress, said_texts};
+ghost use Rattle.esc_zone.specs.Addresses.{HasAddress, said_texts, ip_cmp, AreAddresses};
+ghost use Rattle.esc_zone.specs.Lists.{GivesEach, IsOrderedOnce};
 
+use crate::lists::push_some;
 use esc_bundle::NoMemory;
 use std::alloc::Global;
 use std::net::{IpAddr, Ipv4Addr, Ipv6Addr};
@@ -17,7 +19,9 @@ pub(crate) struct Said {
 }
 
 impl Said {
-    pub(crate) fn copy(&self, alloc: Global) -> Result<Said, NoMemory> {
+    pub(crate) fn copy(&self, alloc: Global) -> Result<Said, NoMemory>
+        ensures { IfOk result (λ it. string_bytes it.text ≡ string_bytes self.now.text) }
+    {
         Ok(Said {
             text: String::from_str(alloc, self.text.as_str())?,
             version: String::from_str(alloc, self.version.as_str())?,
@@ -78,15 +82,30 @@ pub(crate) fn has_address(rows: &[Said]) -> bool
     false
 }
 
-/// The addresses of these rows: IPv4 first, by number, each once.
-pub(crate) fn addresses_of(alloc: Global, rows: &[Said]) -> Result<Vec<IpAddr>, NoMemory> {
-    let mut addresses = Vec::new(alloc);
+// The addresses that these rows have, by row.
+fn given_by(alloc: Global, rows: &[Said]) -> Result<Vec<IpAddr>, NoMemory>
+    ensures { IfOk result (λ given. GivesEach IsServersText (said_texts rows.now) given.items) }
+{
+    let mut given = Vec::new(alloc);
     for row in rows {
-        if let Ok(address) = row.address() {
-            addresses.push(address)?;
-        }
+        push_some(&mut given, row.address().ok())?;
     }
+    Ok(given)
+}
+
+// These addresses in order, each once.
+fn in_order_once(mut addresses: Vec<IpAddr>) -> Vec<IpAddr>
+    ensures { IsOrderedOnce ip_cmp addresses.items result.items }
+{
     addresses.sort_unstable();
     addresses.dedup();
-    Ok(addresses)
+    addresses
+}
+
+/// The addresses of these rows: IPv4 first, by number, each once.
+pub(crate) fn addresses_of(alloc: Global, rows: &[Said]) -> Result<Vec<IpAddr>, NoMemory>
+    ensures { IfOk result (λ addresses. AreAddresses (said_texts rows.now) addresses.items) }
+{
+    let given = given_by(alloc, rows)?;
+    Ok(in_order_once(given))
 }

@@ -1,6 +1,8 @@
 //! Domains: which are delegated, and their name servers.
 
-ghost use Rattle.std.specs.Prelude.{◌≡◌, ◌==◌, length, OnOk, IfOk, IsSome};
+ghost use Rattle.std.specs.Prelude.{◌≡◌, ◌==◌, ◌<◌, ◌≤◌, ◌+◌, length, OnOk, IfOk, IsSome};
+ghost use Rattle.std.specs.Prelude.{MatchBool, MatchOption, []};
+ghost use Rattle.std.specs.List.{cons_option};
 ghost use Rattle.esc_zone.specs.Statuses.{hold_of};
 ghost use Rattle.esc_zone.specs.Delegations.{kept_out, texts_of, IsUsable, IsKeptServer};
 ghost use Rattle.esc_zone.specs.Delegations.{IsReached, IsLeftToOther, has_place, with_records};
@@ -9,6 +11,8 @@ ghost use Rattle.esc_zone.specs.Fields.{normal};
 ghost use Rattle.std.specs.Prelude.{◌↔◌, IsTrue, Some, None, if◌then◌else◌};
 ghost use Rattle.esc_zone.specs.Lists.{GivesEach, GivesOne, Itself};
 ghost use Rattle.esc_zone.specs.Drafts.{zone_notes, cut_above};
+ghost use Rattle.esc_zone.specs.Mirrors.{original_notes};
+ghost use Rattle.esc_zone.specs.Told.{told_lines, TellsOfDelegation, TellsOfDomain};
 
 use crate::counts::{Outcome, add};
 use crate::draft::{Draft, Place, Server, servers_of};
@@ -36,6 +40,8 @@ impl Draft {
         ensures noted { OnOk result (zone_notes self.new ≡ zone_notes self.old) }
         ensures records { OnOk result (AddsDomain (zone_notes self.old) (normal key.now.text)
             object.now.children sheet.old.records sheet.new.records) }
+        ensures told { OnOk result (TellsOfDomain (zone_notes self.old) (normal key.now.text)
+            object.now.children (told_lines sheet.old) (told_lines sheet.new)) }
         ensures kept_out { OnOk result (IsSome (hold_of object.now.children)
             → sheet.new.records ≡ sheet.old.records) }
     {
@@ -57,6 +63,8 @@ impl Draft {
         ensures noted { OnOk result (zone_notes self.new ≡ zone_notes self.old) }
         ensures records { OnOk result (AddsDomain (zone_notes self.old) text.now object.now.children
             sheet.old.records sheet.new.records) }
+        ensures told { OnOk result (TellsOfDomain (zone_notes self.old) text.now object.now.children
+            (told_lines sheet.old) (told_lines sheet.new)) }
     {
         let servers = servers_of(self.alloc, &object.children)?;
         match kept_out(&object.children, &servers) {
@@ -81,6 +89,8 @@ impl Draft {
         ensures noted { OnOk result (zone_notes self.new ≡ zone_notes self.old) }
         ensures records { OnOk result (AddsDelegation (zone_notes self.old) text.now rows.now
             (texts_of servers.now) sheet.old.records sheet.new.records) }
+        ensures told { OnOk result (TellsOfDelegation (zone_notes self.old) text.now rows.now
+            (texts_of servers.now) (told_lines sheet.old) (told_lines sheet.new)) }
     {
         let Some(name) = self.name_for(text, sheet)? else {
             return Ok(Outcome::NoName);
@@ -101,6 +111,8 @@ impl Draft {
         ensures same { sheet.new.records ≡ sheet.old.records }
         ensures name { IfOk result (λ n.
             n ≡ (if has_place (zone_notes self.now) text.now then Some text.now else None)) }
+        ensures told { IfOk result (λ n. MatchOption n (told_lines sheet.old < told_lines sheet.new)
+            (λ name. told_lines sheet.old ≡ told_lines sheet.new)) }
     {
         let Some(name) = name_in(self.alloc, text, false)? else {
             self.leave_out_text(text, sheet)?;
@@ -124,7 +136,8 @@ impl Draft {
 
     // Tells why a text that is no name is left out: it may be outside of the zone, too.
     fn leave_out_text(&self, text: &str, sheet: &mut Sheet) -> Result<(), NoMemory>
-        ensures { sheet.new.records ≡ sheet.old.records }
+        ensures same { sheet.new.records ≡ sheet.old.records }
+        ensures told { OnOk result (told_lines sheet.old < told_lines sheet.new) }
     {
         let end = format!(in self.alloc; ".{}", self.settings.origin.text())?;
         if text.ends_with(end.as_str()) {
@@ -134,7 +147,8 @@ impl Draft {
     }
 
     fn leave_out_outside(&self, text: &str, sheet: &mut Sheet) -> Result<(), NoMemory>
-        ensures { sheet.new.records ≡ sheet.old.records }
+        ensures same { sheet.new.records ≡ sheet.old.records }
+        ensures told { OnOk result (told_lines sheet.old < told_lines sheet.new) }
     {
         let why = format!(in self.alloc; "not below {}", self.settings.origin.text())?;
         sheet.leave_out(text, why)
@@ -161,6 +175,8 @@ impl Draft {
         ensures kept { IfOk result (λ hosts.
             GivesEach (Itself (IsUsable (zone_notes self.now) name.now)) (texts_of servers.now)
             hosts.items) }
+        ensures told { IfOk result (λ hosts. length servers.now + told_lines sheet.old
+            ≤ length hosts.items + told_lines sheet.new) }
     {
         let mut written = Vec::new(self.alloc);
         for text in servers {
@@ -180,6 +196,8 @@ impl Draft {
         ensures same { sheet.new.records ≡ sheet.old.records }
         ensures used { IfOk result (λ host.
             GivesOne (Itself (IsUsable (zone_notes self.now) name.now)) text.now host) }
+        ensures told { IfOk result (λ host. 1 + told_lines sheet.old
+            ≤ length (cons_option host []) + told_lines sheet.new) }
     {
         let Some(host) = self.server_named(text)? else {
             let why = server_fault(text, self.settings.has_underscores);
@@ -198,6 +216,9 @@ impl Draft {
         ensures same { sheet.new.records ≡ sheet.old.records }
         ensures used { IfOk result (λ used.
             IsTrue used ↔ IsKeptServer (zone_notes self.now) name.now host.now) }
+        ensures told { IfOk result (λ used. MatchBool used
+            (told_lines sheet.old ≤ told_lines sheet.new)
+            (told_lines sheet.old < told_lines sheet.new)) }
     {
         if self.is_reached(host)? {
             return Ok(true);
@@ -247,8 +268,10 @@ impl Draft {
         sheet: &mut Sheet,
     ) -> Result<(), Halt>
         ensures noted { OnOk result (zone_notes self.new ≡ zone_notes self.old) }
+        ensures originals { OnOk result (original_notes self.new ≡ original_notes self.old) }
         ensures records { OnOk result (sheet.new.records ≡ with_records sheet.old.records
             (server_records sheet.old.records.ttl name.now servers.now)) }
+        ensures told { OnOk result (told_lines sheet.new ≡ told_lines sheet.old) }
     {
         self.check_apex(name)?;
         for server in servers {
@@ -262,7 +285,8 @@ impl Draft {
 
     // Notes the first name that has a server.
     fn note_user(&mut self, server: &Name, user: Name)
-        ensures { zone_notes self.new ≡ zone_notes self.old }
+        ensures noted { zone_notes self.new ≡ zone_notes self.old }
+        ensures originals { original_notes self.new ≡ original_notes self.old }
     {
         if let Some(server) = self.servers.get_mut(server) {
             set_user(server, user);
@@ -295,7 +319,8 @@ impl Draft {
 
     // Tells of the addresses that a domain says of servers that are in another domain.
     fn tell_foreign(&self, text: &str, rows: &[Row], sheet: &mut Sheet) -> Result<(), Halt>
-        ensures { sheet.new.records ≡ sheet.old.records }
+        ensures same { sheet.new.records ≡ sheet.old.records }
+        ensures told { OnOk result (told_lines sheet.old ≤ told_lines sheet.new) }
     {
         for row in rows {
             if let Some(attribute) = self.attribute_in(row)? {
@@ -346,7 +371,8 @@ fn tell_kept(
     outcome: Outcome,
     given: (&Row, &[String]),
 ) -> Result<(), NoMemory>
-    ensures { sheet.new.records ≡ sheet.old.records }
+    ensures same { sheet.new.records ≡ sheet.old.records }
+    ensures told { OnOk result (told_lines sheet.old ≤ told_lines sheet.new) }
 {
     let (parent, servers) = given;
     let is_inactive = outcome == Outcome::Kept(Hold::Inactive);

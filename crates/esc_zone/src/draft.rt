@@ -3,7 +3,11 @@
 ghost use Rattle.std.specs.Prelude.{◌≡◌, ◌↔◌, IfOk, IsTrue, Some, None, if◌then◌else◌};
 ghost use Rattle.std.specs.Prelude.{string_bytes};
 ghost use Rattle.std.specs.Option.{option_map};
-ghost use Rattle.esc_zone.specs.Names.{is_server_name, name_cmp};
+ghost use Rattle.std.specs.Prelude.{OnOk, false};
+ghost use Rattle.esc_zone.specs.Names.{is_server_name, name_cmp, name_eq, name_above};
+ghost use Rattle.esc_zone.specs.Noted.{draft_notes, server_notes, place_notes, new_server};
+ghost use Rattle.esc_zone.specs.Noted.{new_place, with_noted, is_among_names, zone_names};
+ghost use Rattle.esc_zone.specs.Noted.{is_zone_server, IsFresh, IsReachable};
 ghost use Rattle.esc_zone.specs.Lists.{IsOrderedOnce};
 ghost use Rattle.esc_zone.specs.Delegations.{server_text, server_texts, texts_of};
 ghost use Rattle.esc_zone.specs.Addresses.{HasAddress};
@@ -63,7 +67,7 @@ pub(crate) struct Place {
     pub(crate) has_outside: bool,
     /// The servers of the domain that are in the zone.
     pub(crate) inside: Vec<Name>,
-    /// The addresses that it says of servers that it is at or above.
+    /// The addresses that it says of servers in the zone.
     pub(crate) attributes: Vec<Attribute>,
     /// No domain, but a name that has the servers of this original.
     pub(crate) mirrors: Option<Name>,
@@ -89,7 +93,21 @@ pub struct Draft {
     pub(crate) counts: Counts,
 }
 
-pub(crate) fn empty_place(alloc: Global) -> Place {
+// A server of which nothing is known yet.
+fn empty_server(alloc: Global) -> Server
+    ensures { server_notes result ≡ new_server }
+{
+    Server {
+        is_object: false,
+        rows: Vec::new(alloc),
+        user: None,
+    }
+}
+
+/// A name of which nothing is known yet.
+pub(crate) fn empty_place(alloc: Global) -> Place
+    ensures { place_notes result ≡ new_place }
+{
     Place {
         is_domain: false,
         is_let_in: false,
@@ -105,7 +123,9 @@ pub(crate) fn empty_place(alloc: Global) -> Place {
 
 impl Draft {
     /// A zone with the operator's records alone, so far.
-    pub fn new(alloc: Global, settings: Settings, apex: Apex) -> Result<Draft, Halt> {
+    pub fn new(alloc: Global, settings: Settings, apex: Apex) -> Result<Draft, Halt>
+        ensures { IfOk result (λ draft. IsFresh (draft_notes draft)) }
+    {
         let mut draft = Draft {
             alloc,
             settings,
@@ -122,21 +142,43 @@ impl Draft {
     }
 
     // Notes the zone's own servers that are in it and have no address in the operator's file.
-    fn note_own_servers(&mut self) -> Result<(), Halt> {
+    fn note_own_servers(&mut self) -> Result<(), Halt>
+        ensures { OnOk result (IsFresh (draft_notes self.old) → IsFresh (draft_notes self.new)) }
+    {
+        let wanted = self.own_servers()?;
+        for name in &wanted {
+            self.note_own_server(name)?;
+        }
+        Ok(())
+    }
+
+    // The zone's own servers that are in it and have no address in the operator's file.
+    fn own_servers(&self) -> Result<Vec<Name>, NoMemory> {
         let mut wanted = Vec::new(self.alloc);
         for name in self.apex.servers() {
             if name.is_below(&self.settings.origin) && self.apex.addresses(name).is_none() {
                 wanted.push(name.copy(self.alloc)?)?;
             }
         }
-        for name in &wanted {
-            self.note_server(name)?;
-            let user = self.settings.origin.copy(self.alloc)?;
-            if let Some(server) = self.servers.get_mut(name) {
-                server.user = Some(user);
-            }
-        }
+        Ok(wanted)
+    }
+
+    // Notes a server that the zone itself has.
+    fn note_own_server(&mut self, name: &Name) -> Result<(), NoMemory>
+        ensures { OnOk result (IsFresh (draft_notes self.old) → IsFresh (draft_notes self.new)) }
+    {
+        self.note_server(name)?;
+        let user = self.settings.origin.copy(self.alloc)?;
+        self.set_own_user(name, user);
         Ok(())
+    }
+
+    fn set_own_user(&mut self, name: &Name, user: Name)
+        ensures { draft_notes self.new ≡ draft_notes self.old }
+    {
+        if let Some(server) = self.servers.get_mut(name) {
+            set_own_user(server, user);
+        }
     }
 
     /// The counts so far.
@@ -156,33 +198,70 @@ impl Draft {
         name.is_below(&self.settings.origin) && *name != self.settings.origin
     }
 
+    /// The name of a server at or below that of the zone with this normal text, if it is one.
+    pub(crate) fn zone_server(&self, text: &str) -> Result<Option<Name>, NoMemory>
+        ensures { IfOk result (λ n. n ≡ (if is_zone_server (draft_notes self.now).settings text.now
+            then Some text.now else None)) }
+    {
+        match self.server_named(text)? {
+            Some(host) if host.is_below(&self.settings.origin) => Ok(Some(host)),
+            _ => Ok(None),
+        }
+    }
+
     /// Notes a server in the zone, and the names at and above it.
-    pub(crate) fn note_server(&mut self, host: &Name) -> Result<(), NoMemory> {
-        if !self.servers.contains_key(host) {
-            let server = Server {
-                is_object: false,
-                rows: Vec::new(self.alloc),
-                user: None,
-            };
-            self.servers.insert(host.copy(self.alloc)?, server)?;
+    pub(crate) fn note_server(&mut self, host: &Name) -> Result<(), NoMemory>
+        ensures { OnOk result (draft_notes self.new ≡ with_noted (name_eq host.now)
+            (is_among_names (zone_names (draft_notes self.old).settings (Some host.now)))
+            (draft_notes self.old)) }
+    {
+        self.note_host(host)?;
+        let first = host.copy(self.alloc)?;
+        self.note_names(Some(first))
+    }
+
+    // Notes a server, without the names at and above it.
+    fn note_host(&mut self, host: &Name) -> Result<(), NoMemory>
+        ensures { OnOk result (draft_notes self.new
+            ≡ with_noted (name_eq host.now) (λ q. false) (draft_notes self.old)) }
+    {
+        if self.servers.contains_key(host) {
+            return Ok(());
         }
-        if self.is_inside(host) {
-            self.note_place(host.copy(self.alloc)?)?;
-        }
-        self.note_above(host)
+        let name = host.copy(self.alloc)?;
+        self.servers.insert(name, empty_server(self.alloc))?;
+        Ok(())
     }
 
     /// Notes a name.
-    pub(crate) fn note_place(&mut self, name: Name) -> Result<(), NoMemory> {
-        if !self.places.contains_key(&name) {
-            self.places.insert(name, empty_place(self.alloc))?;
+    pub(crate) fn note_place(&mut self, name: Name) -> Result<(), NoMemory>
+        ensures { OnOk result (draft_notes self.new
+            ≡ with_noted (λ q. false) (name_eq name) (draft_notes self.old)) }
+    {
+        if self.places.contains_key(&name) {
+            return Ok(());
         }
+        self.places.insert(name, empty_place(self.alloc))?;
         Ok(())
     }
 
     /// Notes the names above one, as far as they are in the zone.
-    pub(crate) fn note_above(&mut self, name: &Name) -> Result<(), NoMemory> {
-        let mut next = name.above(self.alloc)?;
+    pub(crate) fn note_above(&mut self, name: &Name) -> Result<(), NoMemory>
+        ensures { OnOk result (draft_notes self.new ≡ with_noted (λ q. false)
+            (is_among_names (zone_names (draft_notes self.old).settings (name_above name.now)))
+            (draft_notes self.old)) }
+    {
+        let first = name.above(self.alloc)?;
+        self.note_names(first)
+    }
+
+    // Notes a name and those above it, as far as they are in the zone.
+    fn note_names(&mut self, first: Option<Name>) -> Result<(), NoMemory>
+        ensures { OnOk result (draft_notes self.new ≡ with_noted (λ q. false)
+            (is_among_names (zone_names (draft_notes self.old).settings first))
+            (draft_notes self.old)) }
+    {
+        let mut next = first;
         while let Some(above) = next {
             if !self.is_inside(&above) {
                 break;
@@ -240,35 +319,57 @@ impl Draft {
         }
     }
 
-    /// Whether a server is outside of the zone, or has an address: so its domain is delegated.
-    pub(crate) fn is_reachable(&self, host: &Name) -> bool {
-        self.apex.addresses(host).is_some() || self.has_own_address(host)
+    /// Whether a server in the zone has an address, the operator's or of the tables.
+    pub(crate) fn is_reachable(&self, host: &Name) -> bool
+        ensures { IsTrue result ↔ IsReachable (zone_notes self.now).is_given
+            (zone_notes self.now).said host.now }
+    {
+        if self.apex.addresses(host).is_some() {
+            return true;
+        }
+        self.has_own_address(host)
     }
 
     /// Notes a name whose key is another text. Refused by `Z5` where it is noted already.
-    pub(crate) fn note_odd(&mut self, key: &Key, name: &Name) -> Result<(), Halt> {
+    pub(crate) fn note_odd(&mut self, key: &Key, name: &Name) -> Result<(), Halt>
+        ensures { OnOk result (draft_notes self.new ≡ draft_notes self.old) }
+    {
         if key.text.as_bytes() == name.as_bytes() {
             return Ok(());
         }
-        let copy = name.copy(self.alloc)?;
-        let odd = match key.kind {
-            Kind::Domain => &mut self.odd,
-            _ => &mut self.odd_mirrors,
-        };
-        if odd.contains(name) {
+        if self.odd_of(key.kind).contains(name) {
             return Err(twice(self.alloc, key.kind, name));
         }
-        odd.insert(copy)?;
-        Ok(())
+        self.add_odd(key.kind, name.copy(self.alloc)?)
+    }
+
+    // Names of this kind whose key is another text.
+    fn odd_of(&self, kind: Kind) -> &BTreeSet<Name> {
+        match kind {
+            Kind::Domain => &self.odd,
+            _ => &self.odd_mirrors,
+        }
+    }
+
+    fn add_odd(&mut self, kind: Kind, name: Name) -> Result<(), Halt>
+        ensures { OnOk result (draft_notes self.new ≡ draft_notes self.old) }
+    {
+        match kind {
+            Kind::Domain => {
+                self.odd.insert(name)?;
+                Ok(())
+            }
+            _ => {
+                self.odd_mirrors.insert(name)?;
+                Ok(())
+            }
+        }
     }
 
     /// Refused by `Z5` where a name that is its key is that of another key, too.
     pub(crate) fn check_odd(&self, key: &Key, name: &Name) -> Result<(), Halt> {
-        let odd = match key.kind {
-            Kind::Domain => &self.odd,
-            _ => &self.odd_mirrors,
-        };
-        if key.text.as_bytes() == name.as_bytes() && odd.contains(name) {
+        let is_key = key.text.as_bytes() == name.as_bytes();
+        if is_key && self.odd_of(key.kind).contains(name) {
             return Err(twice(self.alloc, key.kind, name));
         }
         Ok(())
@@ -282,6 +383,13 @@ impl Draft {
     {
         server_in(self.alloc, text, self.settings.has_underscores)
     }
+}
+
+// Sets that a server is one of the zone itself.
+fn set_own_user(server: &mut Server, user: Name)
+    ensures { server_notes server.new ≡ server_notes server.old }
+{
+    server.user = Some(user);
 }
 
 /// The refusal of two objects with one name.

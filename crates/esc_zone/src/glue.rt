@@ -1,6 +1,13 @@
 //! The addresses of servers in the zone.
 
-ghost use Rattle.std.specs.Prelude.{◌≡◌};
+ghost use Rattle.std.specs.Prelude.{◌≡◌, ◌≤◌, ◌||◌, OnOk, MatchBool};
+ghost use Rattle.esc_zone.specs.Addresses.{said_texts};
+ghost use Rattle.esc_zone.specs.Delegations.{with_records};
+ghost use Rattle.esc_zone.specs.Drafts.{zone_notes, takes_glue};
+ghost use Rattle.esc_zone.specs.Glue.{address_records, AddsGlue};
+ghost use Rattle.esc_zone.specs.Names.{name_eq};
+ghost use Rattle.esc_zone.specs.Passes.{without_texts};
+ghost use Rattle.esc_zone.specs.Told.{told_lines, TellsOfAddresses};
 
 use crate::address::{Said, addresses_of};
 use crate::counts::add;
@@ -17,7 +24,10 @@ use std::net::IpAddr;
 
 impl Draft {
     /// The servers in the zone, which are taken out of what is kept.
-    pub(crate) fn take_servers(&mut self) -> BTreeMap<Name, Server> {
+    pub(crate) fn take_servers(&mut self) -> BTreeMap<Name, Server>
+        ensures servers { result.entries ≡ self.old.servers.entries }
+        ensures noted { zone_notes self.new ≡ without_texts (zone_notes self.old) }
+    {
         mem::replace(&mut self.servers, BTreeMap::new(self.alloc))
     }
 
@@ -27,7 +37,13 @@ impl Draft {
         host: &Name,
         server: &Server,
         sheet: &mut Sheet,
-    ) -> Result<(), Halt> {
+    ) -> Result<(), Halt>
+        ensures noted { OnOk result (zone_notes self.new ≡ zone_notes self.old) }
+        ensures records { OnOk result (AddsGlue (zone_notes self.old) host.now server.now.user
+            (said_texts server.now.rows.items) sheet.old.records sheet.new.records) }
+        ensures told { OnOk result (TellsOfAddresses (said_texts server.now.rows.items)
+            (told_lines sheet.old) (told_lines sheet.new)) }
+    {
         tell_faults(self.alloc, sheet, host, &server.rows)?;
         let Some(user) = &server.user else {
             return Ok(());
@@ -40,11 +56,7 @@ impl Draft {
             return Ok(());
         }
         self.check_own_server(host, user, &addresses)?;
-        if !addresses.is_empty() && self.cut_of(host)?.is_none() {
-            sheet.tell_orphan(host, user)?;
-            add(&mut self.counts.orphan_hosts);
-        }
-        self.write_addresses(host, &addresses, sheet)
+        self.write_used(host, user, &addresses, sheet)
     }
 
     // Refused by `Z3` where a server of the zone itself has no address.
@@ -57,12 +69,48 @@ impl Draft {
         Err(refused(Rule::Apex, text))
     }
 
+    // Writes these addresses of a server, which this name uses, and tells of those that are below
+    // no delegation. These are left out if the settings say so, unless the zone itself uses it.
+    fn write_used(
+        &mut self,
+        host: &Name,
+        user: &Name,
+        addresses: &[IpAddr],
+        sheet: &mut Sheet,
+    ) -> Result<(), Halt>
+        ensures noted { OnOk result (zone_notes self.new ≡ zone_notes self.old) }
+        ensures records { OnOk result (MatchBool
+            (takes_glue (zone_notes self.old) host.now
+            || name_eq user.now (zone_notes self.old).origin)
+            (sheet.new.records ≡ with_records sheet.old.records
+            (address_records sheet.old.records.ttl host.now addresses.now))
+            (sheet.new.records ≡ sheet.old.records)) }
+        ensures told { OnOk result (told_lines sheet.old ≤ told_lines sheet.new) }
+    {
+        let is_orphan = self.cut_of(host)?.is_none();
+        if is_orphan && !addresses.is_empty() {
+            sheet.tell_orphan(host, user)?;
+        }
+        if is_orphan && !self.settings.has_orphan_glue && *user != self.settings.origin {
+            return Ok(());
+        }
+        if is_orphan && !addresses.is_empty() {
+            add(&mut self.counts.orphan_hosts);
+        }
+        self.write_addresses(host, addresses, sheet)
+    }
+
     fn write_addresses(
         &mut self,
         host: &Name,
         addresses: &[IpAddr],
         sheet: &mut Sheet,
-    ) -> Result<(), Halt> {
+    ) -> Result<(), Halt>
+        ensures noted { OnOk result (zone_notes self.new ≡ zone_notes self.old) }
+        ensures records { OnOk result (sheet.new.records ≡ with_records sheet.old.records
+            (address_records sheet.old.records.ttl host.now addresses.now)) }
+        ensures told { OnOk result (told_lines sheet.new ≡ told_lines sheet.old) }
+    {
         for address in addresses {
             sheet.records.add_address(host, address)?;
             add(&mut self.counts.addresses);
@@ -74,7 +122,9 @@ impl Draft {
 
 // Tells of a server's rows that have no address, or another than they say.
 fn tell_faults(alloc: Global, sheet: &mut Sheet, host: &Name, rows: &[Said]) -> Result<(), NoMemory>
-    ensures { sheet.new.records ≡ sheet.old.records }
+    ensures same { sheet.new.records ≡ sheet.old.records }
+    ensures told { OnOk result (TellsOfAddresses (said_texts rows.now) (told_lines sheet.old)
+        (told_lines sheet.new)) }
 {
     for row in rows {
         match row.address() {
@@ -93,7 +143,8 @@ fn tell_version(
     row: &Said,
     address: &IpAddr,
 ) -> Result<(), NoMemory>
-    ensures { sheet.new.records ≡ sheet.old.records }
+    ensures same { sheet.new.records ≡ sheet.old.records }
+    ensures told { OnOk result (told_lines sheet.old ≤ told_lines sheet.new) }
 {
     let is = if address.is_ipv4() { "v4" } else { "v6" };
     let declared = row.version.as_str();

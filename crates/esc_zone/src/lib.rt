@@ -139,8 +139,15 @@
 //!   they keep out adds no record (`Draft::write_domain`, `kept_out`).
 //! - [`Records`] are lines of records alone, whose names are [`Name`]s: labels of `a-z 0-9 - _`. A
 //!   record says a name server, a [`Ds`] or an IP address, so no other byte of a deposit is in the
-//!   zone. Each pass over objects adds such lines to it, and nothing else (`write_domains`,
-//!   `write_mirrors`, `write_glue`).
+//!   zone. Their text is that of no other records ([`lines_have_one_reading`]): who reads the lines
+//!   finds these names, TTLs and data, in this order.
+//! - Each pass adds to the zone exactly what each of the things adds that it goes over, one after
+//!   the other, and nothing else (`AppendsEach`): `write_domains` what each domain adds
+//!   (`IsDomainText`), `write_mirrors` what each name adds that is no domain (`IsMirrorText`), in
+//!   the order of the source, if that is honest; `write_glue` what each server adds that is noted
+//!   (`noted_servers`, `IsGlueText`), by the bytes of its name. If a source is not honest, what
+//!   they add is still lines of records. What is noted of the zone (`zone_notes`) stays the same,
+//!   but that `write_glue` takes the texts of addresses out.
 //! - A [`Ds`] is that of its row's texts, with the bytes that its type has; or, of a row without
 //!   them, that of its zone key: tag, and SHA-256 of the name on the wire with the key's data (RFC
 //!   4034, section 5.1.4). Each row of `secDNS` that has one gives it (`IsSigner`).
@@ -151,10 +158,31 @@
 //!   no server is left.
 //! - A server is written (`IsUsable`) if its text is a name, and it is outside of the zone, or the
 //!   zone has an address of it, or another delegation has it.
+//! - `Draft::write_mirror` says which records a name adds that is no domain: an NS for each server
+//!   that was kept of its original, in order (`mirror_servers`). It adds none unless its row says
+//!   that it is mirrored by name servers (`original_in`), it is no domain, its original is one, and
+//!   it has its place in the zone (`is_mirror`).
+//! - `Draft::write_host` says which records a server in the zone adds (`AddsGlue`): an A or AAAA for
+//!   each address that the texts of its rows are (`AreAddresses`), no others, IPv4 first, by number,
+//!   each once. It adds none where no name has it, where the operator's file has its addresses, or
+//!   where no delegation is at or above it and such addresses are left out (`takes_glue`, by which
+//!   NS are written, too), unless the zone itself has it.
+//! - `Draft::settle` says which addresses the tables have (`texts_here`) of a server in the zone
+//!   that a domain has which its statuses let in: those of the host with its name; if there is none,
+//!   those that the domain says that it is in, which is the nearest at or above it. And of the names
+//!   at or above such a server, or above such a domain, it says which of those that are domains are
+//!   delegated (`IsDelegatedHere`): no status keeps them out, and they have a server that is outside
+//!   of the zone, or one in it that has an address, the operator's or of the tables. So it is after
+//!   the passes above, in their order, over sources that give what they hold, the same domains in
+//!   each pass: each pass says what it adds to what is noted (`AreTaken`; `IsFresh` at first).
+//! - A line is told of each server of a domain, each row that says a DS or a key, and each text of
+//!   an address that is left out, and of a domain without a place in the zone or without a server
+//!   that is left (`TellsOfDomain`, `TellsOfAddresses`).
 //!
-//! Tested alone: what the draft notes before, the servers of mirrored names, which addresses are
-//! written, what is told, and the operator's file. `specs/` has the definitions, by name: `Names`,
-//! `Addresses`, `Fields`, `Statuses`, `Records`, `Signers`, `Drafts`, `Delegations`, `Lists`.
+//! Tested alone: which mirrored names are delegated, which servers of an original are kept, what
+//! the lines say that are told, and the operator's file. `specs/` has the definitions, by name:
+//! `Names`, `Addresses`, `Fields`, `Statuses`, `Records`, `Signers`, `Drafts`, `Delegations`,
+//! `Mirrors`, `Glue`, `Passes`, `Noted`, `Told`, `Lists`.
 #![tactic(auto)]
 
 mod address;
@@ -165,6 +193,7 @@ mod draft;
 mod fault;
 mod field;
 mod glue;
+mod laws;
 mod lists;
 mod mirrors;
 mod name;
@@ -183,6 +212,7 @@ pub use apex::{Apex, read_apex};
 pub use counts::Counts;
 pub use draft::{Draft, Settings};
 pub use fault::{Halt, Refusal, Rule, ZoneFault};
+pub use laws::{lines_have_one_reading, worked_lines};
 pub use name::{LONGEST_LABEL, LONGEST_NAME, Name};
 pub use reading::{NameFault, read_origin, read_serial};
 pub use records::Records;

@@ -1,6 +1,14 @@
 //! The passes over the objects of a registry.
 
-ghost use Rattle.std.specs.Prelude.{OnOk};
+ghost use Rattle.std.specs.Prelude.{◌≡◌, List, OnOk};
+ghost use Rattle.esc_apply.specs.ObjectStreams.{Entry};
+ghost use Rattle.esc_zone.specs.Drafts.{zone_notes};
+ghost use Rattle.esc_zone.specs.Mirrors.{original_notes};
+ghost use Rattle.esc_zone.specs.Passes.{IsDomainText, IsMirrorText, IsGlueText, AppendsEach};
+ghost use Rattle.esc_zone.specs.Passes.{noted_servers, without_texts};
+ghost use Rattle.std.specs.Prelude.{[]};
+ghost use Rattle.esc_zone.specs.Noted.{draft_notes, with_uses, with_hosts, with_domains};
+ghost use Rattle.esc_zone.specs.Noted.{NotesNames, NotesOriginals, IsFresh, AreTaken};
 ghost use Rattle.esc_zone.specs.Records.{AppendsLines};
 
 use crate::draft::Draft;
@@ -11,7 +19,14 @@ use std::io::Write;
 
 impl Draft {
     /// Notes what the domains have in the zone.
-    pub fn note_domains<O: Objects>(&mut self, objects: &mut O) -> Result<(), ZoneFault<O::Error>> {
+    pub fn note_domains<O: Objects>(&mut self, objects: &mut O) -> Result<(), ZoneFault<O::Error>>
+        ensures noted { OnOk result (O.is_honest objects.new → (es : List Entry)
+            → O.lists objects.old es
+            → draft_notes self.new ≡ with_uses es (draft_notes self.old)) }
+        ensures taken { OnOk result (O.is_honest objects.new → (es : List Entry)
+            → O.lists objects.old es → IsFresh (draft_notes self.old)
+            → AreTaken [] [] es (draft_notes self.new)) }
+    {
         while let Some((key, object)) = objects.next().map_err(ZoneFault::Source)? {
             self.note_domain(&key, &object)?;
         }
@@ -19,7 +34,12 @@ impl Draft {
     }
 
     /// Notes what the mirrored names have in the zone.
-    pub fn note_mirrors<O: Objects>(&mut self, objects: &mut O) -> Result<(), ZoneFault<O::Error>> {
+    pub fn note_mirrors<O: Objects>(&mut self, objects: &mut O) -> Result<(), ZoneFault<O::Error>>
+        ensures noted { OnOk result (NotesNames (draft_notes self.old) (draft_notes self.new)) }
+        ensures taken { OnOk result ((hosts domains uses : List Entry)
+            → AreTaken hosts domains uses (draft_notes self.old)
+            → AreTaken hosts domains uses (draft_notes self.new)) }
+    {
         while let Some((key, object)) = objects.next().map_err(ZoneFault::Source)? {
             self.note_mirror(&key, &object)?;
         }
@@ -27,7 +47,15 @@ impl Draft {
     }
 
     /// Takes the addresses of the hosts that are servers in the zone.
-    pub fn take_hosts<O: Objects>(&mut self, objects: &mut O) -> Result<(), ZoneFault<O::Error>> {
+    pub fn take_hosts<O: Objects>(&mut self, objects: &mut O) -> Result<(), ZoneFault<O::Error>>
+        ensures noted { OnOk result (O.is_honest objects.new → (es : List Entry)
+            → O.lists objects.old es
+            → draft_notes self.new ≡ with_hosts es (draft_notes self.old)) }
+        ensures taken { OnOk result (O.is_honest objects.new → (es : List Entry)
+            → O.lists objects.old es → (domains uses : List Entry)
+            → AreTaken [] domains uses (draft_notes self.old)
+            → AreTaken es domains uses (draft_notes self.new)) }
+    {
         while let Some((key, object)) = objects.next().map_err(ZoneFault::Source)? {
             self.take_host(&key, &object)?;
         }
@@ -35,7 +63,15 @@ impl Draft {
     }
 
     /// Takes what the domains say whose names matter to others.
-    pub fn take_domains<O: Objects>(&mut self, objects: &mut O) -> Result<(), ZoneFault<O::Error>> {
+    pub fn take_domains<O: Objects>(&mut self, objects: &mut O) -> Result<(), ZoneFault<O::Error>>
+        ensures noted { OnOk result (O.is_honest objects.new → (es : List Entry)
+            → O.lists objects.old es
+            → draft_notes self.new ≡ with_domains es (draft_notes self.old)) }
+        ensures taken { OnOk result (O.is_honest objects.new → (es : List Entry)
+            → O.lists objects.old es → (hosts uses : List Entry)
+            → AreTaken hosts [] uses (draft_notes self.old)
+            → AreTaken hosts es uses (draft_notes self.new)) }
+    {
         while let Some((key, object)) = objects.next().map_err(ZoneFault::Source)? {
             self.take_domain(&key, &object)?;
         }
@@ -43,7 +79,12 @@ impl Draft {
     }
 
     /// Takes the originals of the mirrored names that matter to others.
-    pub fn take_mirrors<O: Objects>(&mut self, objects: &mut O) -> Result<(), ZoneFault<O::Error>> {
+    pub fn take_mirrors<O: Objects>(&mut self, objects: &mut O) -> Result<(), ZoneFault<O::Error>>
+        ensures noted { OnOk result (NotesOriginals (draft_notes self.old) (draft_notes self.new)) }
+        ensures taken { OnOk result ((hosts domains uses : List Entry)
+            → AreTaken hosts domains uses (draft_notes self.old)
+            → AreTaken hosts domains uses (draft_notes self.new)) }
+    {
         while let Some((key, object)) = objects.next().map_err(ZoneFault::Source)? {
             self.take_mirror(&key, &object)?;
         }
@@ -57,7 +98,13 @@ impl Draft {
         zone: &mut Z,
         told: &mut T,
     ) -> Result<(), ZoneFault<O::Error>>
-        ensures { OnOk result (AppendsLines (Z.contents zone.old) (Z.contents zone.new)) }
+        ensures follows { O.follows objects.old objects.new }
+        ensures noted { OnOk result (zone_notes self.new ≡ zone_notes self.old) }
+        ensures lines { OnOk result (AppendsLines (Z.contents zone.old) (Z.contents zone.new)) }
+        ensures records { OnOk result (O.is_honest objects.new → (es : List Entry)
+            → O.lists objects.old es
+            → AppendsEach (IsDomainText (zone_notes self.old)) es (Z.contents zone.old)
+            (Z.contents zone.new)) }
     {
         let mut sheet = Sheet::new(self.alloc, self.settings.ttl);
         while let Some((key, object)) = objects.next().map_err(ZoneFault::Source)? {
@@ -74,7 +121,14 @@ impl Draft {
         zone: &mut Z,
         told: &mut T,
     ) -> Result<(), ZoneFault<O::Error>>
-        ensures { OnOk result (AppendsLines (Z.contents zone.old) (Z.contents zone.new)) }
+        ensures follows { O.follows objects.old objects.new }
+        ensures noted { OnOk result (zone_notes self.new ≡ zone_notes self.old) }
+        ensures originals { OnOk result (original_notes self.new ≡ original_notes self.old) }
+        ensures lines { OnOk result (AppendsLines (Z.contents zone.old) (Z.contents zone.new)) }
+        ensures records { OnOk result (O.is_honest objects.new → (es : List Entry)
+            → O.lists objects.old es
+            → AppendsEach (IsMirrorText (zone_notes self.old) (original_notes self.old)) es
+            (Z.contents zone.old) (Z.contents zone.new)) }
     {
         let mut sheet = Sheet::new(self.alloc, self.settings.ttl);
         while let Some((key, object)) = objects.next().map_err(ZoneFault::Source)? {
@@ -90,7 +144,10 @@ impl Draft {
         zone: &mut Z,
         told: &mut T,
     ) -> Result<(), ZoneFault<E>>
-        ensures { OnOk result (AppendsLines (Z.contents zone.old) (Z.contents zone.new)) }
+        ensures noted { OnOk result (zone_notes self.new ≡ without_texts (zone_notes self.old)) }
+        ensures lines { OnOk result (AppendsLines (Z.contents zone.old) (Z.contents zone.new)) }
+        ensures records { OnOk result (AppendsEach (IsGlueText (zone_notes self.old))
+            (noted_servers self.old) (Z.contents zone.old) (Z.contents zone.new)) }
     {
         let mut sheet = Sheet::new(self.alloc, self.settings.ttl);
         let servers = self.take_servers();

@@ -2,15 +2,20 @@
 
 ghost use Rattle.std.specs.Prelude.{◌≡◌, [], ◌++◌, OnOk, IfOk, string_bytes};
 ghost use Rattle.std.specs.Fmt.{decimal};
+ghost use Rattle.std.specs.Net.Addr.{IsIpv4Addr, IsIpv6Addr};
+ghost use Rattle.std.specs.declared.net.ip_addr.IpAddr.TheVariants.{V4, V6};
+ghost use Rattle.hex.specs.Hex.{IsBytes, encode_upper};
 ghost use Rattle.esc_zone.specs.Records.{record_text, data_text, record_line, IsSaid, AreLines};
+ghost use Rattle.esc_zone.specs.Records.{IsDs, IsData};
 ghost use Rattle.esc_zone.specs.Records.Data.{server, signer, address};
+ghost use Rattle.esc_zone.specs.Signers.{ds_value};
 
 use crate::name::Name;
 use crate::signer::Ds;
 use esc_bundle::NoMemory;
 use std::alloc::Global;
 use std::marker::Model;
-use std::net::IpAddr;
+use std::net::{IpAddr, Ipv4Addr, Ipv6Addr};
 
 /// Lines of records with one TTL: name servers, DS and addresses. Contracts see the TTL and the
 /// text, which is lines of records whose names are [`Name`]s, and nothing else.
@@ -45,20 +50,45 @@ fn number_text(alloc: Global, number: u32) -> Result<String, NoMemory>
     Ok(format!(in alloc; "{number}")?)
 }
 
-fn address_text(alloc: Global, at: &IpAddr) -> Result<String, NoMemory>
-    ensures { IfOk result (λ text. string_bytes text ≡ data_text (address at.now)) }
+fn v4_text(alloc: Global, at: Ipv4Addr) -> Result<String, NoMemory>
+    ensures text { IfOk result (λ text. string_bytes text ≡ data_text (address (V4 at))) }
+    ensures address { OnOk result (IsIpv4Addr at) }
+{
+    Ok(format!(in alloc; "A {at}")?)
+}
+
+fn v6_text(alloc: Global, at: Ipv6Addr) -> Result<String, NoMemory>
+    ensures text { IfOk result (λ text. string_bytes text ≡ data_text (address (V6 at))) }
+    ensures address { OnOk result (IsIpv6Addr at) }
+{
+    Ok(format!(in alloc; "AAAA {at}")?)
+}
+
+fn address_text(alloc: Global, at: IpAddr) -> Result<String, NoMemory>
+    ensures text { IfOk result (λ text. string_bytes text ≡ data_text (address at)) }
+    ensures address { OnOk result (IsData (address at)) }
 {
     match at {
-        IpAddr::V4(v4) => Ok(format!(in alloc; "A {v4}")?),
-        IpAddr::V6(v6) => Ok(format!(in alloc; "AAAA {v6}")?),
+        IpAddr::V4(v4) => v4_text(alloc, v4),
+        IpAddr::V6(v6) => v6_text(alloc, v6),
     }
 }
 
+// Bytes as hexadecimal digits.
+fn hex_text(alloc: Global, bytes: &[u8]) -> Result<String, NoMemory>
+    ensures text { IfOk result (λ text. string_bytes text ≡ encode_upper bytes.now) }
+    ensures bytes { IsBytes bytes.now }
+{
+    Ok(hex::encode_upper(alloc, bytes)?)
+}
+
 fn ds_text(alloc: Global, ds: &Ds) -> Result<String, NoMemory>
-    ensures { IfOk result (λ text. string_bytes text ≡ data_text (signer ds.now)) }
+    ensures text { IfOk result (λ text.
+        string_bytes text ≡ data_text (signer (ds_value ds.now))) }
+    ensures ds { OnOk result (IsDs (ds_value ds.now)) }
 {
     let (tag, algorithm, kind) = (ds.tag, ds.algorithm, ds.kind);
-    let digest = hex::encode_upper(alloc, ds.digest.as_slice())?;
+    let digest = hex_text(alloc, ds.digest.as_slice())?;
     Ok(format!(in alloc; "DS {tag} {algorithm} {kind} {digest}")?)
 }
 
@@ -146,7 +176,7 @@ impl Records {
               ++ record_text (record {
                 owner = owner.now;
                 ttl = self.old.ttl;
-                said = signer ds.now;
+                said = signer (ds_value ds.now);
               });
         }) }
     {
@@ -165,7 +195,7 @@ impl Records {
               });
         }) }
     {
-        let said = address_text(self.alloc, at)?;
+        let said = address_text(self.alloc, *at)?;
         self.add(host, said.as_bytes())
     }
 }

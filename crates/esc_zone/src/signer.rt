@@ -1,7 +1,7 @@
 //! DS records: those that a row has, and those that are made of its key.
 
 ghost use Rattle.std.specs.Prelude.{◌≡◌, ◌≢◌, ◌≤◌, ◌<◌, ◌+◌, ◌++◌, [], ◌∷◌, ◌^◌, IfOk, OnOk, length};
-ghost use Rattle.std.specs.Prelude.{List, ℕ, MatchResult, filter, not};
+ghost use Rattle.std.specs.Prelude.{List, ℕ, MatchResult, filter, not, is_some};
 ghost use Rattle.esc_zone.specs.declared.signer.Given.{Given};
 ghost use Rattle.std.specs.List.{list_all};
 ghost use Rattle.std.specs.Char.{is_ascii_digit};
@@ -11,6 +11,7 @@ ghost use Rattle.esc_zone.specs.Signers.{IsNumber, IsDigest, IsGivenDs, IsKeyDs,
 ghost use Rattle.esc_zone.specs.Signers.{Reads, ReadsOne, IsKeyText, IsRowKeyDs, IsRowGivenDs};
 ghost use Rattle.esc_zone.specs.Signers.{IsSigner, no_memory, wire_name, is_blank, is_zone_key};
 ghost use Rattle.esc_zone.specs.Signers.{has_ds_text, has_key_text};
+ghost use Rattle.esc_zone.specs.Told.{says_signer};
 ghost use Rattle.esc_zone.specs.Signers.{key_data, key_tag, tag_sum};
 
 use crate::field::{cell, has_text};
@@ -287,7 +288,9 @@ pub(crate) fn ds_of_row<'a>(
     name: &Name,
     row: &'a Row,
 ) -> Result<Option<Given>, DsFault<'a>>
-    ensures { ReadsOne (λ row (given : Given). IsSigner name.now row given.ds) row.now result }
+    ensures given { ReadsOne (λ row (given : Given). IsSigner name.now row given.ds) row.now
+        result }
+    ensures some { IfOk result (λ given. is_some given ≡ says_signer row.now) }
 {
     if row.table() != "secDNS" {
         return Ok(None);

@@ -1,11 +1,14 @@
 //! The DS of domains.
 
-ghost use Rattle.std.specs.Prelude.{◌≡◌, ◌≢◌, List, OnOk, IfOk, map};
+ghost use Rattle.std.specs.Prelude.{◌≡◌, ◌≢◌, ◌+◌, ◌<◌, ◌≤◌, List, OnOk, IfOk, map, length};
+ghost use Rattle.std.specs.Prelude.{[], count_by, if◌then◌else◌};
+ghost use Rattle.std.specs.List.{cons_option};
 ghost use Rattle.esc_zone.specs.declared.signer.Ds.{Ds};
 ghost use Rattle.esc_zone.specs.Drafts.{zone_notes};
 ghost use Rattle.esc_zone.specs.Lists.{GivesOne, GivesEach, IsOrderedOnce};
 ghost use Rattle.esc_zone.specs.Signers.{IsSigner, AreSigners, ds_value, ds_cmp, no_memory};
 ghost use Rattle.esc_zone.specs.Delegations.{with_records, signer_records};
+ghost use Rattle.esc_zone.specs.Told.{told_lines, says_signer, TellsOfSigners};
 
 use crate::counts::add;
 use crate::draft::Draft;
@@ -28,6 +31,8 @@ impl Draft {
         ensures records { OnOk result ((signers : List Ds) × AreSigners name.now rows.now signers
             × (sheet.new.records ≡ with_records sheet.old.records
             (signer_records sheet.old.records.ttl name.now signers))) }
+        ensures told { OnOk result (TellsOfSigners name.now rows.now (told_lines sheet.old)
+            (told_lines sheet.new)) }
     {
         let given = self.signers_of(name, rows, sheet)?;
         let signers = in_order_once(given);
@@ -39,6 +44,8 @@ impl Draft {
         ensures noted { OnOk result (zone_notes self.new ≡ zone_notes self.old) }
         ensures records { sheet.new.records ≡ sheet.old.records }
         ensures given { IfOk result (λ given. GivesEach (IsSigner name.now) rows.now given.items) }
+        ensures told { IfOk result (λ given. count_by says_signer rows.now + told_lines sheet.old
+            ≤ length given.items + told_lines sheet.new) }
     {
         let mut given = Vec::new(self.alloc);
         for row in rows {
@@ -53,6 +60,7 @@ impl Draft {
         ensures noted { OnOk result (zone_notes self.new ≡ zone_notes self.old) }
         ensures records { OnOk result (sheet.new.records ≡ with_records sheet.old.records
             (signer_records sheet.old.records.ttl name.now signers.now)) }
+        ensures told { OnOk result (told_lines sheet.new ≡ told_lines sheet.old) }
     {
         for ds in signers {
             sheet.records.add_ds(name, ds)?;
@@ -67,6 +75,8 @@ impl Draft {
         ensures noted { OnOk result (zone_notes self.new ≡ zone_notes self.old) }
         ensures records { sheet.new.records ≡ sheet.old.records }
         ensures given { IfOk result (λ ds. GivesOne (IsSigner name.now) row.now ds) }
+        ensures told { IfOk result (λ ds. (if says_signer row.now then 1 else 0)
+            + told_lines sheet.old ≤ length (cons_option ds []) + told_lines sheet.new) }
     {
         match ds_of_row(self.alloc, name, row) {
             Ok(Some(given)) => {
@@ -86,6 +96,7 @@ impl Draft {
 fn leave_out(sheet: &mut Sheet, name: &Name, fault: DsFault<'_>) -> Result<(), Halt>
     ensures same { sheet.new.records ≡ sheet.old.records }
     ensures fault { OnOk result (fault.entry ≢ no_memory) }
+    ensures told { OnOk result (told_lines sheet.old < told_lines sheet.new) }
 {
     match fault {
         DsFault::NoMemory => Err(Halt::NoMemory),

@@ -1,6 +1,7 @@
 //! What is told of the words of statuses.
 
-ghost use Rattle.std.specs.Prelude.{◌≡◌};
+ghost use Rattle.std.specs.Prelude.{◌≡◌, ◌≤◌, OnOk};
+ghost use Rattle.esc_zone.specs.Told.{told_lines};
 
 use crate::field::{cell, is_same_word};
 use crate::sheet::Sheet;
@@ -52,7 +53,8 @@ pub(crate) fn tell_statuses(
     name: &str,
     rows: &[Row],
 ) -> Result<(), NoMemory>
-    ensures { sheet.new.records ≡ sheet.old.records }
+    ensures same { sheet.new.records ≡ sheet.old.records }
+    ensures told { OnOk result (told_lines sheet.old ≤ told_lines sheet.new) }
 {
     for row in rows {
         if row.table() == "domainStatuses" {
@@ -85,7 +87,8 @@ fn tell_word(
     given: (&str, &str),
     words: &[&str],
 ) -> Result<(), NoMemory>
-    ensures { sheet.new.records ≡ sheet.old.records }
+    ensures same { sheet.new.records ≡ sheet.old.records }
+    ensures told { OnOk result (told_lines sheet.old ≤ told_lines sheet.new) }
 {
     let (field, text) = given;
     if text.is_empty() || words.iter().any(|word| *word == text) {
@@ -102,7 +105,8 @@ fn tell_word(
 }
 
 fn tell_recovery(alloc: Global, sheet: &mut Sheet, name: &str, rows: &[Row]) -> Result<(), NoMemory>
-    ensures { sheet.new.records ≡ sheet.old.records }
+    ensures same { sheet.new.records ≡ sheet.old.records }
+    ensures told { OnOk result (told_lines sheet.old ≤ told_lines sheet.new) }
 {
     let mut told = String::new(alloc);
     for word in RECOVERY {

@@ -1,9 +1,11 @@
-use Rattle.std.proofs.Common.{List, ℕ, true, false, length, ◌==◌, rules, sym, subst, ◌∙◌, ap, ◌≡◌}
+use Rattle.std.proofs.Common.{arith, List, ℕ, true, false, length, ◌==◌, rules, sym, subst, ◌∙◌, ap, ◌≡◌}
 use Rattle.esc_zone.specs.Records.{RecordsValue}
 use Rattle.esc_zone.specs.Drafts.{zone_notes}
 use Rattle.esc_zone.specs.Delegations.{has_place, with_records, server_records, texts_of, AddsDelegation}
+use Rattle.esc_zone.specs.Told.{told_lines, TellsOfDelegation}
 use Rattle.esc_zone.proofs.Added.{made_if}
 use Rattle.esc_zone.proofs.Delegated.{no_server, some_servers}
+use Rattle.esc_zone.proofs.Telling.{none_served, some_served}
 use Rattle.esc_zone.proofs.draft.Draft.delegate_domain.Goals as goal
 
 pub returns-then-is_empty-clause-records : goal.returns-then-is_empty-clause-records
@@ -17,7 +19,7 @@ returns-then-is_empty-clause-records c =
     let made = made_if (has_place z c.args.text.now) c.args.text.now name
     (sym c.in-Some.is ∙ c.in_ok-name.ensures.name) in
     let placed = subst (λ (n : List ℕ). has_place z n ≡ true) made.1 made.0 in
-    let same = c.in_ok-leave_out.ensures ∙ c.in_ok-servers.ensures.same ∙ c.in_ok-name.ensures.same in
+    let same = c.in_ok-leave_out.ensures.same ∙ c.in_ok-servers.ensures.same ∙ c.in_ok-name.ensures.same in
     subst (λ (n : List ℕ). AddsDelegation z n rows texts before c.leave_out.new.self.records) (sym made.1)
     (no_server z name rows texts c.in_ok-servers.servers.items before c.leave_out.new.self.records placed
     c.in_ok-servers.ensures.kept left same)
@@ -43,3 +45,40 @@ returns-clause-records c =
     (some_servers z name rows texts hosts start c.write_servers.new.sheet.records end placed
     c.in_ok-servers.ensures.kept left served
     c.in_ok-write_signers.ensures.records))
+
+pub returns-then-is_empty-clause-told : goal.returns-then-is_empty-clause-told
+returns-then-is_empty-clause-told c =
+    let z = zone_notes c.args.self.now in
+    let rows = c.args.rows.now in
+    let asked : told_lines c.args.sheet.now ≡ told_lines c.name_for.new.sheet =
+    rw c.in-Some.is at c.in_ok-name.ensures.told in
+    let servers = c.args.servers.now in
+    let start = told_lines c.args.sheet.now in
+    let end = told_lines c.leave_out.new.self in
+    let left : (length c.in_ok-servers.servers.items == 0) ≡ true = search rules in
+    let made = made_if (has_place z c.args.text.now) c.args.text.now c.in-Some.name
+    (sym c.in-Some.is ∙ c.in_ok-name.ensures.name) in
+    let placed = subst (λ (n : List ℕ). has_place z n ≡ true) made.1 made.0 in
+    subst (λ (n : List ℕ). TellsOfDelegation z n rows (texts_of servers) start end) (sym made.1)
+    (none_served z c.in-Some.name rows servers c.in_ok-servers.servers.items start _ end placed
+    c.in_ok-servers.ensures.kept left (omega (arith, asked, c.in_ok-servers.ensures.told))
+    c.in_ok-leave_out.ensures.told)
+
+pub returns-clause-told : goal.returns-clause-told
+returns-clause-told c =
+    let z = zone_notes c.args.self.now in
+    let rows = c.args.rows.now in
+    let asked : told_lines c.args.sheet.now ≡ told_lines c.name_for.new.sheet =
+    rw c.in-Some.is at c.in_ok-name.ensures.told in
+    let servers = c.args.servers.now in
+    let start = told_lines c.args.sheet.now in
+    let end = told_lines c.write_signers.new.sheet in
+    let left : (length c.in_ok-servers.servers.items == 0) ≡ false = search rules in
+    let made = made_if (has_place z c.args.text.now) c.args.text.now c.in-Some.name
+    (sym c.in-Some.is ∙ c.in_ok-name.ensures.name) in
+    let placed = subst (λ (n : List ℕ). has_place z n ≡ true) made.1 made.0 in
+    subst (λ (n : List ℕ). TellsOfDelegation z n rows (texts_of servers) start end) (sym made.1)
+    (some_served z c.in-Some.name rows servers c.in_ok-servers.servers.items start
+    (told_lines c.write_servers.new.sheet) end placed c.in_ok-servers.ensures.kept left
+    (omega (arith, asked, c.in_ok-servers.ensures.told, c.in_ok-write_servers.ensures.told))
+    c.in_ok-write_signers.ensures.told)

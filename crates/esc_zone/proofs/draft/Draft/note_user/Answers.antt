@@ -10,8 +10,8 @@ use Rattle.esc_zone.specs.Drafts.{ZoneNotes, zone_notes}
 use Rattle.esc_zone.proofs.NotedSame.{lookup_same}
 use Rattle.esc_zone.proofs.draft.Draft.note_user.Goals as goal
 
-pub returns-in-Some : goal.returns-in-Some
-returns-in-Some c =
+pub returns-in-Some-clause-noted : goal.returns-in-Some-clause-noted
+returns-in-Some-clause-noted c =
     let z : ZoneNotes = zone_notes c.args.self.now in
     let w = c.set_user.new.server in
     let f = λ (server : Server). said_texts server.rows.items in

@@ -2,7 +2,9 @@ use Rattle.std.proofs.Common.{◌∙◌, ◌+◌, List, sym, subst, take}
 use Rattle.esc_zone.specs.declared.signer.Ds.{Ds}
 use Rattle.esc_zone.specs.Lists.{GivesEach}
 use Rattle.esc_zone.specs.Signers.{IsSigner}
+use Rattle.esc_zone.specs.Told.{told_lines, says_signer}
 use Rattle.esc_zone.proofs.Listed.{gives_step}
+use Rattle.esc_zone.proofs.Telling.{counted_step}
 use Rattle.esc_zone.proofs.draft.Draft.signers_of.Goals as goal
 
 pub loop-row-preserved : goal.loop-row-preserved
@@ -16,4 +18,8 @@ loop-row-preserved c =
           (sym c.in_ok-push_some.ensures)
           (gives_step R rows c.loop-row.row-index c.row-item.result c.loop-row.given.items c.in_ok-ds.ds
           c.loop-row-test.true c.row-item.is c.in_ok-ds.ensures.given c.loop-row.invariant.given);
+      told = counted_step says_signer rows c.loop-row.row-index c.row-item.result
+          (told_lines c.args.sheet.now) (told_lines c.loop-row.sheet) (told_lines c.signer_of.new.sheet)
+          c.loop-row.given.items c.in_ok-ds.ds c.push_some.new.items.items c.loop-row-test.true
+          c.row-item.is c.in_ok-push_some.ensures c.in_ok-ds.ensures.told c.loop-row.invariant.told;
     }

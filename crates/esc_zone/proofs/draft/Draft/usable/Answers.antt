@@ -2,7 +2,9 @@ use Rattle.std.proofs.Common.{◌∙◌, List, ℕ, string_bytes, sym, subst, �
 use Rattle.esc_zone.specs.Lists.{GivesEach, GivesOne, Itself}
 use Rattle.esc_zone.specs.Drafts.{zone_notes}
 use Rattle.esc_zone.specs.Delegations.{IsUsable, texts_of}
+use Rattle.esc_zone.specs.Told.{told_lines}
 use Rattle.esc_zone.proofs.Listed.{gives_step_of}
+use Rattle.esc_zone.proofs.Telling.{told_step}
 use Rattle.esc_zone.proofs.draft.Draft.usable.Goals as goal
 
 pub loop-text-preserved : goal.loop-text-preserved
@@ -18,4 +20,8 @@ loop-text-preserved c =
           (gives_step_of string_bytes R c.args.servers.now c.loop-text.text-index c.text-item.result
           c.loop-text.written.items c.in_ok-host.host c.loop-text-test.true c.text-item.is one
           c.loop-text.invariant.kept);
+      told = told_step c.loop-text.text-index (told_lines c.args.sheet.now)
+          (told_lines c.loop-text.sheet) (told_lines c.used_server.new.sheet) c.loop-text.written.items
+          c.in_ok-host.host c.push_some.new.items.items c.in_ok-push_some.ensures
+          c.in_ok-host.ensures.told c.loop-text.invariant.told;
     }

@@ -3,4 +3,4 @@ use Rattle.esc_zone.specs.Records.Data.{address}
 use Rattle.esc_zone.proofs.records.Records.add_address.Goals as goal
 
 pub add-requires : goal.add-requires
-add-requires c = (address c.args.at.now, (tt, search rules))
+add-requires c = (address c.args.at.now, search rules, search rules)

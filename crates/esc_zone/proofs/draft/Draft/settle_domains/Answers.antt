@@ -1,0 +1,18 @@
+use Rattle.std.proofs.Common.{◌≡◌, ◌∙◌, ap, List, ℕ, true, Option, Some}
+use Rattle.std.specs.Option.{option_map}
+use Rattle.std.specs.BTreeMap.{get}
+use Rattle.esc_zone.specs.Names.{name_cmp}
+use Rattle.esc_zone.specs.Noted.{place_notes, is_among_names}
+use Rattle.esc_zone.proofs.Settled.{among_seen}
+use Rattle.esc_zone.proofs.draft.Draft.settle_domains.Goals as goal
+
+pub returns : goal.returns
+returns c =
+    let m = c.args.self.now.places in
+    let all = c.settle_places.ensures in
+    let names = c.deref.ensures.value ∙ c.in_ok-names.ensures in (
+      all.0,
+      all.1,
+      λ q p e. all.2 q p (ap (λ (l : List (List ℕ)). is_among_names l q) names
+          ∙ among_seen place_notes m q p e) e,
+    )
