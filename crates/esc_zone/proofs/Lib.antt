@@ -6,6 +6,7 @@ mod Delegated
 mod Faults
 mod Gluing
 mod InOrder
+mod Keeping
 mod LineReading
 mod Lines
 mod Listed

@@ -23,10 +23,12 @@ use Rattle.esc_zone.specs.Noted.{is_in_zone, is_let_in_at, is_let_in, is_server_
 use Rattle.esc_zone.specs.Noted.{is_above_used, is_above_here, is_above_use, is_above_server, is_zone_server}
 use Rattle.esc_zone.specs.Noted.{is_domain_named, domain_here, with_settled, texts_here, AreTaken, SaysOf}
 use Rattle.esc_zone.specs.Noted.{IsReachable, IsServedPlace, noted_texts, cut_by, with_cuts, SettlesNames}
-use Rattle.esc_zone.specs.Noted.{SettlesAll, KeepsDomains, SettlesOne, IsDelegatedHere}
+use Rattle.esc_zone.specs.Noted.{SettlesAll, SettlesOne, IsDelegatedHere}
+use Rattle.esc_zone.specs.Noted.{IsCutDomain, IsMirroredPlace, SettlesMirror, SettlesMirrors, SettlesMirrored}
+use Rattle.esc_zone.specs.Noted.{original_here}
 use Rattle.esc_zone.proofs.Noting.{one_name, name_self, name_flip, take_one, is_some_map}
 use Rattle.esc_zone.proofs.Taken.{or_cases, or_left, and_left, and_right, and_both, any_implies, any_constant}
-use Rattle.esc_zone.proofs.Taken.{settled_texts, said_seen}
+use Rattle.esc_zone.proofs.Taken.{settled_texts, said_seen, mapped, there_is}
 
 -- a name among the names up to the next place is among those before it, or the next one
 pub among_next : (names : List (List ℕ)) (i : ℕ) (name q : List ℕ) → i < length names → name ≡ get_or names i name
@@ -71,6 +73,10 @@ one_cut false c (Some p) = refl
 cut_none : (o : Option PlaceNotes) → o ≡ option_map (cut_by None) o
 cut_none None = refl
 cut_none (Some p) = refl
+
+or_more : (a b : Bool) → b ≡ true → (a || b) ≡ true
+or_more true b e = refl
+or_more false b e = e
 
 -- nothing is noted
 pub cuts_none : (d : DraftNotes) → d ≡ with_cuts (λ q. None) d
@@ -148,48 +154,100 @@ settles_step names i name a b c lt is so one =
           )),
     )
 
--- names that are no domains
-pub keeps_none : (d : DraftNotes) → KeepsDomains d d
-keeps_none d = (λ q. None, cuts_none d, λ q p e t. refl)
-
 cut_domain : (o : Option Bool) (p : PlaceNotes) → (cut_by o p).is_domain ≡ p.is_domain
 cut_domain None p = refl
 cut_domain (Some b) p = refl
 
--- one after the other
-pub keeps_more : (a b c : DraftNotes) → KeepsDomains a b → KeepsDomains b c → KeepsDomains a c
-keeps_more a b c m n =
-    let next = subst (λ (x : DraftNotes). KeepsDomains x c) m.1 n in (
-      λ q. option_or (next.0 q) (m.0 q),
-      next.1 ∙ cuts_both m.0 next.0 a,
-      λ q p e t.
-          ap (λ (o : Option Bool). option_or o (m.0 q))
-          (next.2 q (cut_by (m.0 q) p) (ap (option_map (cut_by (m.0 q))) e) (cut_domain (m.0 q) p ∙ t))
-          ∙ m.2 q p e t,
+cut_mirrors : (o : Option Bool) (p : PlaceNotes) → (cut_by o p).mirrors ≡ p.mirrors
+cut_mirrors None p = refl
+cut_mirrors (Some b) p = refl
+
+cut_stays : (b : Bool) (p : PlaceNotes) → p.is_cut ≡ true → (cut_by (cond b (Some true) None) p).is_cut ≡ true
+cut_stays true p e = refl
+cut_stays false p e = e
+
+-- which of these are delegated
+abbrev pub set_to : (List ℕ → Bool) → List ℕ → Option Bool
+set_to given q = cond (given q) (Some true) None
+
+-- what is no domain is noted to be delegated, and each delegated domain stays so
+pub same_cuts : (a : DraftNotes) (given : List ℕ → Bool)
+    → ((q : List ℕ) (p : PlaceNotes) → a.places q ≡ Some p → given q ≡ true → p.is_domain ≡ false)
+    → (name : List ℕ) → IsCutDomain (with_cuts (set_to given) a) name ↔ IsCutDomain a name
+same_cuts a given known name = (
+  λ x.
+      let r = mapped (cut_by (set_to given name)) (a.places name) x.0 x.1 in
+      let dom : r.0.is_domain ≡ true = sym (cut_domain (set_to given name) r.0)
+      ∙ ap (λ (p : PlaceNotes). p.is_domain) r.2 ∙ x.2 in
+      let same : given name ≡ false = by_test (given name) (given name ≡ false)
+      (λ t. let clash : true ≡ false = sym dom ∙ known name r.0 r.1 t in absurd (cc clash)) (λ f. f) in (
+        r.0,
+        r.1,
+        dom,
+        sym (ap (λ (b : Bool). (cut_by (cond b (Some true) None) r.0).is_cut) same)
+            ∙ ap (λ (p : PlaceNotes). p.is_cut) r.2 ∙ x.3,
+      ),
+  λ y. (
+    cut_by (set_to given name) y.0,
+    ap (option_map (cut_by (set_to given name))) y.1,
+    cut_domain (set_to given name) y.0 ∙ y.2,
+    cut_stays (given name) y.0 y.3,
+  ),
+)
+
+same_mirrored : (a : DraftNotes) (given : List ℕ → Bool)
+    → ((q : List ℕ) (p : PlaceNotes) → a.places q ≡ Some p → given q ≡ true → p.is_domain ≡ false)
+    → (o : Option Bool) (p : PlaceNotes)
+    → IsMirroredPlace (with_cuts (set_to given) a) (cut_by o p) ↔ IsMirroredPlace a p
+same_mirrored a given known o p = (
+  λ x. (sym (cut_domain o p) ∙ x.0, x.1, sym (cut_mirrors o p) ∙ x.2, (same_cuts a given known x.1).0 x.3),
+  λ y. (cut_domain o p ∙ y.0, y.1, cut_mirrors o p ∙ y.2, (same_cuts a given known y.1).1 y.3),
+)
+
+-- before the first name no mirrored one is settled
+pub mirrors_none : (d : DraftNotes) → SettlesMirrors [] d d
+mirrors_none d = (λ q. false, cuts_none d, λ q p e. (λ t. absurd (cc t), λ m x. absurd (cc m)))
+
+set_both : (x y : Bool) → option_or (cond x (Some true) None) (cond y (Some true) None) ≡ cond (x || y) (Some true) None
+set_both true y = refl
+set_both false y = refl
+
+-- one more mirrored name is settled
+pub mirrors_step : (names : List (List ℕ)) (i : ℕ) (name : List ℕ) (a b c : DraftNotes) → i < length names
+    → name ≡ get_or names i name → SettlesMirrors (take i names) a b → SettlesMirror name b c
+    → SettlesMirrors (take (i + 1) names) a c
+mirrors_step names i name a b c lt is so one =
+    let here = subst (λ (x : DraftNotes). SettlesMirror name x c) so.1 one in
+    let mine = λ (q : List ℕ). here.0 && name_eq name q in
+    let known : (q : List ℕ) (p : PlaceNotes) → a.places q ≡ Some p → so.0 q ≡ true → p.is_domain ≡ false =
+    λ q p e t. ((so.2 q p e).0 t).0 in
+    let same = same_mirrored a so.0 known in (
+      λ q. mine q || so.0 q,
+      here.1 ∙ cuts_both (set_to so.0) (set_to mine) a
+          ∙ ap (λ (f : List ℕ → Option Bool). with_cuts f a) (fun_ext (λ q. set_both (mine q) (so.0 q))),
+      λ q p e.
+          let o = set_to so.0 name in
+          let at : name ≡ q → (with_cuts (set_to so.0) a).places name ≡ Some (cut_by o p) =
+          λ n. ap (λ (x : List ℕ). option_map (cut_by o) (a.places x)) n ∙ ap (option_map (cut_by o)) e in (
+            λ t. or_cases (mine q) (so.0 q) (IsMirroredPlace a p) t
+                (λ m. (same o p).0 ((here.2 (cut_by o p)
+                (at (one_name name q (and_right here.0 (name_eq name q) m)))).0
+                (and_left here.0 (name_eq name q) m)))
+                (λ m. (so.2 q p e).0 m),
+            λ m x. elim (among_next names i name q lt is m) [
+              | inl before ↦ or_more (mine q) (so.0 q) ((so.2 q p e).1 before x)
+              | inr n ↦ or_left (mine q) (so.0 q) (and_both here.0 (name_eq name q)
+                  ((here.2 (cut_by o p) (at n)).1 ((same o p).1 x))
+                  (ap (λ (y : List ℕ). name_eq name y) (sym n) ∙ name_self name))
+            ],
+          ),
     )
-
-none_by : (b : Bool) (x : Bool) (P : Type 0) → (b ≡ true → ⊥) → cond b (Some x) None ≡ None
-none_by true x P f = absurd (f refl)
-none_by false x P f = refl
-
--- nothing is noted of a name that is a domain
-pub none_given : (d : DraftNotes) (name q : List ℕ) (p : PlaceNotes) (x : Bool) → d.places q ≡ Some p
-    → p.is_domain ≡ true → ((r : PlaceNotes) → d.places name ≡ Some r → r.is_domain ≡ false)
-    → cond (name_eq name q) (Some x) None ≡ None
-none_given d name q p x e t others =
-    none_by (name_eq name q) x (p.is_domain ≡ true)
-    (λ h. let f = others p (ap d.places (one_name name q h) ∙ e) in
-    let clash : true ≡ false = sym t ∙ f in cc clash)
 
 -- whether a name is delegated, as it is noted
 pub cut_seen : (o : Option Place) → option_map_or (λ (p : Place). p.is_cut) o false
     ≡ option_map_or (λ (p : PlaceNotes). p.is_cut) (option_map place_notes o) false
 cut_seen None = refl
 cut_seen (Some x) = refl
-
-or_more : (a b : Bool) → b ≡ true → (a || b) ≡ true
-or_more true b e = refl
-or_more false b e = e
 
 last_in : (p f : Entry → Bool) (o : Option Entry) (es : List Entry) (e : Entry)
     → last_or o (filter p es) ≡ Some e
@@ -211,41 +269,9 @@ last_in p f o (x ∷ es) e h =
       ]
     ]) refl h
 
-among_taken : (p : List ℕ → Bool) (xs : List (List ℕ)) (q : List ℕ)
-    → is_among_names (take (prefix_len p xs) xs) q ≡ true → p q ≡ true
-among_taken p [] q m = absurd (cc m)
-among_taken p (x ∷ xs) q m =
-    (elim (p x) as (λ v. p x ≡ v → is_among_names (take (cond v (1 + prefix_len p xs) 0) (x ∷ xs)) q ≡ true
-    → p q ≡ true) [
-      | true ↦ λ is k. or_cases (name_eq x q) (is_among_names (take (prefix_len p xs) xs) q) (p q ≡ true)
-          (ap (λ (l : List (List ℕ)). is_among_names l q) (sym (take_one (prefix_len p xs) x xs)) ∙ k)
-          (λ t. subst (λ (y : List ℕ). p y ≡ true) (one_name x q t) is) (among_taken p xs q)
-      | false ↦ λ is k. absurd (cc k)
-    ]) refl m
-
-among_zone : (s : Settings) (o : Option (List ℕ)) (q : List ℕ) → is_among_names (zone_names s o) q ≡ true
-    → is_in_zone s q ≡ true
-among_zone s None q m = absurd (cc m)
-among_zone s (Some name) q m = among_taken (is_in_zone s) (name ∷ names_above name) q m
-
--- a name that matters is in the zone
-pub above_in_zone : (s : Settings) (uses : List Entry) (q : List ℕ) → is_above_here s uses q ≡ true
-    → is_in_zone s q ≡ true
-above_in_zone s uses q u =
-    let b = is_in_zone s q in
-    any_constant b uses (any_implies (λ e. is_above_used s e q) (λ e. b)
-    (λ e h. any_constant b (server_texts e.1.children)
-    (any_implies (λ t. is_above_use s (normal e.0.text) t q) (λ t. b)
-    (λ t k. or_cases (is_among_names (zone_names s (name_above (normal e.0.text))) q) (is_above_server s t q) (b ≡ true)
-    k
-    (λ m. among_zone s (name_above (normal e.0.text)) q m)
-    (λ m. among_zone s (Some t) q (and_right (is_zone_server s t) (is_among_names (zone_names s (Some t)) q) m)))
-    (server_texts e.1.children) (and_right (is_let_in s e) _ h)))
-    uses u)
-
 -- the servers in the zone of a domain that no status keeps out are in use
 pub served_used : (s : Settings) (domains : List Entry) (q : List ℕ) (e : Entry) (host : List ℕ)
-    → is_above_here s domains q ≡ true → domain_here domains q ≡ Some e → is_none (hold_of e.1.children) ≡ true
+    → is_in_zone s q ≡ true → domain_here domains q ≡ Some e → is_none (hold_of e.1.children) ≡ true
     → is_server_among s (server_texts e.1.children) host ≡ true → is_used_here s domains host ≡ true
 served_used s domains q e host u here free m =
     elim (last_in (is_domain_named q) (λ x. is_used_by s x host) None domains e here) [
@@ -254,7 +280,7 @@ served_used s domains q e host u here free m =
           (let t = normal e.0.text in
           let named = and_left (is_name_with false t) (name_eq t q) found.0 in
           let same = one_name t q (and_right (is_name_with false t) (name_eq t q) found.0) in
-          let zone = subst (λ (n : List ℕ). is_in_zone s n ≡ true) (sym same) (above_in_zone s domains q u) in
+          let zone = subst (λ (n : List ℕ). is_in_zone s n ≡ true) (sym same) u in
           found.1 (and_both (is_let_in s e) (is_server_among s (server_texts e.1.children) host)
           (and_both (is_name_with false t) (is_let_in_at s t e.1.children) named
           (and_both (is_in_zone s t) (is_none (hold_of e.1.children)) zone free)) m))
@@ -268,18 +294,18 @@ reach_moved given f g host e r = elim r [
 ]
 
 -- a domain that is let in and served is delegated
-pub served_here : (hosts domains : List Entry) (d : DraftNotes) → AreTaken hosts domains domains d
-    → (q : List ℕ) (e : Entry) (p : PlaceNotes) → is_above_here d.settings domains q ≡ true
+pub served_here : (hosts domains mirrors : List Entry) (d : DraftNotes) → AreTaken hosts domains mirrors domains d
+    → (q : List ℕ) (e : Entry) (p : PlaceNotes) → is_in_zone d.settings q ≡ true
     → domain_here domains q ≡ Some e → p.is_domain ≡ true → SaysOf d.settings e p
     → IsServedPlace d.is_given (noted_texts (with_settled d)) p
     ↔ IsDelegatedHere d.settings d.is_given hosts domains e
-served_here hosts domains d t q e p u here dom says =
+served_here hosts domains mirrors d t q e p u here dom says =
     let s = d.settings in
     let noted = noted_texts (with_settled d) in
     let told = texts_here s hosts domains in
     let same : (host : List ℕ) → is_none (hold_of e.1.children) ≡ true
     → is_server_among s (server_texts e.1.children) host ≡ true → noted host ≡ told host =
-    λ host free m. settled_texts hosts domains d t host (served_used s domains q e host u here free m) in (
+    λ host free m. settled_texts hosts domains mirrors d t host (served_used s domains q e host u here free m) in (
       λ x.
           let free = sym says.0 ∙ x.1 in (
             free,
@@ -303,28 +329,83 @@ served_here hosts domains d t q e p u here dom says =
       ),
     )
 
+seen_after : (b c : DraftNotes) (f g : List ℕ → Option Bool) (a : DraftNotes) (q : List ℕ) (p : PlaceNotes)
+    → a.places q ≡ Some p → b ≡ with_cuts f a → c ≡ with_cuts g b
+    → c.places q ≡ Some (cut_by (g q) (cut_by (f q) p))
+seen_after b c f g a q p e is at =
+    ap (λ (n : DraftNotes). n.places q) at
+    ∙ ap (λ (n : DraftNotes). option_map (cut_by (g q)) (n.places q)) is
+    ∙ ap (λ (o : Option PlaceNotes). option_map (cut_by (g q)) (option_map (cut_by (f q)) o)) e
+
+last_cut : (b x : Bool) (o : Option Bool) (p : PlaceNotes) → o ≡ Some x
+    → (cut_by (cond b (Some true) None) (cut_by o p)).is_cut ≡ (b || x)
+last_cut true x o p e = refl
+last_cut false x o p e = ap (λ (y : Option Bool). (cut_by y p).is_cut) e
+
+is_cut_after : (b c : DraftNotes) (f : List ℕ → Option Bool) (given : List ℕ → Bool) (a : DraftNotes) (q : List ℕ)
+    → (p : PlaceNotes) (x : Bool) → a.places q ≡ Some p → f q ≡ Some x → b ≡ with_cuts f a
+    → c ≡ with_cuts (set_to given) b
+    → option_map_or (λ (y : PlaceNotes). y.is_cut) (c.places q) false ≡ (given q || x)
+is_cut_after b c f given a q p x e k is at =
+    ap (λ (o : Option PlaceNotes). option_map_or (λ (y : PlaceNotes). y.is_cut) o false)
+    (seen_after b c f (set_to given) a q p e is at)
+    ∙ last_cut (given q) x (f q) p k
+
 -- which domains are delegated, once all is settled
-pub settled_cut : (hosts domains : List Entry) (d b c : DraftNotes) → AreTaken hosts domains domains d
-    → SettlesAll (with_settled d) b → KeepsDomains b c → (q : List ℕ) (e : Entry)
-    → is_above_here d.settings domains q ≡ true → domain_here domains q ≡ Some e
+pub settled_cut : (hosts domains mirrors : List Entry) (d b c : DraftNotes)
+    → AreTaken hosts domains mirrors domains d
+    → SettlesAll (with_settled d) b → SettlesMirrored b c → (q : List ℕ) (e : Entry)
+    → is_some (d.places q) ≡ true → is_in_zone d.settings q ≡ true → domain_here domains q ≡ Some e
     → IsTrue (option_map_or (λ (p : PlaceNotes). p.is_cut) (c.places q) false)
     ↔ IsDelegatedHere d.settings d.is_given hosts domains e
-settled_cut hosts domains d b c t all keep q e u here =
-    let w = t.places q u in
+settled_cut hosts domains mirrors d b c t all last q e there u here =
+    let w = there_is (d.places q) there in
     let p = w.0 in
-    let dom : p.is_domain ≡ true = w.2 ∙ ap is_some here in
-    let says = subst (λ (o : Option Entry). IfSome o (λ x. SaysOf d.settings x p)) here w.4 in
+    let h = t.places q p w.1 in
+    let dom : p.is_domain ≡ true = h.domain ∙ ap is_some here in
+    let says = subst (λ (o : Option Entry). IfSome o (λ x. SaysOf d.settings x p)) here h.says in
     let one = all.2 q p w.1 in
-    let cut = cut_by (Some one.0) p in
-    let before : b.places q ≡ Some cut = ap (λ (n : DraftNotes). n.places q) all.1
-    ∙ ap (option_map (cut_by (all.0 q))) w.1 ∙ ap (λ (o : Option Bool). Some (cut_by o p)) one.1 in
-    let after : c.places q ≡ Some cut = ap (λ (n : DraftNotes). n.places q) keep.1
-    ∙ ap (option_map (cut_by (keep.0 q))) before
-    ∙ ap (λ (o : Option Bool). Some (cut_by o cut)) (keep.2 q cut before dom) in
-    let is = ap (λ (o : Option PlaceNotes). option_map_or (λ (x : PlaceNotes). x.is_cut) o false) after in
-    let served = served_here hosts domains d t q e p u here dom says in (
-      λ x. served.0 (one.2.0 (sym is ∙ x)),
-      λ y. is ∙ one.2.1 (served.1 y),
+    let middle : b.places q ≡ Some (cut_by (all.0 q) p) = ap (λ (n : DraftNotes). n.places q) all.1
+    ∙ ap (option_map (cut_by (all.0 q))) w.1 in
+    let is = is_cut_after b c all.0 last.0 (with_settled d) q p one.0 w.1 one.1 all.1 last.1 in
+    let served = served_here hosts domains mirrors d t q e p u here dom says in (
+      λ x. or_cases (last.0 q) one.0 (IsDelegatedHere d.settings d.is_given hosts domains e) (sym is ∙ x)
+          (λ m. let clash : true ≡ false = sym (cut_domain (all.0 q) p ∙ dom)
+          ∙ ((last.2 q (cut_by (all.0 q) p) middle).0 m).0 in absurd (cc clash))
+          (λ m. served.0 (one.2.0 m)),
+      λ y. is ∙ or_more (last.0 q) one.0 (one.2.1 (served.1 y)),
+    )
+
+-- which mirrored names are
+pub mirrored_cut : (hosts domains mirrors : List Entry) (d b c : DraftNotes)
+    → AreTaken hosts domains mirrors domains d
+    → SettlesAll (with_settled d) b → SettlesMirrored b c → (q : List ℕ)
+    → is_some (d.places q) ≡ true → domain_here domains q ≡ None
+    → IsTrue (option_map_or (λ (p : PlaceNotes). p.is_cut) (c.places q) false)
+    ↔ ((original : List ℕ) × (original_here mirrors q ≡ Some original) × IsCutDomain c original)
+mirrored_cut hosts domains mirrors d b c t all last q there here =
+    let w = there_is (d.places q) there in
+    let p = w.0 in
+    let h = t.places q p w.1 in
+    let dom : p.is_domain ≡ false = h.domain ∙ ap is_some here in
+    let one = all.2 q p w.1 in
+    let cut = cut_by (all.0 q) p in
+    let middle : b.places q ≡ Some cut = ap (λ (n : DraftNotes). n.places q) all.1
+    ∙ ap (option_map (cut_by (all.0 q))) w.1 in
+    let is = is_cut_after b c all.0 last.0 (with_settled d) q p one.0 w.1 one.1 all.1 last.1 in
+    let known : (r : List ℕ) (x : PlaceNotes) → b.places r ≡ Some x → last.0 r ≡ true → x.is_domain ≡ false =
+    λ r x k m. ((last.2 r x k).0 m).0 in
+    let Goal = (original : List ℕ) × (original_here mirrors q ≡ Some original) × IsCutDomain c original in
+    let moved : (name : List ℕ) → IsCutDomain c name ↔ IsCutDomain b name = λ name.
+    subst (λ (n : DraftNotes). IsCutDomain n name ↔ IsCutDomain b name) (sym last.1)
+    (same_cuts b last.0 known name) in (
+      λ x. or_cases (last.0 q) one.0 Goal (sym is ∙ x)
+          (λ m.
+          let k = (last.2 q cut middle).0 m in
+          (k.1, sym h.original ∙ sym (cut_mirrors (all.0 q) p) ∙ k.2, (moved k.1).1 k.3))
+          (λ m. let clash : false ≡ true = sym dom ∙ (one.2.0 m).0 in absurd (cc clash)),
+      λ y. is ∙ or_left (last.0 q) one.0 ((last.2 q cut middle).1
+          (cut_domain (all.0 q) p ∙ dom, y.0, cut_mirrors (all.0 q) p ∙ h.original ∙ y.1, (moved y.0).0 y.2)),
     )
 
 -- what is said of servers, as it is noted

@@ -1,7 +1,7 @@
 -- What is noted of servers and names, by the lists of objects.
 use mathlib.Core.Path.{fun_ext}
 use Rattle.std.proofs.Common.{◌≡◌, ℕ, List, [], ◌∷◌, Option, Some, None, Bool, true, false}
-use Rattle.std.proofs.Common.{refl, sym, ◌∙◌, ap, subst}
+use Rattle.std.proofs.Common.{refl, sym, ◌∙◌, ap, subst, inl, inr, ◌⊎◌}
 use Rattle.std.specs.Prelude.{cond, is_some, ◌||◌, ◌&&◌, filter_map, codes, IfSome}
 use Rattle.std.specs.List.{list_any, cons_option, find}
 use Rattle.std.specs.Option.{option_map, option_map_or, option_or, unwrap_or}
@@ -19,9 +19,10 @@ use Rattle.esc_zone.specs.Noted.{is_above_use, is_used_by, is_above_used, is_use
 use Rattle.esc_zone.specs.Noted.{is_host_here, hosts_texts, with_hosts_texts, with_hosts, says_address, is_noted_server}
 use Rattle.esc_zone.specs.Noted.{said_in_row, texts_for, own_text, domain_here, with_domain_here, with_domains}
 use Rattle.esc_zone.specs.Noted.{is_domain_noted, texts_at, texts_above, with_texts, with_settled, domain_texts}
-use Rattle.esc_zone.specs.Noted.{texts_over, texts_here, IsFresh, NotesNames, with_original, NotesOriginals}
+use Rattle.esc_zone.specs.Noted.{texts_over, texts_here, IsFresh, NotesNames, with_original}
+use Rattle.esc_zone.specs.Noted.{PlaceHolds, given_here, with_originals, with_mirror}
 use Rattle.esc_zone.specs.Noted.{AreTaken, SaysOf}
-use Rattle.esc_zone.proofs.Noting.{one_name, name_self, with_both_noted}
+use Rattle.esc_zone.proofs.Noting.{one_name, name_self, with_both_noted, is_some_map}
 
 pub or_cases : (a b : Bool) (P : Type 0) → (a || b) ≡ true → (a ≡ true → P) → (b ≡ true → P) → P
 or_cases true b P e f g = f refl
@@ -116,19 +117,25 @@ fresh_is : {X : Type 0} (o : Option X) (new : X) → IfSome o (λ x. x ≡ new) 
 fresh_is None new h = refl
 fresh_is (Some x) new h = ap Some h
 
+new_is : (b : Bool) (o : Option PlaceNotes) (p : PlaceNotes) → IfSome o (λ x. x ≡ new_place)
+    → cond b (Some (unwrap_or o new_place)) o ≡ Some p → p ≡ new_place
+new_is true None p h e = let is : new_place ≡ p = cc e in sym is
+new_is true (Some x) p h e = let is : x ≡ p = cc e in sym is ∙ h
+new_is false None p h e = absurd (cc e)
+new_is false (Some x) p h e = let is : x ≡ p = cc e in sym is ∙ h
+
+-- what holds of a name of which nothing is known yet
+pub new_holds : (uses : List Entry) (s : Settings) (q : List ℕ) → PlaceHolds [] [] uses s q new_place
+new_holds uses s q = record { domain = refl; says = tt; said = λ host v. refl; original = refl }
+
 -- servers and names that are noted first
-pub fresh_taken : (d : DraftNotes) (uses : List Entry) → IsFresh d → AreTaken [] [] uses (with_uses uses d)
+pub fresh_taken : (d : DraftNotes) (uses : List Entry) → IsFresh d → AreTaken [] [] [] uses (with_uses uses d)
 fresh_taken d uses f = record {
   servers = λ host u. ap (λ b. cond b (Some (unwrap_or (d.servers host) new_server)) (d.servers host)) u
       ∙ fresh_is (d.servers host) new_server (f.servers host);
-  places = λ q u. (
-    new_place,
-    ap (λ b. cond b (Some (unwrap_or (d.places q) new_place)) (d.places q)) u
-        ∙ fresh_is (d.places q) new_place (f.places q),
-    refl,
-    λ host v. refl,
-    tt,
-  );
+  noted = λ q u. ap (λ b. is_some (cond b (Some (unwrap_or (d.places q) new_place)) (d.places q))) u;
+  places = λ q p e. subst (λ (x : PlaceNotes). PlaceHolds [] [] uses d.settings q x)
+      (sym (new_is (is_above_here d.settings uses q) (d.places q) p (f.places q) e)) (new_holds uses d.settings q);
 }
 
 fresh_by : {X : Type 0} (b : Bool) (o : Option X) (new : X) → IfSome o (λ x. x ≡ new)
@@ -144,19 +151,29 @@ fresh_more s t d f = record {
   places = λ q. fresh_by (t q) (d.places q) new_place (f.places q);
 }
 
-kept : (b : Bool) (o : Option PlaceNotes) (p : PlaceNotes) → o ≡ Some p
-    → cond b (Some (unwrap_or o new_place)) o ≡ Some p
-kept true o p e = ap (λ x. Some (unwrap_or x new_place)) e
-kept false o p e = e
+still : (b : Bool) (o : Option PlaceNotes) → is_some o ≡ true
+    → is_some (cond b (Some (unwrap_or o new_place)) o) ≡ true
+still true o h = refl
+still false o h = h
 
--- more names change nothing of this
-pub names_taken : (hosts domains uses : List Entry) (d n : DraftNotes) → NotesNames d n
-    → AreTaken hosts domains uses d → AreTaken hosts domains uses n
-names_taken hosts domains uses d n more t =
-    subst (λ (x : DraftNotes). AreTaken hosts domains uses x) (sym more.1) (record {
+kept_or_new : (b : Bool) (o : Option PlaceNotes) (p : PlaceNotes)
+    → cond b (Some (unwrap_or o new_place)) o ≡ Some p → (o ≡ Some p) ⊎ (p ≡ new_place)
+kept_or_new true None p e = let is : new_place ≡ p = cc e in inr (sym is)
+kept_or_new true (Some x) p e = inl e
+kept_or_new false o p e = inl e
+
+-- more names are noted
+pub names_taken : (hosts uses : List Entry) (d n : DraftNotes) → NotesNames d n
+    → AreTaken hosts [] [] uses d → AreTaken hosts [] [] uses n
+names_taken hosts uses d n more t =
+    subst (λ (x : DraftNotes). AreTaken hosts [] [] uses x) (sym more.1) (record {
       servers = t.servers;
-      places = λ q u.
-          let w = t.places q u in (w.0, kept (more.0 q) (d.places q) w.0 w.1, w.2, w.3, w.4);
+      noted = λ q u. still (more.0 q) (d.places q) (t.noted q u);
+      places = λ q p e. elim (kept_or_new (more.0 q) (d.places q) p e) [
+        | inl old ↦ t.places q p old
+        | inr new ↦ subst (λ (x : PlaceNotes). PlaceHolds [] [] uses d.settings q x) (sym new)
+            (new_holds uses d.settings q)
+      ];
     })
 
 pub names_none : (d : DraftNotes) → NotesNames d d
@@ -171,10 +188,11 @@ names_more a b c m n =
     )
 
 -- the hosts' addresses are taken
-pub hosts_taken : (hosts domains uses : List Entry) (d : DraftNotes)
-    → AreTaken [] domains uses d → AreTaken hosts domains uses (with_hosts hosts d)
-hosts_taken hosts domains uses d t = record {
+pub hosts_taken : (hosts domains mirrors uses : List Entry) (d : DraftNotes)
+    → AreTaken [] domains mirrors uses d → AreTaken hosts domains mirrors uses (with_hosts hosts d)
+hosts_taken hosts domains mirrors uses d t = record {
   servers = λ host u. ap (option_map (with_hosts_texts d.settings hosts host)) (t.servers host u);
+  noted = t.noted;
   places = t.places;
 }
 
@@ -195,21 +213,33 @@ says_by : (d : DraftNotes) (o : Option Entry) (p : PlaceNotes)
 says_by d None p = tt
 says_by d (Some x) p = (refl, refl, refl)
 
+mirrors_by : (d : DraftNotes) (o : Option Entry) (p : PlaceNotes) → (with_domain_here d o p).mirrors ≡ p.mirrors
+mirrors_by d None p = refl
+mirrors_by d (Some x) p = refl
+
+-- what was mapped
+pub mapped : (f : PlaceNotes → PlaceNotes) (o : Option PlaceNotes) (p : PlaceNotes) → option_map f o ≡ Some p
+    → (r : PlaceNotes) × (o ≡ Some r) × (f r ≡ p)
+mapped f None p e = absurd (cc e)
+mapped f (Some x) p e = (x, refl, cc e)
+
 -- what the domains say is taken
-pub domains_taken : (hosts domains uses : List Entry) (d : DraftNotes)
-    → AreTaken hosts [] uses d → AreTaken hosts domains uses (with_domains domains d)
-domains_taken hosts domains uses d t = record {
+pub domains_taken : (hosts domains mirrors uses : List Entry) (d : DraftNotes)
+    → AreTaken hosts [] mirrors uses d → AreTaken hosts domains mirrors uses (with_domains domains d)
+domains_taken hosts domains mirrors uses d t = record {
   servers = t.servers;
-  places = λ q u.
-      let w = t.places q u in
-      let o = domain_here domains q in (
-        with_domain_here d o w.0,
-        ap (option_map (with_domain_here d o)) w.1,
-        domain_by d o w.0 w.2,
-        λ host v. texts_by d o w.0 host (w.3 host v)
-            (and_both _ _ (used_named d.settings uses host v) (ap is_some (t.servers host v))),
-        says_by d o w.0,
-      );
+  noted = λ q u. is_some_map (with_domain_here d (domain_here domains q)) (d.places q) ∙ t.noted q u;
+  places = λ q p e.
+      let o = domain_here domains q in
+      let r = mapped (with_domain_here d o) (d.places q) p e in
+      let w = t.places q r.0 r.1 in
+      subst (λ (x : PlaceNotes). PlaceHolds domains mirrors uses d.settings q x) r.2 (record {
+        domain = domain_by d o r.0 w.domain;
+        says = says_by d o r.0;
+        said = λ host v. texts_by d o r.0 host (w.said host v)
+            (and_both _ _ (used_named d.settings uses host v) (ap is_some (t.servers host v)));
+        original = mirrors_by d o r.0 ∙ w.original;
+      });
 }
 
 original_domain : (o : Option (Option (List ℕ))) (p : PlaceNotes) → (with_original o p).is_domain ≡ p.is_domain
@@ -225,49 +255,56 @@ original_says : (s : Settings) (o : Option (Option (List ℕ))) (x : Option Entr
 original_says s None x p h = h
 original_says s (Some y) x p h = h
 
--- originals change nothing of this
-pub originals_taken : (hosts domains uses : List Entry) (d n : DraftNotes) → NotesOriginals d n
-    → AreTaken hosts domains uses d → AreTaken hosts domains uses n
-originals_taken hosts domains uses d n more t =
-    subst (λ (x : DraftNotes). AreTaken hosts domains uses x) (sym more.1) (record {
-      servers = t.servers;
-      places = λ q u.
-          let w = t.places q u in
-          let o = more.0 q in (
-            with_original o w.0,
-            ap (option_map (with_original o)) w.1,
-            original_domain o w.0 ∙ w.2,
-            λ host v. ap (λ l. texts_for l host) (original_said o w.0) ∙ w.3 host v,
-            original_says d.settings o (domain_here domains q) w.0 w.4,
-          );
-    })
+original_by : (o : Option (Option (List ℕ))) (p : PlaceNotes) → p.mirrors ≡ None
+    → (with_original o p).mirrors ≡ option_map_or (λ (x : Option (List ℕ)). x) o None
+original_by None p e = e
+original_by (Some x) p e = refl
 
-no_original : (o : Option PlaceNotes) → o ≡ option_map (with_original None) o
+-- the originals are taken
+pub originals_taken : (hosts domains mirrors uses : List Entry) (d : DraftNotes)
+    → AreTaken hosts domains [] uses d → AreTaken hosts domains mirrors uses (with_originals mirrors d)
+originals_taken hosts domains mirrors uses d t = record {
+  servers = t.servers;
+  noted = λ q u. is_some_map (with_original (given_here mirrors q)) (d.places q) ∙ t.noted q u;
+  places = λ q p e.
+      let o = given_here mirrors q in
+      let r = mapped (with_original o) (d.places q) p e in
+      let w = t.places q r.0 r.1 in
+      subst (λ (x : PlaceNotes). PlaceHolds domains mirrors uses d.settings q x) r.2 (record {
+        domain = original_domain o r.0 ∙ w.domain;
+        says = original_says d.settings o (domain_here domains q) r.0 w.says;
+        said = λ host v. ap (λ l. texts_for l host) (original_said o r.0) ∙ w.said host v;
+        original = original_by o r.0 w.original;
+      });
+}
+
+-- no original changes nothing
+pub no_original : (o : Option PlaceNotes) → o ≡ option_map (with_original None) o
 no_original None = refl
 no_original (Some p) = refl
 
-pub originals_none : (d : DraftNotes) → NotesOriginals d d
-originals_none d = (
-  λ q. None,
-  ap (λ places. record d { places = places }) (fun_ext (λ q. no_original (d.places q))),
-)
+-- no original is noted
+pub originals_none : (d : DraftNotes) → d ≡ record d { places = λ q. option_map (with_original None) (d.places q) }
+originals_none d = ap (λ places. record d { places = places }) (fun_ext (λ q. no_original (d.places q)))
 
-both_originals : (f g : Option (Option (List ℕ))) (o : Option PlaceNotes)
+no_original_if : (b : Bool) (o : Option PlaceNotes)
+    → option_map (with_original None) o ≡ option_map (with_original (cond b None None)) o
+no_original_if true o = refl
+no_original_if false o = refl
+
+-- no original of this name is noted
+pub no_mirror : (name : List ℕ) (d : DraftNotes) → d ≡ with_mirror name None d
+no_mirror name d =
+    ap (λ places. record d { places = places })
+    (fun_ext (λ q. no_original (d.places q) ∙ no_original_if (name_eq name q) (d.places q)))
+
+-- originals that are noted one after the other
+pub both_originals : (f g : Option (Option (List ℕ))) (o : Option PlaceNotes)
     → option_map (with_original g) (option_map (with_original f) o) ≡ option_map (with_original (option_or g f)) o
 both_originals f g None = refl
 both_originals f None (Some p) = refl
 both_originals None (Some y) (Some p) = refl
 both_originals (Some x) (Some y) (Some p) = refl
-
--- originals that are noted one after the other
-pub originals_more : (a b c : DraftNotes) → NotesOriginals a b → NotesOriginals b c → NotesOriginals a c
-originals_more a b c m n = (
-  λ q. option_or (n.0 q) (m.0 q),
-  n.1
-      ∙ ap (λ (x : DraftNotes). record x { places = λ q. option_map (with_original (n.0 q)) (x.places q) }) m.1
-      ∙ ap (λ places. record a { places = places })
-      (fun_ext (λ q. both_originals (m.0 q) (n.0 q) (a.places q))),
-)
 
 -- the original of one name
 pub one_original : (b : Bool) (original : Option (List ℕ)) (o : Option PlaceNotes)
@@ -292,15 +329,23 @@ found test other f g (n ∷ names) same =
     ∙ found_by (other n) n (find test names) (find other names) f g here.1
     (found test other f g names (λ m k. same m (or_right (name_eq n m) (is_among_names names m) k)))
 
-above_is : (hosts domains : List Entry) (d : DraftNotes) → AreTaken hosts domains domains d → (host : List ℕ)
-    → is_used_here d.settings domains host ≡ true → texts_above d host ≡ texts_over d.settings domains host
-above_is hosts domains d t host u =
+-- what is there
+pub there_is : {X : Type 0} (o : Option X) → is_some o ≡ true → (x : X) × (o ≡ Some x)
+there_is None h = absurd (cc h)
+there_is (Some x) h = (x, refl)
+
+above_is : (hosts domains mirrors : List Entry) (d : DraftNotes) → AreTaken hosts domains mirrors domains d
+    → (host : List ℕ) → is_used_here d.settings domains host ≡ true
+    → texts_above d host ≡ texts_over d.settings domains host
+above_is hosts domains mirrors d t host u =
     found (is_domain_noted d) (λ n. is_some (domain_here domains n)) (λ n. texts_at d n host)
     (λ n. domain_texts domains n host) (zone_names d.settings (Some host))
     (λ n k.
-    let w = t.places n (used_above d.settings domains host n u k) in (
-      ap (λ (o : Option PlaceNotes). option_map_or (λ (p : PlaceNotes). p.is_domain) o false) w.1 ∙ w.2,
-      ap (λ (o : Option PlaceNotes). option_map_or (λ (p : PlaceNotes). texts_for p.said host) o []) w.1 ∙ w.3 host u,
+    let w = there_is (d.places n) (t.noted n (used_above d.settings domains host n u k)) in
+    let h = t.places n w.0 w.1 in (
+      ap (λ (o : Option PlaceNotes). option_map_or (λ (p : PlaceNotes). p.is_domain) o false) w.1 ∙ h.domain,
+      ap (λ (o : Option PlaceNotes). option_map_or (λ (p : PlaceNotes). texts_for p.said host) o []) w.1
+          ∙ h.said host u,
     ))
 
 said_by : (b : Bool) (said texts : List (List ℕ))
@@ -309,17 +354,17 @@ said_by true said texts = refl
 said_by false said texts = refl
 
 -- what is settled of a server in use is what the hosts and the domains say
-pub settled_texts : (hosts domains : List Entry) (d : DraftNotes) → AreTaken hosts domains domains d
-    → (host : List ℕ) → is_used_here d.settings domains host ≡ true
+pub settled_texts : (hosts domains mirrors : List Entry) (d : DraftNotes)
+    → AreTaken hosts domains mirrors domains d → (host : List ℕ) → is_used_here d.settings domains host ≡ true
     → option_map_or (λ (n : ServerNotes). n.said) ((with_settled d).servers host) []
     ≡ texts_here d.settings hosts domains host
-settled_texts hosts domains d t host u =
+settled_texts hosts domains mirrors d t host u =
     let texts = texts_above d host in
     let b = is_host_here d.settings hosts host in
     let said = hosts_texts d.settings hosts host in
     ap (λ (o : Option ServerNotes). option_map_or (λ (n : ServerNotes). n.said) (option_map (with_texts texts) o) [])
     (t.servers host u)
-    ∙ said_by b said texts ∙ ap (λ x. cond b said x) (above_is hosts domains d t host u)
+    ∙ said_by b said texts ∙ ap (λ x. cond b said x) (above_is hosts domains mirrors d t host u)
 
 -- what is said of a server, as it is noted
 pub said_seen : (o : Option Server) → option_map_or (λ (s : Server). said_texts s.rows.items) o []

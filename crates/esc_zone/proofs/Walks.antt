@@ -4,8 +4,9 @@ use Rattle.std.proofs.Common.{◌≡◌, ℕ, List, [], ◌∷◌, ◌++◌, Opt
 use Rattle.std.proofs.Common.{refl, sym, ◌∙◌, ap, subst, append-nil, append_assoc}
 use Rattle.std.specs.Prelude.{cond, ◌||◌, filter, Result, Ok, Err, IfOk, MatchResult}
 use Rattle.std.specs.Result.{IsErrAnd}
-use Rattle.std.specs.List.{list_any, flat_map, last_or}
-use Rattle.std.specs.Option.{option_map}
+use Rattle.std.specs.List.{list_any, flat_map, last_or, cons_option, filter_map}
+use Rattle.std.specs.Option.{option_map, option_or}
+use Rattle.std.proofs.lemmas.List.Elements.{filter_map-append}
 use Rattle.std.proofs.lemmas.List.Folds.{list_any-append}
 use Rattle.std.proofs.lemmas.Grind.{flat_map-append}
 use Rattle.esc_apply.specs.ObjectStreams.{Entry}
@@ -16,7 +17,9 @@ use Rattle.esc_zone.specs.Noted.{is_used_here, is_above_here, with_uses, is_host
 use Rattle.esc_zone.specs.Noted.{with_host, is_host_here, hosts_texts, with_hosts_texts, with_hosts}
 use Rattle.esc_zone.specs.Noted.{is_domain_named, domain_here, with_domain, place_said, with_domain_of}
 use Rattle.esc_zone.specs.Noted.{with_domain_here, with_domains}
+use Rattle.esc_zone.specs.Noted.{original_given, with_original, with_original_of, given_here, with_originals}
 use Rattle.esc_zone.proofs.Noting.{with_both_noted, or_false}
+use Rattle.esc_zone.proofs.Taken.{both_originals}
 
 abbrev value_or : {A E : Type 0} → Result A E → A → A
 value_or (Ok x) d = x
@@ -151,3 +154,22 @@ same_by d (Some p) = refl
 -- before the first domain nothing is taken
 pub domains_none : (d : DraftNotes) → d ≡ with_domains [] d
 domains_none d = ap (λ places. record d { places = places }) (fun_ext (λ q. same_by d (d.places q)))
+
+last_some : {X : Type 0} (o : Option X) (xs : List X) (y : X) → last_or o (xs ++ y ∷ []) ≡ Some y
+last_some o [] y = refl
+last_some o (x ∷ xs) y = last_some (Some x) xs y
+
+last_given : {X : Type 0} (xs : List X) (o : Option X)
+    → last_or None (xs ++ cons_option o []) ≡ option_or o (last_or None xs)
+last_given xs None = ap (last_or None) (append-nil xs)
+last_given xs (Some y) = last_some None xs y
+
+-- one more name's original is taken
+pub originals_step : (es : List Entry) (e : Entry) (d : DraftNotes)
+    → with_original_of e (with_originals es d) ≡ with_originals (es ++ e ∷ []) d
+originals_step es e d =
+    ap (λ places. record d { places = places })
+    (fun_ext (λ q. both_originals (given_here es q) (original_given q e) (d.places q)
+    ∙ ap (λ o. option_map (with_original o) (d.places q))
+    (sym (ap (last_or None) (filter_map-append (original_given q) es (e ∷ []))
+    ∙ last_given (filter_map (original_given q) es) (original_given q e)))))

@@ -1,4 +1,5 @@
 -- Names that are no domains, and have the name servers of one (RFC 9022, section 5.6).
+use Rattle.std.specs.Prelude.{◌≡◌, ◌++◌, ◌∷◌}
 use Rattle.std.specs.Prelude.{ℕ, List, [], Bool, false, not, ◌==◌, ◌&&◌, ◌||◌, length, codes}
 use Rattle.std.specs.Prelude.{Option, Some, None, if◌then◌else◌}
 use Rattle.std.specs.Option.{option_map_or}
@@ -8,26 +9,51 @@ use Rattle.esc_tables.specs.ObjectValue.{RowValue}
 use Rattle.esc_zone.specs.declared.draft.Draft.{Draft}
 use Rattle.esc_zone.specs.declared.notes.Mirror.{Mirror}
 use Rattle.esc_zone.specs.declared.notes.Mirror.TheVariants.{Nothing, Servers, Other}
-use Rattle.esc_zone.specs.Delegations.{has_place}
+use Rattle.esc_zone.specs.declared.signer.Ds.{Ds}
+use Rattle.esc_zone.specs.Delegations.{has_place, with_records, server_records, signer_records}
 use Rattle.esc_zone.specs.Drafts.{ZoneNotes}
 use Rattle.esc_zone.specs.Fields.{first_text, normal}
-use Rattle.esc_zone.specs.Names.{is_name_with, name_cmp}
+use Rattle.esc_zone.specs.Names.{is_name_with, name_cmp, name_eq}
+use Rattle.esc_zone.specs.Records.{RecordsValue}
 
--- of each name: whether it is that of a domain, and the servers that it has in the zone, if it is
--- the original of a mirrored name
+-- of each name: whether it is that of a domain, whether it is the original of a mirrored name, and
+-- if so, the servers that it has in the zone
 pub record OriginalNotes : Type 0 where
   pub is_domain : List ℕ → Bool
+  pub is_original : List ℕ → Bool
   pub servers : List ℕ → List (List ℕ)
 
 -- what this draft has noted of them
 abbrev pub original_notes : Draft → OriginalNotes
 original_notes d = record {
   is_domain = λ name. option_map_or (λ place. place.is_domain) (get name_cmp d.places name) false;
+  is_original = λ name. option_map_or (λ place. place.is_original)
+      (get name_cmp d.places name) false;
   servers = λ name. option_map_or (λ place. place.servers.items) (get name_cmp d.places name) [];
 }
 
--- whether a text says that a name is mirrored by name servers: yes (XML Schema 2, section 3.2.2), or
--- nothing
+-- with these servers of a name, if it is an original
+abbrev pub with_servers : List ℕ → List (List ℕ) → OriginalNotes → OriginalNotes
+with_servers name hosts o = record o {
+  servers = λ n. if name_eq name n && o.is_original n then hosts else o.servers n;
+}
+
+-- the same, unless it has none
+abbrev pub with_kept : List ℕ → List (List ℕ) → OriginalNotes → OriginalNotes
+with_kept name [] o = o
+with_kept name (host ∷ hosts) o = with_servers name (host ∷ hosts) o
+
+-- the servers of a name that are kept are those of the NS that are added, beside which there are
+-- only its DS
+abbrev pub KeepsServers : List ℕ → OriginalNotes → OriginalNotes → RecordsValue → RecordsValue
+    → Type 0
+KeepsServers name o kept before after = (hosts : List (List ℕ)) × (signers : List Ds)
+    × (after ≡ with_records before
+    (server_records before.ttl name hosts ++ signer_records before.ttl name signers))
+    × (kept ≡ with_kept name hosts o)
+
+-- whether a text says that a name is mirrored by name servers: yes (XML Schema 2, section 3.2.2),
+-- or nothing
 abbrev pub is_by_servers : List ℕ → Bool
 is_by_servers text =
     (length text == 0) || (bytes_eq text (codes "true") || bytes_eq text (codes "1"))

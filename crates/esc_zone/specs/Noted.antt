@@ -17,6 +17,7 @@ use Rattle.esc_zone.specs.declared.draft.Place.{Place}
 use Rattle.esc_zone.specs.declared.draft.Draft.{Draft}
 use Rattle.esc_zone.specs.Addresses.{HasAddress, said_texts}
 use Rattle.esc_zone.specs.Delegations.{server_texts}
+use Rattle.esc_zone.specs.Mirrors.{original_in}
 use Rattle.esc_zone.specs.Fields.{first_text, has_text, normal}
 use Rattle.esc_zone.specs.Names.{is_below, is_name_with, is_server_name, name_above, name_cmp}
 use Rattle.esc_zone.specs.Names.{name_eq, names_above}
@@ -362,12 +363,38 @@ abbrev pub with_original : Option (Option (List ℕ)) → PlaceNotes → PlaceNo
 with_original None place = place
 with_original (Some original) place = record place { mirrors = original }
 
--- some names are noted to be mirrored, and nothing else changes
-abbrev pub NotesOriginals : DraftNotes → DraftNotes → Type 0
-NotesOriginals before after = (given : List ℕ → Option (Option (List ℕ)))
-    × (after ≡ record before {
-      places = λ q. option_map (with_original (given q)) (before.places q);
-    })
+-- the name that a text is, if it is one
+abbrev pub name_read : List ℕ → Option (List ℕ)
+name_read text = if is_name_with false (normal text) then Some (normal text) else None
+
+-- what is noted, with the original with this text of the name, if it is mirrored by name servers
+abbrev pub with_mirror : List ℕ → Option (List ℕ) → DraftNotes → DraftNotes
+with_mirror name text d = record d {
+  places = λ q. option_map (with_original
+      (if name_eq name q then option_map name_read text else None)) (d.places q);
+}
+
+-- the original that the row of a name with this one gives, if it is mirrored by name servers
+abbrev pub original_given : List ℕ → Entry → Option (Option (List ℕ))
+original_given q e =
+    if is_domain_named q e then option_map name_read (original_in e.1.parent) else None
+
+-- what is noted, with the original that a name has, if it is mirrored by name servers
+abbrev pub with_original_of : Entry → DraftNotes → DraftNotes
+with_original_of e d =
+    record d { places = λ q. option_map (with_original (original_given q e)) (d.places q) }
+
+-- the original of a name among these: that of the last one, and a second one is refused
+abbrev pub given_here : List Entry → List ℕ → Option (Option (List ℕ))
+given_here es q = last_or None (filter_map (original_given q) es)
+
+abbrev pub original_here : List Entry → List ℕ → Option (List ℕ)
+original_here es q = option_map_or (λ original. original) (given_here es q) None
+
+-- what is noted, with the originals that these names have
+abbrev pub with_originals : List Entry → DraftNotes → DraftNotes
+with_originals es d =
+    record d { places = λ q. option_map (with_original (given_here es q)) (d.places q) }
 
 -- the text of the address that a row of a domain says of this host, if it says one
 abbrev pub own_text : List ℕ → RowValue → Option (List ℕ)
@@ -398,19 +425,26 @@ SaysOf s e p = (p.is_let_in ≡ is_none (hold_of e.1.children))
     × (p.has_outside ≡ list_any (is_outside_server s) (server_texts e.1.children))
     × (p.has_inside ≡ is_server_among s (server_texts e.1.children))
 
--- a draft has noted what these hosts and domains say of the servers in the zone that the domains in
--- use have, and of the names above
-pub record AreTaken (hosts domains uses : List Entry) (d : DraftNotes) : Type 0 where
+-- what these domains and mirrored names say is noted of a name
+pub record PlaceHolds (domains mirrors uses : List Entry) (s : Settings) (q : List ℕ)
+    (p : PlaceNotes) : Type 0 where
+  pub domain : p.is_domain ≡ is_some (domain_here domains q)
+  pub says : IfSome (domain_here domains q) (λ e. SaysOf s e p)
+  pub said : (host : List ℕ) → is_used_here s uses host ≡ true
+      → texts_for p.said host ≡ domain_texts domains q host
+  pub original : p.mirrors ≡ original_here mirrors q
+
+-- a draft has noted what these hosts, domains and mirrored names say of the servers in the zone
+-- that the domains in use have, and of the names that are noted, those above among them
+pub record AreTaken (hosts domains mirrors uses : List Entry) (d : DraftNotes) : Type 0 where
   pub servers : (host : List ℕ) → is_used_here d.settings uses host ≡ true
       → d.servers host ≡ Some (record {
         is_object = is_host_here d.settings hosts host;
         said = hosts_texts d.settings hosts host;
       })
-  pub places : (q : List ℕ) → is_above_here d.settings uses q ≡ true
-      → (p : PlaceNotes) × (d.places q ≡ Some p) × (p.is_domain ≡ is_some (domain_here domains q))
-      × ((host : List ℕ) → is_used_here d.settings uses host ≡ true
-      → texts_for p.said host ≡ domain_texts domains q host)
-      × IfSome (domain_here domains q) (λ e. SaysOf d.settings e p)
+  pub noted : (q : List ℕ) → is_above_here d.settings uses q ≡ true → is_some (d.places q) ≡ true
+  pub places : (q : List ℕ) (p : PlaceNotes) → d.places q ≡ Some p
+      → PlaceHolds domains mirrors uses d.settings q p
 
 -- the texts of the addresses that are noted of a server
 abbrev pub noted_texts : DraftNotes → List ℕ → List (List ℕ)
@@ -454,11 +488,36 @@ SettlesAll before after = (given : List ℕ → Option Bool) × (after ≡ with_
     × ((q : List ℕ) (p : PlaceNotes) → before.places q ≡ Some p → (b : Bool) × (given q ≡ Some b)
     × (IsTrue b ↔ IsServedPlace before.is_given (noted_texts before) p))
 
--- whether names are delegated is noted only of those that are no domains
-abbrev pub KeepsDomains : DraftNotes → DraftNotes → Type 0
-KeepsDomains before after = (given : List ℕ → Option Bool) × (after ≡ with_cuts given before)
-    × ((q : List ℕ) (p : PlaceNotes) → before.places q ≡ Some p → p.is_domain ≡ true
-    → given q ≡ None)
+-- a name is noted as a domain that is delegated
+abbrev pub IsCutDomain : DraftNotes → List ℕ → Type 0
+IsCutDomain d name =
+    (p : PlaceNotes) × (d.places name ≡ Some p) × IsTrue p.is_domain × IsTrue p.is_cut
+
+-- a name is no domain, and its original is one that is delegated
+abbrev pub IsMirroredPlace : DraftNotes → PlaceNotes → Type 0
+IsMirroredPlace d p = (p.is_domain ≡ false) × (original : List ℕ)
+    × (p.mirrors ≡ Some original) × IsCutDomain d original
+
+-- it is noted whether this name is a mirrored one that is delegated
+abbrev pub SettlesMirror : List ℕ → DraftNotes → DraftNotes → Type 0
+SettlesMirror name before after = (b : Bool)
+    × (after ≡ with_cuts (λ q. if b && name_eq name q then Some true else None) before)
+    × ((p : PlaceNotes) → before.places name ≡ Some p → IsTrue b ↔ IsMirroredPlace before p)
+
+-- the same of each of these names
+abbrev pub SettlesMirrors : List (List ℕ) → DraftNotes → DraftNotes → Type 0
+SettlesMirrors names before after = (given : List ℕ → Bool)
+    × (after ≡ with_cuts (λ q. if given q then Some true else None) before)
+    × ((q : List ℕ) (p : PlaceNotes) → before.places q ≡ Some p
+    → (IsTrue (given q) → IsMirroredPlace before p)
+    × (is_among_names names q ≡ true → IsMirroredPlace before p → IsTrue (given q)))
+
+-- the same of each name that is noted
+abbrev pub SettlesMirrored : DraftNotes → DraftNotes → Type 0
+SettlesMirrored before after = (given : List ℕ → Bool)
+    × (after ≡ with_cuts (λ q. if given q then Some true else None) before)
+    × ((q : List ℕ) (p : PlaceNotes) → before.places q ≡ Some p
+    → IsTrue (given q) ↔ IsMirroredPlace before p)
 
 -- a domain is delegated: no status keeps it out, and it has a server that is outside of the zone,
 -- or one in it that has an address, the operator's or of the tables

@@ -11,7 +11,7 @@ ghost use Rattle.esc_zone.specs.Fields.{normal};
 ghost use Rattle.std.specs.Prelude.{◌↔◌, IsTrue, Some, None, if◌then◌else◌};
 ghost use Rattle.esc_zone.specs.Lists.{GivesEach, GivesOne, Itself};
 ghost use Rattle.esc_zone.specs.Drafts.{zone_notes, cut_above};
-ghost use Rattle.esc_zone.specs.Mirrors.{original_notes};
+ghost use Rattle.esc_zone.specs.Mirrors.{original_notes, with_servers, KeepsServers};
 ghost use Rattle.esc_zone.specs.Told.{told_lines, TellsOfDelegation, TellsOfDomain};
 
 use crate::counts::{Outcome, add};
@@ -40,6 +40,9 @@ impl Draft {
         ensures noted { OnOk result (zone_notes self.new ≡ zone_notes self.old) }
         ensures records { OnOk result (AddsDomain (zone_notes self.old) (normal key.now.text)
             object.now.children sheet.old.records sheet.new.records) }
+        ensures originals { OnOk result (KeepsServers (normal key.now.text)
+            (original_notes self.old) (original_notes self.new) sheet.old.records
+            sheet.new.records) }
         ensures told { OnOk result (TellsOfDomain (zone_notes self.old) (normal key.now.text)
             object.now.children (told_lines sheet.old) (told_lines sheet.new)) }
         ensures kept_out { OnOk result (IsSome (hold_of object.now.children)
@@ -63,6 +66,8 @@ impl Draft {
         ensures noted { OnOk result (zone_notes self.new ≡ zone_notes self.old) }
         ensures records { OnOk result (AddsDomain (zone_notes self.old) text.now object.now.children
             sheet.old.records sheet.new.records) }
+        ensures originals { OnOk result (KeepsServers text.now (original_notes self.old)
+            (original_notes self.new) sheet.old.records sheet.new.records) }
         ensures told { OnOk result (TellsOfDomain (zone_notes self.old) text.now object.now.children
             (told_lines sheet.old) (told_lines sheet.new)) }
     {
@@ -89,6 +94,8 @@ impl Draft {
         ensures noted { OnOk result (zone_notes self.new ≡ zone_notes self.old) }
         ensures records { OnOk result (AddsDelegation (zone_notes self.old) text.now rows.now
             (texts_of servers.now) sheet.old.records sheet.new.records) }
+        ensures originals { OnOk result (KeepsServers text.now (original_notes self.old)
+            (original_notes self.new) sheet.old.records sheet.new.records) }
         ensures told { OnOk result (TellsOfDelegation (zone_notes self.old) text.now rows.now
             (texts_of servers.now) (told_lines sheet.old) (told_lines sheet.new)) }
     {
@@ -295,7 +302,9 @@ impl Draft {
 
     // Keeps the servers that a name has, if it is the original of a mirrored one.
     fn keep_servers(&mut self, name: &Name, servers: Vec<Name>)
-        ensures { zone_notes self.new ≡ zone_notes self.old }
+        ensures noted { zone_notes self.new ≡ zone_notes self.old }
+        ensures originals { original_notes self.new
+            ≡ with_servers name.now servers.items (original_notes self.old) }
     {
         if let Some(place) = self.places.get_mut(name) {
             set_servers(place, servers);
@@ -400,7 +409,11 @@ fn set_user(server: &mut Server, user: Name)
 
 // Keeps the servers of an original.
 fn set_servers(place: &mut Place, servers: Vec<Name>)
-    ensures { place.new.is_cut ≡ place.old.is_cut }
+    ensures cut { place.new.is_cut ≡ place.old.is_cut }
+    ensures domain { place.new.is_domain ≡ place.old.is_domain }
+    ensures original { place.new.is_original ≡ place.old.is_original }
+    ensures servers { place.new.servers.items
+        ≡ (if place.old.is_original then servers.items else place.old.servers.items) }
 {
     if place.is_original {
         place.servers = servers;

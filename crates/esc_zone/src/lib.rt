@@ -162,27 +162,30 @@
 //!   that was kept of its original, in order (`mirror_servers`). It adds none unless its row says
 //!   that it is mirrored by name servers (`original_in`), it is no domain, its original is one, and
 //!   it has its place in the zone (`is_mirror`).
-//! - `Draft::write_host` says which records a server in the zone adds (`AddsGlue`): an A or AAAA for
-//!   each address that the texts of its rows are (`AreAddresses`), no others, IPv4 first, by number,
-//!   each once. It adds none where no name has it, where the operator's file has its addresses, or
-//!   where no delegation is at or above it and such addresses are left out (`takes_glue`, by which
-//!   NS are written, too), unless the zone itself has it.
+//!   What is kept of a domain that is an original are the servers of the NS that it adds
+//!   (`KeepsServers`, of `Draft::write_domain`).
+//! - `Draft::write_host` says which records a server in the zone adds (`AddsGlue`): an A or AAAA
+//!   for each address that the texts of its rows are (`AreAddresses`), no others, IPv4 first, by
+//!   number, each once. It adds none where no name has it, where the operator's file has its
+//!   addresses, or where no delegation is at or above it and such addresses are left out
+//!   (`takes_glue`, by which NS are written, too), unless the zone itself has it.
 //! - `Draft::settle` says which addresses the tables have (`texts_here`) of a server in the zone
 //!   that a domain has which its statuses let in: those of the host with its name; if there is none,
 //!   those that the domain says that it is in, which is the nearest at or above it. And of the names
-//!   at or above such a server, or above such a domain, it says which of those that are domains are
-//!   delegated (`IsDelegatedHere`): no status keeps them out, and they have a server that is outside
-//!   of the zone, or one in it that has an address, the operator's or of the tables. So it is after
-//!   the passes above, in their order, over sources that give what they hold, the same domains in
-//!   each pass: each pass says what it adds to what is noted (`AreTaken`; `IsFresh` at first).
+//!   that are noted, those at and above such servers and above such domains among them, it says
+//!   which are delegated: a domain in the zone (`IsDelegatedHere`), if no status keeps it out, and it
+//!   has a server that is outside of the zone, or one in it that has an address, the operator's or of
+//!   the tables; and a mirrored name, if its original is a domain that is delegated (`IsCutDomain`).
+//!   So it is after the passes above, in their order, over sources that give what they hold, the
+//!   same domains in each pass: each pass says what it adds to what is noted (`AreTaken`; `IsFresh`
+//!   at first).
 //! - A line is told of each server of a domain, each row that says a DS or a key, and each text of
 //!   an address that is left out, and of a domain without a place in the zone or without a server
 //!   that is left (`TellsOfDomain`, `TellsOfAddresses`).
 //!
-//! Tested alone: which mirrored names are delegated, which servers of an original are kept, what
-//! the lines say that are told, and the operator's file. `specs/` has the definitions, by name:
-//! `Names`, `Addresses`, `Fields`, `Statuses`, `Records`, `Signers`, `Drafts`, `Delegations`,
-//! `Mirrors`, `Glue`, `Passes`, `Noted`, `Told`, `Lists`.
+//! Tested alone: what the lines say that are told, and the operator's file. `specs/` has the
+//! definitions, by name: `Names`, `Addresses`, `Fields`, `Statuses`, `Records`, `Signers`, `Drafts`,
+//! `Delegations`, `Mirrors`, `Glue`, `Passes`, `Noted`, `Told`, `Lists`.
 #![tactic(auto)]
 
 mod address;

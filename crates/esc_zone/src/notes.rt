@@ -4,7 +4,7 @@
 ghost use Rattle.esc_zone.specs.Mirrors.{original_of, original_in, is_by_servers};
 ghost use Rattle.std.specs.Prelude.{◌≡◌, ◌++◌, true, false, if◌then◌else◌, IfOk, OnOk, codes, map};
 ghost use Rattle.std.specs.Prelude.{filter_map, string_bytes, Some, None, List, ℕ, ◌||◌, ◌↔◌};
-ghost use Rattle.std.specs.Prelude.{IsTrue};
+ghost use Rattle.std.specs.Prelude.{IsTrue, is_some, ◌&&◌};
 ghost use Rattle.std.specs.BTreeMap.{keys};
 ghost use Rattle.std.specs.List.{list_any};
 ghost use Rattle.std.specs.Option.{option_map};
@@ -20,11 +20,13 @@ ghost use Rattle.esc_zone.specs.Noted.{is_noted_server, says_address, said_in_ro
 ghost use Rattle.esc_zone.specs.Noted.{is_outside_server, zone_server_in, place_said, with_domain};
 ghost use Rattle.esc_zone.specs.Noted.{with_place, with_domain_of, is_domain_noted, domain_at};
 ghost use Rattle.esc_zone.specs.Noted.{texts_at, texts_above, with_texts, with_own, settled_among};
-ghost use Rattle.esc_zone.specs.Noted.{with_settled, with_original, NotesNames, NotesOriginals};
-ghost use Rattle.esc_zone.specs.Noted.{AreTaken, is_used_here, texts_here, PlaceNotes};
-ghost use Rattle.esc_zone.specs.Noted.{is_among_names, IsReachable, IsServedPlace, cut_by};
-ghost use Rattle.esc_zone.specs.Noted.{with_cuts, SettlesOne, SettlesNames, SettlesAll};
-ghost use Rattle.esc_zone.specs.Noted.{KeepsDomains, is_above_here, domain_here, IsDelegatedHere};
+ghost use Rattle.esc_zone.specs.Noted.{with_settled, with_original, NotesNames, AreTaken};
+ghost use Rattle.esc_zone.specs.Noted.{is_used_here, texts_here, PlaceNotes, is_among_names};
+ghost use Rattle.esc_zone.specs.Noted.{IsReachable, IsServedPlace, cut_by, with_cuts, SettlesOne};
+ghost use Rattle.esc_zone.specs.Noted.{SettlesNames, SettlesAll, domain_here, IsDelegatedHere};
+ghost use Rattle.esc_zone.specs.Noted.{with_mirror, with_original_of, SettlesMirror};
+ghost use Rattle.esc_zone.specs.Noted.{SettlesMirrors, SettlesMirrored, IsMirroredPlace};
+ghost use Rattle.esc_zone.specs.Noted.{IsCutDomain, original_here, is_in_zone};
 ghost use Rattle.esc_zone.specs.Drafts.{zone_notes};
 ghost use Rattle.esc_apply.specs.ObjectStreams.{Entry};
 ghost use Rattle.esc_zone.specs.Names.{name_eq};
@@ -370,7 +372,8 @@ impl Draft {
 
     /// Takes the original of a mirrored name, if its name matters to others.
     pub fn take_mirror(&mut self, key: &Key, object: &Object) -> Result<(), Halt>
-        ensures { OnOk result (NotesOriginals (draft_notes self.old) (draft_notes self.new)) }
+        ensures { OnOk result (draft_notes self.new
+            ≡ with_original_of (key.now, object.now) (draft_notes self.old)) }
     {
         let Some(name) = read_name(self.alloc, key.text.as_str())? else {
             return Ok(());
@@ -382,7 +385,8 @@ impl Draft {
 
     // Takes the original of a name that is mirrored so.
     fn take_mirrored(&mut self, name: &Name, mirror: Mirror<'_>) -> Result<(), NoMemory>
-        ensures { OnOk result (NotesOriginals (draft_notes self.old) (draft_notes self.new)) }
+        ensures { OnOk result (draft_notes self.new
+            ≡ with_mirror name.now (original_of mirror.entry) (draft_notes self.old)) }
     {
         match mirror {
             Mirror::Nothing => Ok(()),
@@ -392,7 +396,8 @@ impl Draft {
     }
 
     fn take_original(&mut self, name: &Name, text: &str) -> Result<(), NoMemory>
-        ensures { OnOk result (NotesOriginals (draft_notes self.old) (draft_notes self.new)) }
+        ensures { OnOk result (draft_notes self.new
+            ≡ with_mirror name.now (Some text.now) (draft_notes self.old)) }
     {
         let original = read_name(self.alloc, text)?;
         self.set_mirrors(name, original);
@@ -401,7 +406,10 @@ impl Draft {
 
     // Sets the original that a name mirrors.
     fn set_mirrors(&mut self, name: &Name, original: Option<Name>)
-        ensures { NotesOriginals (draft_notes self.old) (draft_notes self.new) }
+        ensures { draft_notes self.new ≡ record (draft_notes self.old) {
+          places = λ q. option_map (with_original (if name_eq name.now q then Some original
+              else None)) ((draft_notes self.old).places q);
+        } }
     {
         match self.places.get_mut(name) {
             Some(place) => set_original_of(place, original),
@@ -414,17 +422,24 @@ impl Draft {
     pub fn settle(&mut self) -> Result<(), Halt>
         ensures settled { OnOk result ((draft_notes self.new).servers
             ≡ (with_settled (draft_notes self.old)).servers) }
-        ensures said { OnOk result ((hosts domains : List Entry)
-            → AreTaken hosts domains domains (draft_notes self.old) → (host : List ℕ)
+        ensures said { OnOk result ((hosts domains mirrors : List Entry)
+            → AreTaken hosts domains mirrors domains (draft_notes self.old) → (host : List ℕ)
             → is_used_here (draft_notes self.old).settings domains host ≡ true
             → (zone_notes self.new).said host
             ≡ texts_here (draft_notes self.old).settings hosts domains host) }
-        ensures delegated { OnOk result ((hosts domains : List Entry)
-            → AreTaken hosts domains domains (draft_notes self.old) → (name : List ℕ) (e : Entry)
-            → is_above_here (draft_notes self.old).settings domains name ≡ true
+        ensures delegated { OnOk result ((hosts domains mirrors : List Entry)
+            → AreTaken hosts domains mirrors domains (draft_notes self.old)
+            → (name : List ℕ) (e : Entry) → is_some ((draft_notes self.old).places name) ≡ true
+            → is_in_zone (draft_notes self.old).settings name ≡ true
             → domain_here domains name ≡ Some e → IsTrue ((zone_notes self.new).is_delegated name)
             ↔ IsDelegatedHere (draft_notes self.old).settings (draft_notes self.old).is_given
             hosts domains e) }
+        ensures mirrored { OnOk result ((hosts domains mirrors : List Entry)
+            → AreTaken hosts domains mirrors domains (draft_notes self.old) → (name : List ℕ)
+            → is_some ((draft_notes self.old).places name) ≡ true
+            → domain_here domains name ≡ None → IsTrue ((zone_notes self.new).is_delegated name)
+            ↔ ((original : List ℕ) × (original_here mirrors name ≡ Some original)
+            × IsCutDomain (draft_notes self.new) original)) }
     {
         self.settle_servers()?;
         self.settle_domains()?;
@@ -615,18 +630,25 @@ impl Draft {
 
     // Finds which mirrored names are delegated, of those that matter to others.
     fn settle_mirrors(&mut self) -> Result<(), NoMemory>
-        ensures { OnOk result (KeepsDomains (draft_notes self.old) (draft_notes self.new)) }
+        ensures { OnOk result (SettlesMirrored (draft_notes self.old) (draft_notes self.new)) }
     {
         let names = self.place_names()?;
-        for name in &names {
+        self.settle_mirrored(&names);
+        Ok(())
+    }
+
+    // Finds which of these names are mirrored ones that are delegated.
+    fn settle_mirrored(&mut self, names: &[Name])
+        ensures { SettlesMirrors names.now (draft_notes self.old) (draft_notes self.new) }
+    {
+        for name in names {
             self.settle_mirror(name);
         }
-        Ok(())
     }
 
     // Finds whether this name is a mirrored one that is delegated.
     fn settle_mirror(&mut self, name: &Name)
-        ensures { KeepsDomains (draft_notes self.old) (draft_notes self.new) }
+        ensures { SettlesMirror name.now (draft_notes self.old) (draft_notes self.new) }
     {
         if self.is_mirrored(name) {
             self.set_cut(name, true);
@@ -635,8 +657,8 @@ impl Draft {
 
     // Whether a name that matters to others is a mirrored one that is delegated.
     fn is_mirrored(&self, name: &Name) -> bool
-        ensures { IsTrue result → (p : PlaceNotes)
-            → (draft_notes self.now).places name.now ≡ Some p → p.is_domain ≡ false }
+        ensures { (p : PlaceNotes) → (draft_notes self.now).places name.now ≡ Some p
+            → IsTrue result ↔ IsMirroredPlace (draft_notes self.now) p }
     {
         match self.places.get(name) {
             Some(place) => self.is_mirror(place),
@@ -646,14 +668,33 @@ impl Draft {
 
     // Whether a place is no domain, and has the servers of a delegated one.
     fn is_mirror(&self, place: &Place) -> bool
-        ensures { IsTrue result → place.now.is_domain ≡ false }
+        ensures { IsTrue result ↔ IsMirroredPlace (draft_notes self.now) (place_notes place.now) }
     {
         if place.is_domain {
             return false;
         }
-        let original = place.mirrors.as_ref().and_then(|it| self.places.get(it));
-        original.is_some_and(|it| it.is_domain && it.is_cut)
+        match &place.mirrors {
+            Some(original) => self.is_cut_domain(original),
+            None => false,
+        }
     }
+
+    // Whether a name that matters to others is that of a delegated domain.
+    fn is_cut_domain(&self, name: &Name) -> bool
+        ensures { IsTrue result ↔ IsCutDomain (draft_notes self.now) name.now }
+    {
+        match self.places.get(name) {
+            Some(place) => is_cut_place(place),
+            None => false,
+        }
+    }
+}
+
+// Whether a place is that of a delegated domain.
+fn is_cut_place(place: &Place) -> bool
+    ensures { result ≡ (place.now.is_domain && place.now.is_cut) }
+{
+    place.is_domain && place.is_cut
 }
 
 // The address that a row of a host says, if it says one.

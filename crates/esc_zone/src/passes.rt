@@ -8,7 +8,7 @@ ghost use Rattle.esc_zone.specs.Passes.{IsDomainText, IsMirrorText, IsGlueText, 
 ghost use Rattle.esc_zone.specs.Passes.{noted_servers, without_texts};
 ghost use Rattle.std.specs.Prelude.{[]};
 ghost use Rattle.esc_zone.specs.Noted.{draft_notes, with_uses, with_hosts, with_domains};
-ghost use Rattle.esc_zone.specs.Noted.{NotesNames, NotesOriginals, IsFresh, AreTaken};
+ghost use Rattle.esc_zone.specs.Noted.{with_originals, NotesNames, IsFresh, AreTaken};
 ghost use Rattle.esc_zone.specs.Records.{AppendsLines};
 
 use crate::draft::Draft;
@@ -25,7 +25,7 @@ impl Draft {
             → draft_notes self.new ≡ with_uses es (draft_notes self.old)) }
         ensures taken { OnOk result (O.is_honest objects.new → (es : List Entry)
             → O.lists objects.old es → IsFresh (draft_notes self.old)
-            → AreTaken [] [] es (draft_notes self.new)) }
+            → AreTaken [] [] [] es (draft_notes self.new)) }
     {
         while let Some((key, object)) = objects.next().map_err(ZoneFault::Source)? {
             self.note_domain(&key, &object)?;
@@ -36,9 +36,9 @@ impl Draft {
     /// Notes what the mirrored names have in the zone.
     pub fn note_mirrors<O: Objects>(&mut self, objects: &mut O) -> Result<(), ZoneFault<O::Error>>
         ensures noted { OnOk result (NotesNames (draft_notes self.old) (draft_notes self.new)) }
-        ensures taken { OnOk result ((hosts domains uses : List Entry)
-            → AreTaken hosts domains uses (draft_notes self.old)
-            → AreTaken hosts domains uses (draft_notes self.new)) }
+        ensures taken { OnOk result ((hosts uses : List Entry)
+            → AreTaken hosts [] [] uses (draft_notes self.old)
+            → AreTaken hosts [] [] uses (draft_notes self.new)) }
     {
         while let Some((key, object)) = objects.next().map_err(ZoneFault::Source)? {
             self.note_mirror(&key, &object)?;
@@ -52,9 +52,9 @@ impl Draft {
             → O.lists objects.old es
             → draft_notes self.new ≡ with_hosts es (draft_notes self.old)) }
         ensures taken { OnOk result (O.is_honest objects.new → (es : List Entry)
-            → O.lists objects.old es → (domains uses : List Entry)
-            → AreTaken [] domains uses (draft_notes self.old)
-            → AreTaken es domains uses (draft_notes self.new)) }
+            → O.lists objects.old es → (domains mirrors uses : List Entry)
+            → AreTaken [] domains mirrors uses (draft_notes self.old)
+            → AreTaken es domains mirrors uses (draft_notes self.new)) }
     {
         while let Some((key, object)) = objects.next().map_err(ZoneFault::Source)? {
             self.take_host(&key, &object)?;
@@ -68,9 +68,9 @@ impl Draft {
             → O.lists objects.old es
             → draft_notes self.new ≡ with_domains es (draft_notes self.old)) }
         ensures taken { OnOk result (O.is_honest objects.new → (es : List Entry)
-            → O.lists objects.old es → (hosts uses : List Entry)
-            → AreTaken hosts [] uses (draft_notes self.old)
-            → AreTaken hosts es uses (draft_notes self.new)) }
+            → O.lists objects.old es → (hosts mirrors uses : List Entry)
+            → AreTaken hosts [] mirrors uses (draft_notes self.old)
+            → AreTaken hosts es mirrors uses (draft_notes self.new)) }
     {
         while let Some((key, object)) = objects.next().map_err(ZoneFault::Source)? {
             self.take_domain(&key, &object)?;
@@ -80,10 +80,13 @@ impl Draft {
 
     /// Takes the originals of the mirrored names that matter to others.
     pub fn take_mirrors<O: Objects>(&mut self, objects: &mut O) -> Result<(), ZoneFault<O::Error>>
-        ensures noted { OnOk result (NotesOriginals (draft_notes self.old) (draft_notes self.new)) }
-        ensures taken { OnOk result ((hosts domains uses : List Entry)
-            → AreTaken hosts domains uses (draft_notes self.old)
-            → AreTaken hosts domains uses (draft_notes self.new)) }
+        ensures noted { OnOk result (O.is_honest objects.new → (es : List Entry)
+            → O.lists objects.old es
+            → draft_notes self.new ≡ with_originals es (draft_notes self.old)) }
+        ensures taken { OnOk result (O.is_honest objects.new → (es : List Entry)
+            → O.lists objects.old es → (hosts domains uses : List Entry)
+            → AreTaken hosts domains [] uses (draft_notes self.old)
+            → AreTaken hosts domains es uses (draft_notes self.new)) }
     {
         while let Some((key, object)) = objects.next().map_err(ZoneFault::Source)? {
             self.take_mirror(&key, &object)?;

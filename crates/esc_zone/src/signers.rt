@@ -5,6 +5,7 @@ ghost use Rattle.std.specs.Prelude.{[], count_by, if◌then◌else◌};
 ghost use Rattle.std.specs.List.{cons_option};
 ghost use Rattle.esc_zone.specs.declared.signer.Ds.{Ds};
 ghost use Rattle.esc_zone.specs.Drafts.{zone_notes};
+ghost use Rattle.esc_zone.specs.Mirrors.{original_notes};
 ghost use Rattle.esc_zone.specs.Lists.{GivesOne, GivesEach, IsOrderedOnce};
 ghost use Rattle.esc_zone.specs.Signers.{IsSigner, AreSigners, ds_value, ds_cmp, no_memory};
 ghost use Rattle.esc_zone.specs.Delegations.{with_records, signer_records};
@@ -28,6 +29,7 @@ impl Draft {
         sheet: &mut Sheet,
     ) -> Result<(), Halt>
         ensures noted { OnOk result (zone_notes self.new ≡ zone_notes self.old) }
+        ensures originals { OnOk result (original_notes self.new ≡ original_notes self.old) }
         ensures records { OnOk result ((signers : List Ds) × AreSigners name.now rows.now signers
             × (sheet.new.records ≡ with_records sheet.old.records
             (signer_records sheet.old.records.ttl name.now signers))) }
@@ -42,6 +44,7 @@ impl Draft {
     // The DS that rows give, in the order of the rows. Of rows that give none it is told why.
     fn signers_of(&mut self, name: &Name, rows: &[Row], sheet: &mut Sheet) -> Result<Vec<Ds>, Halt>
         ensures noted { OnOk result (zone_notes self.new ≡ zone_notes self.old) }
+        ensures originals { OnOk result (original_notes self.new ≡ original_notes self.old) }
         ensures records { sheet.new.records ≡ sheet.old.records }
         ensures given { IfOk result (λ given. GivesEach (IsSigner name.now) rows.now given.items) }
         ensures told { IfOk result (λ given. count_by says_signer rows.now + told_lines sheet.old
@@ -58,6 +61,7 @@ impl Draft {
     // Writes these DS.
     fn add_signers(&mut self, name: &Name, signers: &[Ds], sheet: &mut Sheet) -> Result<(), Halt>
         ensures noted { OnOk result (zone_notes self.new ≡ zone_notes self.old) }
+        ensures originals { OnOk result (original_notes self.new ≡ original_notes self.old) }
         ensures records { OnOk result (sheet.new.records ≡ with_records sheet.old.records
             (signer_records sheet.old.records.ttl name.now signers.now)) }
         ensures told { OnOk result (told_lines sheet.new ≡ told_lines sheet.old) }
@@ -73,6 +77,7 @@ impl Draft {
     // The DS that a row gives, if it gives one; if not, it is told why.
     fn signer_of(&mut self, name: &Name, row: &Row, sheet: &mut Sheet) -> Result<Option<Ds>, Halt>
         ensures noted { OnOk result (zone_notes self.new ≡ zone_notes self.old) }
+        ensures originals { OnOk result (original_notes self.new ≡ original_notes self.old) }
         ensures records { sheet.new.records ≡ sheet.old.records }
         ensures given { IfOk result (λ ds. GivesOne (IsSigner name.now) row.now ds) }
         ensures told { IfOk result (λ ds. (if says_signer row.now then 1 else 0)

@@ -11,6 +11,7 @@ loop-ds-preserved c =
     record {
       state = c.loop-ds.invariant.state;
       told = c.loop-ds.invariant.told;
+      originals = c.loop-ds.invariant.originals;
       records = with_one before c.loop-ds.sheet.records c.add_ds.new.self _ c.args.name.now
           (signer (ds_value c.ds-item.result)) c.loop-ds.invariant.records c.in_ok-add_ds.ensures
           ∙ ap (with_records before) (sym (signer_more before.ttl c.args.name.now c.args.signers.now

@@ -50,4 +50,4 @@ returns-clause-taken g c =
     let none = rw c.in_default.is at gave in
     let all = before.3 ∙ ap (λ (l : List Entry). before.0 ++ l) none.0 ∙ append-nil before.0 in
     let same = before.4 ∙ ap (λ (l : List Entry). with_uses l d) (sym all) in
-    subst (λ (x : DraftNotes). AreTaken [] [] es x) (sym same) (fresh_taken d es t)
+    subst (λ (x : DraftNotes). AreTaken [] [] [] es x) (sym same) (fresh_taken d es t)

@@ -11,5 +11,5 @@ loop-key-preserved g c =
     c.loop-key.invariant c.in_ok-note_mirror.ensures
 
 pub returns-clause-taken : goal.returns-clause-taken
-returns-clause-taken g c = λ hosts domains uses t.
-    names_taken hosts domains uses (draft_notes c.args.self.now) (draft_notes c.loop-key.self) c.loop-key.invariant t
+returns-clause-taken g c = λ hosts uses t.
+    names_taken hosts uses (draft_notes c.args.self.now) (draft_notes c.loop-key.self) c.loop-key.invariant t

@@ -1,7 +1,7 @@
 use Rattle.std.proofs.lemmas.Result.{on_ok_weaker}
 use Rattle.std.specs.Prelude.{OnOk, String}
 use Rattle.std.specs.declared.alloc.Global.{Global}
-use Rattle.std.proofs.Common.{None, List, ◌≡◌, ◌==◌, length, Some, rules, subst}
+use Rattle.std.proofs.Common.{None, List, ◌≡◌, ◌==◌, length, Some, rules, refl, subst}
 use Rattle.esc_tables.specs.ObjectValue.{RowValue}
 use Rattle.esc_zone.specs.Drafts.{zone_notes}
 use Rattle.esc_zone.specs.Lists.{IsOrderedOnce}
@@ -11,6 +11,8 @@ use Rattle.esc_zone.specs.Delegations.{kept_out, texts_of, server_texts}
 use Rattle.esc_zone.specs.Told.{told_lines, TellsOfDelegation}
 use Rattle.esc_zone.proofs.Delegated.{domain_kept}
 use Rattle.esc_zone.proofs.Telling.{kept_told, let_in_told}
+use Rattle.esc_zone.specs.Mirrors.{original_notes}
+use Rattle.esc_zone.proofs.Keeping.{keeps_nothing}
 use Rattle.esc_zone.proofs.draft.Draft.place_domain.Goals as goal
 
 pub returns-in-Some-clause-records : goal.returns-in-Some-clause-records
@@ -61,3 +63,8 @@ returns-clause-told c =
     (λ (t : TellsOfDelegation z text rows (texts_of servers) start end).
     let_in_told z text rows servers start end let_in texts t)
     told
+
+pub returns-in-Some-clause-originals : goal.returns-in-Some-clause-originals
+returns-in-Some-clause-originals c =
+    keeps_nothing c.args.text.now (original_notes c.args.self.now) _ c.args.sheet.now.records _ refl
+    c.in_ok-tell_kept-in-Some.ensures.same

@@ -6,8 +6,8 @@ use Rattle.std.specs.BTreeMap.{get}
 use Rattle.esc_zone.specs.declared.draft.Place.{Place}
 use Rattle.esc_zone.specs.Names.{name_cmp, name_eq}
 use Rattle.esc_zone.specs.Noted.{DraftNotes, PlaceNotes, draft_notes, place_notes, with_original}
-use Rattle.esc_zone.proofs.Noting.{noted_changed}
-use Rattle.esc_zone.proofs.Taken.{originals_none, one_original}
+use Rattle.esc_zone.proofs.Noting.{noted_changed, noted_absent}
+use Rattle.esc_zone.proofs.Taken.{one_original}
 use Rattle.esc_zone.proofs.draft.Draft.set_mirrors.Goals as goal
 
 pub returns-in-Some : goal.returns-in-Some
@@ -17,20 +17,21 @@ returns-in-Some c =
     let name = c.args.name.now in
     let original : Option (List ℕ) = c.args.original in
     let w = c.set_original_of.new.place in
-    let some = subst (λ (o : Option Place). IsSome o) c.in-Some.ensures.value refl in (
-      λ q. cond (name_eq name q) (Some original) None,
-      ap (λ (places : List ℕ → Option PlaceNotes). record d { places = places })
-          (fun_ext (λ q. noted_changed place_notes (with_original (Some original)) (get name_cmp m)
-          (get name_cmp (c.get_mut.follows.lender w)) c.in-Some.place.now w name (sym c.in-Some.ensures.value)
-          c.set_original_of.ensures ((c.get_mut.follows.holds w).3 some).0 q
-          ∙ one_original (name_eq name q) original (option_map place_notes (get name_cmp m q)))),
-    )
+    let some = subst (λ (o : Option Place). IsSome o) c.in-Some.ensures.value refl in
+    ap (λ (places : List ℕ → Option PlaceNotes). record d { places = places })
+    (fun_ext (λ q. noted_changed place_notes (with_original (Some original)) (get name_cmp m)
+    (get name_cmp (c.get_mut.follows.lender w)) c.in-Some.place.now w name (sym c.in-Some.ensures.value)
+    c.set_original_of.ensures ((c.get_mut.follows.holds w).3 some).0 q
+    ∙ one_original (name_eq name q) original (option_map place_notes (get name_cmp m q))))
 
 pub returns-in-None : goal.returns-in-None
 returns-in-None c =
     let d : DraftNotes = draft_notes c.args.self.now in
-    let none = originals_none d in (
-      none.0,
-      ap (λ m'. record d { places = λ q. option_map place_notes (get name_cmp m' q) })
-          c.get_mut.follows.holds-at-none ∙ none.1,
-    )
+    let m = c.args.self.now.places in
+    let name = c.args.name.now in
+    let original : Option (List ℕ) = c.args.original in
+    ap (λ m'. record d { places = λ q. option_map place_notes (get name_cmp m' q) }) c.get_mut.follows.holds-at-none
+    ∙ ap (λ (places : List ℕ → Option PlaceNotes). record d { places = places })
+    (fun_ext (λ q. noted_absent place_notes (with_original (Some original)) (get name_cmp m) name
+    (sym c.in-None.ensures.value) q
+    ∙ one_original (name_eq name q) original (option_map place_notes (get name_cmp m q))))

@@ -1,18 +1,22 @@
-use Rattle.std.proofs.Common.{List, ℕ, Bool, true, Some, None}
-use Rattle.std.specs.Prelude.{cond}
-use Rattle.esc_zone.specs.Names.{name_eq}
+use Rattle.std.proofs.Common.{Bool, true, false, refl}
 use Rattle.esc_zone.specs.Noted.{draft_notes}
-use Rattle.esc_zone.proofs.Settled.{keeps_none, none_given}
+use Rattle.esc_zone.proofs.Said.{false_is}
+use Rattle.esc_zone.proofs.Settled.{cuts_none}
 use Rattle.esc_zone.proofs.draft.Draft.settle_mirror.Goals as goal
 
 pub returns-else-is_mirrored : goal.returns-else-is_mirrored
-returns-else-is_mirrored c = keeps_none (draft_notes c.args.self.now)
+returns-else-is_mirrored c = (
+  false,
+  cuts_none (draft_notes c.args.self.now),
+  λ p e. (
+    λ t. absurd (cc t),
+    λ x. absurd (false_is _ c.if-is_mirrored.false ((c.is_mirrored.ensures p e).1 x)),
+  ),
+)
 
 pub returns-then-is_mirrored : goal.returns-then-is_mirrored
-returns-then-is_mirrored c =
-    let name = c.args.name.now in (
-      λ q. cond (name_eq name q) (Some true) None,
-      c.set_cut.ensures,
-      λ q p e t. none_given (draft_notes c.args.self.now) name q p true e t
-          (c.is_mirrored.ensures c.if-is_mirrored.true),
-    )
+returns-then-is_mirrored c = (
+  true,
+  c.set_cut.ensures,
+  λ p e. (λ t. (c.is_mirrored.ensures p e).0 c.if-is_mirrored.true, λ x. refl),
+)

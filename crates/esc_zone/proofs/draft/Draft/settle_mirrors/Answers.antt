@@ -1,11 +1,18 @@
-use Rattle.esc_zone.specs.Noted.{draft_notes}
-use Rattle.esc_zone.proofs.Settled.{keeps_none, keeps_more}
+use Rattle.std.proofs.Common.{◌∙◌, ap, List, ℕ}
+use Rattle.esc_zone.specs.Noted.{place_notes, is_among_names}
+use Rattle.esc_zone.proofs.Settled.{among_seen}
 use Rattle.esc_zone.proofs.draft.Draft.settle_mirrors.Goals as goal
 
-pub loop-name-init : goal.loop-name-init
-loop-name-init c = keeps_none (draft_notes c.args.self.now)
-
-pub loop-name-preserved : goal.loop-name-preserved
-loop-name-preserved c =
-    keeps_more (draft_notes c.args.self.now) (draft_notes c.loop-name.self) (draft_notes c.settle_mirror.new.self)
-    c.loop-name.invariant c.settle_mirror.ensures
+pub returns : goal.returns
+returns c =
+    let m = c.args.self.now.places in
+    let all = c.settle_mirrored.ensures in
+    let names = c.deref.ensures.value ∙ c.in_ok-names.ensures in (
+      all.0,
+      all.1,
+      λ q p e. (
+        (all.2 q p e).0,
+        (all.2 q p e).1 (ap (λ (l : List (List ℕ)). is_among_names l q) names
+            ∙ among_seen place_notes m q p e),
+      ),
+    )

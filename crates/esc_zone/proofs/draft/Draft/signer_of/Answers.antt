@@ -12,6 +12,7 @@ pub returns-in_ok-leave_out-in-Err : goal.returns-in_ok-leave_out-in-Err
 returns-in_ok-leave_out-in-Err c =
     record {
       noted = refl;
+      originals = refl;
       records = c.in_ok-leave_out-in-Err.ensures.same;
       given = none_faulty c.args.name.now c.args.row.now
           (c.in-Err.ensures.given c.in_ok-leave_out-in-Err.ensures.fault);

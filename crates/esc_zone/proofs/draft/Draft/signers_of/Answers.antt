@@ -13,6 +13,7 @@ loop-row-preserved c =
     let rows = c.args.rows.now in
     record {
       state = c.in_ok-ds.ensures.noted ∙ c.loop-row.invariant.state;
+      originals = c.in_ok-ds.ensures.originals ∙ c.loop-row.invariant.originals;
       records = c.in_ok-ds.ensures.records ∙ c.loop-row.invariant.records;
       given = subst (λ (given : List Ds). GivesEach R (take (c.loop-row.row-index + 1) rows) given)
           (sym c.in_ok-push_some.ensures)

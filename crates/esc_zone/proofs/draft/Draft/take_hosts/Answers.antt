@@ -41,11 +41,11 @@ pub returns-clause-taken : goal.returns-clause-taken
 returns-clause-taken g c =
     let objects = g.met.O.Objects in
     let d : DraftNotes = draft_notes c.args.self.now in
-    λ honest es lists domains uses t.
+    λ honest es lists domains mirrors uses t.
     let before = c.loop-key.invariant (objects.was_honest _ _ c.next.ensures.follows honest) es lists in
     let gave = came _ _ c.next.result c.map_err.result c.in_ok-key.field-0
     c.map_err.ensures.cases c.in_ok-key.was c.next.ensures.given honest before.1 before.2 in
     let none = rw c.in_default.is at gave in
     let all = before.3 ∙ ap (λ (l : List Entry). before.0 ++ l) none.0 ∙ append-nil before.0 in
     let same = before.4 ∙ ap (λ (l : List Entry). with_hosts l d) (sym all) in
-    subst (λ (x : DraftNotes). AreTaken es domains uses x) (sym same) (hosts_taken es domains uses d t)
+    subst (λ (x : DraftNotes). AreTaken es domains mirrors uses x) (sym same) (hosts_taken es domains mirrors uses d t)

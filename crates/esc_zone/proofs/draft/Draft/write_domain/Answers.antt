@@ -7,6 +7,8 @@ use Rattle.esc_zone.specs.Records.{RecordsValue}
 use Rattle.esc_zone.specs.Told.{told_lines, TellsOfDomain}
 use Rattle.esc_zone.proofs.Delegated.{on_ok_of}
 use Rattle.esc_zone.proofs.Telling.{told_within}
+use Rattle.esc_zone.specs.Mirrors.{original_notes}
+use Rattle.esc_zone.proofs.Keeping.{keeps_same}
 use Rattle.esc_zone.proofs.draft.Draft.write_domain.Goals as goal
 
 pub returns-clause-noted : goal.returns-clause-noted
@@ -44,3 +46,16 @@ returns-clause-told c =
     (told_within z text rows start before after end c.in_ok-tell_statuses.ensures.told later
     c.in_ok-outcome.ensures.told))
     c.tell_foreign.ensures.told
+
+pub returns-clause-originals : goal.returns-clause-originals
+returns-clause-originals c =
+    let text = c.as_str-text.result.now in
+    let before = c.args.sheet.now.records in
+    let now = c.tell_statuses.new.sheet.records in
+    let after = c.place_domain.new.sheet.records in
+    let end = c.tell_foreign.new.sheet.records in
+    let is : text ≡ normal c.args.key.now.text = search rules in
+    let start : now ≡ before = search rules in
+    let finish : end ≡ after = search rules in
+    on_ok_of c.tell_foreign.result _ (keeps_same text (normal c.args.key.now.text) (original_notes c.args.self.now) _
+    before now after end is start finish c.in_ok-outcome.ensures.originals)
