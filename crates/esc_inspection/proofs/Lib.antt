@@ -1,6 +1,6 @@
-pub mod ChainBodies
 pub mod Cleared
 pub mod GreatestPlace
+pub mod KeptRows
 pub mod LastPlace
 pub mod Listed
 pub mod NewestRows

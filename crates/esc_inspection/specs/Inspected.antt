@@ -1,16 +1,15 @@
 -- What is seen of a store that reflects a list of events, for its acceptance.
 use Rattle.std.specs.Prelude.{◌≡◌, ℕ, ℤ, List, length, map, Bool, true, false, Option, count_by}
-use Rattle.std.specs.List.{list_any}
+use Rattle.std.specs.FinSet as set
 use Rattle.std.specs.Prelude.{string_bytes}
-use Rattle.sha2.specs.Sha256.{sha256}
-use Rattle.esc_tables.specs.Reading.{reading}
-use Rattle.esc_check.specs.FindingValue.{FindingValue}
+use Rattle.esc_chain.specs.Chain.{IsLatestChainAt}
 use Rattle.esc_store.specs.ReplyValue.{ReplyValue}
 use Rattle.esc_store.specs.declared.reply.Verdict.{Verdict}
 use Rattle.esc_store.specs.declared.reply.Verdict.TheVariants.{A1, A2, A3, A4, A5}
 use Rattle.esc_store.specs.declared.parked.ParkedBody.{ParkedBody}
 use Rattle.esc_events.specs.Apart.{WhereApart}
-use Rattle.esc_events.specs.Events.{EventValue, last_moment}
+use Rattle.esc_events.specs.Events.{EventValue, union, last_moment}
+use Rattle.esc_events.specs.LatestTables.{IsChainOf}
 use Rattle.esc_desk.specs.Reads.{replies_of, AreParkedOf}
 use Rattle.esc_conformity.specs.declared.rule.Rule.{Rule}
 use Rattle.esc_conformity.specs.Flaws.{flaws}
@@ -41,7 +40,7 @@ seen_in f = record {
   moment = f.books.moment;
   clock = f.clock;
   end = f.totals.end;
-  is_latest = f.is_latest;
+  is_latest = f.kept.is_latest;
   gaps = f.listing.gaps.items;
   parked = length f.parked.items;
   early = early_count f.books.receipts.items;
@@ -66,6 +65,7 @@ module _ (e : List EventValue) where
     pub lines : AreLinesFor e f.listing.held.items f.listing.gaps.items
     pub parked : AreParkedOf e f.parked.items
     pub spoiled : AreSpoiledAmong e f.listing.held.items f.bodies.spoiled.items
+    pub rows : IsChainOf e f.kept.rows.items
     pub chain : AreChainFactsOf e f.chain
     pub rebuilt : IsRebuiltFrom e f.chain f.is_rebuilt
 
@@ -76,4 +76,6 @@ module _ (e : List EventValue) where
     pub flawed : (rule : Rule) → keys_by f.flaws rule
         ≡ flaws rule (only_name (map string_bytes f.bodies.tlds.names.items))
         f.chain.objects.entries
+    pub latest : f.kept.is_latest ≡ true → IsLatestChainAt (union e)
+        (set.from_list f.listing.held.items) f.books.moment f.kept.rows.items
     pub kept : WhereApart e (AreKeptFacts f)

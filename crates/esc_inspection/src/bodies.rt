@@ -3,13 +3,11 @@
 ghost use Rattle.std.specs.Prelude.{◌≡◌, ◌++◌, ◌∷◌, [], ℕ, List, Option, map, cond, OnOk, IfErr};
 ghost use Rattle.esc_events.specs.Apart.{WhereApart};
 ghost use Rattle.esc_store.specs.Faults.{IsFailure};
-ghost use Rattle.esc_apply.specs.declared.front.Step.{Step};
 ghost use Rattle.esc_desk.specs.Reading.{IsReadOf, OkForEvents};
 ghost use Rattle.esc_acceptance.specs.Chains.{AreFactsOf};
-ghost use Rattle.esc_inspection.specs.Parts.{AreSpoiledAmong, AreChainFactsOf, body_at};
+ghost use Rattle.esc_inspection.specs.Parts.{AreSpoiledAmong, body_at};
 
 use esc_acceptance::{ChainFacts, Tlds, is_as_listed};
-use esc_apply::Step;
 use esc_bundle::NoMemory;
 use esc_desk::{Reads, StoreFault};
 use esc_handover::Progress;
@@ -96,37 +94,22 @@ fn read_held<R: Reads>(
     Ok(())
 }
 
-/// Reads what the deposits of the chain say, one body at a time.
+/// Reads what the deposits of these rows of a chain say, one body at a time.
 pub(crate) fn read_chain<R: Reads>(
     alloc: Global,
     reader: &mut R,
+    rows: &[usize],
     progress: &mut Progress<'_>,
 ) -> Result<ChainFacts, StoreFault>
     ensures read { IsReadOf R.follows R.reflects reader.old reader.new result }
     ensures facts { OkForEvents R.is_honest R.reflects reader.old reader.new result
-        (λ e facts. WhereApart e (AreChainFactsOf e facts)) }
-    ensures cause { IfErr result IsFailure }
-{
-    let steps = reader.chain(alloc)?;
-    read_steps(alloc, reader, &steps, progress)
-}
-
-fn read_steps<R: Reads>(
-    alloc: Global,
-    reader: &mut R,
-    steps: &[Step],
-    progress: &mut Progress<'_>,
-) -> Result<ChainFacts, StoreFault>
-    ensures read { IsReadOf R.follows R.reflects reader.old reader.new result }
-    ensures facts { OkForEvents R.is_honest R.reflects reader.old reader.new result
-        (λ e facts. WhereApart e
-        (AreFactsOf (map (λ (s : Step). body_at e s.row) steps.now) facts)) }
+        (λ e facts. WhereApart e (AreFactsOf (map (body_at e) rows.now) facts)) }
     ensures cause { IfErr result IsFailure }
 {
     let mut facts = ChainFacts::new(alloc);
-    for (count, step) in steps.iter().enumerate() {
+    for (count, row) in rows.iter().enumerate() {
         progress.tell_read("tables", count as u64, "bodies");
-        read_row(alloc, reader, step.row, &mut facts)?;
+        read_row(alloc, reader, *row, &mut facts)?;
     }
     Ok(facts)
 }

@@ -6,6 +6,7 @@ ghost use Rattle.esc_inspection.specs.Inspected.{seen_in, early_count};
 use crate::bodies::Bodies;
 use crate::books::Books;
 use crate::ending::Ending;
+use crate::kept::Kept;
 use crate::listing::Listing;
 use crate::totals::Totals;
 use esc_acceptance::{ChainFacts, Seen};
@@ -24,8 +25,7 @@ pub struct StoreFacts {
     pub listing: Listing,
     /// The bodies that no row lists.
     pub parked: Vec<ParkedBody>,
-    /// Whether the chain is the latest one of the held rows.
-    pub is_latest: bool,
+    pub kept: Kept,
     pub bodies: Bodies,
     /// What the deposits of the chain say.
     pub chain: ChainFacts,
@@ -46,7 +46,7 @@ impl StoreFacts {
             moment: self.books.moment,
             clock: self.clock,
             end: self.totals.end,
-            is_latest: self.is_latest,
+            is_latest: self.kept.is_latest,
             gaps: &self.listing.gaps,
             parked: self.parked.len(),
             early: early_in(&self.books.receipts),

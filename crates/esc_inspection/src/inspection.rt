@@ -13,7 +13,8 @@ use crate::books::read_books;
 use crate::ending::read_ending;
 use crate::facts::StoreFacts;
 use crate::form::Form;
-use crate::listing::{keeps_latest, read_listing};
+use crate::kept::read_kept;
+use crate::listing::read_listing;
 use crate::rebuilt::is_rebuilt;
 use crate::totals::read_totals;
 use esc_acceptance::{Report, Seen, report_of};
@@ -43,9 +44,9 @@ pub fn inspect<R: Reads>(
     let ending = read_ending(alloc, reader, progress)?;
     let listing = read_listing(alloc, reader, books.moment)?;
     let parked = reader.parked(alloc)?;
-    let is_latest = keeps_latest(alloc, reader, &listing.held, books.moment)?;
+    let kept = read_kept(alloc, reader, &listing.held, books.moment)?;
     let bodies = read_bodies(alloc, reader, &listing.held, progress)?;
-    let chain = read_chain(alloc, reader, progress)?;
+    let chain = read_chain(alloc, reader, &kept.rows, progress)?;
     let is_rebuilt = is_rebuilt(alloc, reader, &chain, progress)?;
     let flaws = Flaws::find(alloc, &chain.objects, bodies.tlds.only())?;
     Ok(StoreFacts {
@@ -55,7 +56,7 @@ pub fn inspect<R: Reads>(
         ending,
         listing,
         parked,
-        is_latest,
+        kept,
         bodies,
         chain,
         flaws,

@@ -31,9 +31,11 @@
 //! (`specs/AllClear.antt`).
 //!
 //! On an honest disk the bodies are as listed, the chain is the latest, and the tables are those of
-//! the bodies. So that these three tests find a disk that isn't is said by the calls that compare,
-//! `is_as_listed`, `is_latest` and `are_listed` of `esc_acceptance`, and it is tested. Which TLDs,
-//! notes and declared tables there are has no contract.
+//! the bodies. Whether the disk is honest or not, the chain that was read is the latest one of the
+//! rows that are held, where it is said so (`latest` of `AreFactsAfter`). That the other two tests
+//! find a disk that isn't honest is said by the calls that compare, `is_as_listed` and `are_listed`
+//! of `esc_acceptance`, and it is tested. Which TLDs, notes and declared tables there are has no
+//! contract.
 #![tactic(auto)]
 
 mod bodies;
@@ -42,6 +44,7 @@ mod ending;
 mod facts;
 mod form;
 mod inspection;
+mod kept;
 mod laws;
 mod listing;
 mod rebuilt;
@@ -53,6 +56,7 @@ pub use ending::Ending;
 pub use facts::StoreFacts;
 pub use form::Form;
 pub use inspection::{acceptance, answer_of, inspect};
+pub use kept::Kept;
 pub use laws::status_zero_is_all_clear;
 pub use listing::Listing;
 pub use totals::Totals;

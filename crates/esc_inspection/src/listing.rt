@@ -1,16 +1,13 @@
-//! The held rows, the line of each listed place, and whether the chain is the latest one.
+//! The held rows, and the line of each listed place.
 
-ghost use Rattle.std.specs.Prelude.{◌≡◌, map, IfOk, IfErr};
-ghost use Rattle.esc_apply.specs.declared.front.Step.{Step};
+ghost use Rattle.std.specs.Prelude.{◌≡◌, IfErr};
 ghost use Rattle.esc_events.specs.Apart.{WhereApart};
 ghost use Rattle.esc_events.specs.Events.{last_moment};
 ghost use Rattle.esc_store.specs.Faults.{IsFailure};
 ghost use Rattle.esc_desk.specs.Reading.{IsReadOf, OkForEvents};
 ghost use Rattle.esc_inspection.specs.Parts.{AreLinesFor};
 
-use esc_acceptance::{gaps_of, is_latest};
-use esc_apply::Step;
-use esc_bundle::NoMemory;
+use esc_acceptance::gaps_of;
 use esc_chain::GapLine;
 use esc_desk::{Cause, Reads, StoreFault};
 use std::alloc::Global;
@@ -42,32 +39,4 @@ pub(crate) fn read_listing<R: Reads>(
         Cause::Contradiction,
     ))?;
     Ok(Listing { held, gaps })
-}
-
-// The rows of steps.
-fn rows_of(alloc: Global, steps: &[Step]) -> Result<Vec<usize>, NoMemory>
-    ensures { IfOk result (λ rows. rows.items ≡ map (λ (s : Step). s.row) steps.now) }
-{
-    let mut rows = Vec::new(alloc);
-    for step in steps {
-        rows.push(step.row)?;
-    }
-    Ok(rows)
-}
-
-/// Whether the chain that is kept is the latest one of these held rows, up to a moment.
-#[tactic(auto, using(crate::proofs::Reading::reads_stay))]
-pub(crate) fn keeps_latest<R: Reads>(
-    alloc: Global,
-    reader: &mut R,
-    held: &[usize],
-    moment: Option<i64>,
-) -> Result<bool, StoreFault>
-    ensures read { IsReadOf R.follows R.reflects reader.old reader.new result }
-    ensures cause { IfErr result IsFailure }
-{
-    let rows = rows_of(alloc, &reader.chain(alloc)?)?;
-    Ok(is_latest(alloc, reader.manifest(), held, moment, &rows)?.ok_or(StoreFault::Failed(
-        Cause::Contradiction,
-    ))?)
 }

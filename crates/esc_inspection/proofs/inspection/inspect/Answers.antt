@@ -1,6 +1,10 @@
-use Rattle.std.proofs.Common.{rules, ◌∙◌, ap, subst, List, ℕ}
+use Rattle.std.proofs.Common.{◌≡◌, true, map, rules, ◌∙◌, ap, subst, List, ℕ}
+use Rattle.std.specs.FinSet as set
+use Rattle.esc_acceptance.specs.Chains.{AreFactsOf}
+use Rattle.esc_chain.specs.Chain.{IsLatestChainAt}
+use Rattle.esc_events.specs.Events.{union}
 use Rattle.esc_conformity.specs.Flaws.{flaws}
-use Rattle.esc_inspection.specs.Parts.{AreSpoiledAmong}
+use Rattle.esc_inspection.specs.Parts.{AreSpoiledAmong, body_at}
 use Rattle.esc_inspection.proofs.Reading.{read_made, read_then}
 use Rattle.esc_inspection.proofs.inspection.inspect.Goals as goal
 
@@ -10,7 +14,7 @@ returns-clause-facts g c = λ clean e serves.
     let honest8 = laws.was_honest _ _ c.in_ok-is_rebuilt.ensures.read.follows clean in
     let honest7 = laws.was_honest _ _ c.in_ok-chain.ensures.read.follows honest8 in
     let honest6 = laws.was_honest _ _ c.in_ok-bodies.ensures.read.follows honest7 in
-    let honest5 = laws.was_honest _ _ c.in_ok-is_latest.ensures.read.follows honest6 in
+    let honest5 = laws.was_honest _ _ c.in_ok-kept.ensures.read.follows honest6 in
     let honest4 = laws.was_honest _ _ c.in_ok-parked.ensures.read.follows honest5 in
     let honest3 = laws.was_honest _ _ c.in_ok-listing.ensures.read.follows honest4 in
     let honest2 = laws.was_honest _ _ c.in_ok-ending.ensures.read.follows honest3 in
@@ -20,7 +24,7 @@ returns-clause-facts g c = λ clean e serves.
     let serves3 = c.in_ok-ending.ensures.read.reflects e serves2 in
     let serves4 = c.in_ok-listing.ensures.read.reflects e serves3 in
     let serves5 = c.in_ok-parked.ensures.read.reflects e serves4 in
-    let serves6 = c.in_ok-is_latest.ensures.read.reflects e serves5 in
+    let serves6 = c.in_ok-kept.ensures.read.reflects e serves5 in
     let serves7 = c.in_ok-bodies.ensures.read.reflects e serves6 in
     let serves8 = c.in_ok-chain.ensures.read.reflects e serves7 in
     let moment = c.in_ok-books.ensures.moment honest1 e serves in
@@ -29,6 +33,10 @@ returns-clause-facts g c = λ clean e serves.
       receipts = c.in_ok-books.ensures.receipts honest1 e serves;
       flawed = λ rule. c.in_ok-flaws.ensures rule
           ∙ ap (λ tld. flaws rule tld c.in_ok-chain.chain.objects.entries) c.only.ensures;
+      latest = subst (λ (rows : List ℕ). c.in_ok-kept.kept.is_latest ≡ true
+          → IsLatestChainAt (union e) (set.from_list rows) c.in_ok-books.books.moment
+          c.in_ok-kept.kept.rows.items)
+          c.deref.ensures.value (c.in_ok-kept.ensures.latest e serves5);
       kept = λ apart. record {
         totals = c.in_ok-totals.ensures.totals honest2 e serves1 apart;
         ending = c.in_ok-ending.ensures.ending honest3 e serves2 apart;
@@ -36,7 +44,13 @@ returns-clause-facts g c = λ clean e serves.
         parked = c.in_ok-parked.ensures.bodies honest5 e serves4;
         spoiled = subst (λ (rows : List ℕ). AreSpoiledAmong e rows c.in_ok-bodies.bodies.spoiled.items)
             c.deref-2.ensures.value (c.in_ok-bodies.ensures.spoiled honest7 e serves6 apart);
-        chain = c.in_ok-chain.ensures.facts honest8 e serves7 apart;
+        rows = c.in_ok-kept.ensures.rows honest6 e serves5 apart;
+        chain = record {
+          chain = c.in_ok-kept.kept.rows.items;
+          latest = c.in_ok-kept.ensures.rows honest6 e serves5 apart;
+          say = subst (λ (rows : List ℕ). AreFactsOf (map (body_at e) rows) c.in_ok-chain.chain)
+              c.deref-3.ensures.value (c.in_ok-chain.ensures.facts honest8 e serves7 apart);
+        };
         rebuilt = c.in_ok-is_rebuilt.ensures.rebuilt clean e serves8 apart;
       };
     }
@@ -83,8 +97,8 @@ returns-in_err-parked-clause-read g c =
       reflects = search rules;
     }
 
-pub returns-in_err-is_latest-clause-read : goal.returns-in_err-is_latest-clause-read
-returns-in_err-is_latest-clause-read g c =
+pub returns-in_err-kept-clause-read : goal.returns-in_err-kept-clause-read
+returns-in_err-kept-clause-read g c =
     let goes_on = g.met.R.Reads.goes_on in
     let read1 = c.in_ok-books.ensures.read in
     let read2 = read_then goes_on read1 c.in_ok-totals.ensures.read in
@@ -92,7 +106,7 @@ returns-in_err-is_latest-clause-read g c =
     let read4 = read_then goes_on read3 c.in_ok-listing.ensures.read in
     let read5 = read_then goes_on read4 c.in_ok-parked.ensures.read in
     record {
-      follows = goes_on _ _ _ read5.follows c.in_err-is_latest.ensures.read.follows;
+      follows = goes_on _ _ _ read5.follows c.in_err-kept.ensures.read.follows;
       reflects = search rules;
     }
 
@@ -104,7 +118,7 @@ returns-in_err-bodies-clause-read g c =
     let read3 = read_then goes_on read2 c.in_ok-ending.ensures.read in
     let read4 = read_then goes_on read3 c.in_ok-listing.ensures.read in
     let read5 = read_then goes_on read4 c.in_ok-parked.ensures.read in
-    let read6 = read_then goes_on read5 c.in_ok-is_latest.ensures.read in
+    let read6 = read_then goes_on read5 c.in_ok-kept.ensures.read in
     record {
       follows = goes_on _ _ _ read6.follows c.in_err-bodies.ensures.read.follows;
       reflects = search rules;
@@ -118,7 +132,7 @@ returns-in_err-chain-clause-read g c =
     let read3 = read_then goes_on read2 c.in_ok-ending.ensures.read in
     let read4 = read_then goes_on read3 c.in_ok-listing.ensures.read in
     let read5 = read_then goes_on read4 c.in_ok-parked.ensures.read in
-    let read6 = read_then goes_on read5 c.in_ok-is_latest.ensures.read in
+    let read6 = read_then goes_on read5 c.in_ok-kept.ensures.read in
     let read7 = read_then goes_on read6 c.in_ok-bodies.ensures.read in
     record {
       follows = goes_on _ _ _ read7.follows c.in_err-chain.ensures.read.follows;
@@ -133,7 +147,7 @@ returns-in_err-is_rebuilt-clause-read g c =
     let read3 = read_then goes_on read2 c.in_ok-ending.ensures.read in
     let read4 = read_then goes_on read3 c.in_ok-listing.ensures.read in
     let read5 = read_then goes_on read4 c.in_ok-parked.ensures.read in
-    let read6 = read_then goes_on read5 c.in_ok-is_latest.ensures.read in
+    let read6 = read_then goes_on read5 c.in_ok-kept.ensures.read in
     let read7 = read_then goes_on read6 c.in_ok-bodies.ensures.read in
     let read8 = read_then goes_on read7 c.in_ok-chain.ensures.read in
     record {
@@ -149,7 +163,7 @@ returns-in_err-flaws-clause-read g c =
     let read3 = read_then goes_on read2 c.in_ok-ending.ensures.read in
     let read4 = read_then goes_on read3 c.in_ok-listing.ensures.read in
     let read5 = read_then goes_on read4 c.in_ok-parked.ensures.read in
-    let read6 = read_then goes_on read5 c.in_ok-is_latest.ensures.read in
+    let read6 = read_then goes_on read5 c.in_ok-kept.ensures.read in
     let read7 = read_then goes_on read6 c.in_ok-bodies.ensures.read in
     let read8 = read_then goes_on read7 c.in_ok-chain.ensures.read in
     let read9 = read_then goes_on read8 c.in_ok-is_rebuilt.ensures.read in
@@ -163,7 +177,7 @@ returns-clause-read g c =
     let read3 = read_then goes_on read2 c.in_ok-ending.ensures.read in
     let read4 = read_then goes_on read3 c.in_ok-listing.ensures.read in
     let read5 = read_then goes_on read4 c.in_ok-parked.ensures.read in
-    let read6 = read_then goes_on read5 c.in_ok-is_latest.ensures.read in
+    let read6 = read_then goes_on read5 c.in_ok-kept.ensures.read in
     let read7 = read_then goes_on read6 c.in_ok-bodies.ensures.read in
     let read8 = read_then goes_on read7 c.in_ok-chain.ensures.read in
     let read9 = read_then goes_on read8 c.in_ok-is_rebuilt.ensures.read in
