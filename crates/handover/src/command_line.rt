@@ -1,7 +1,6 @@
 //! The words of the program, and what it does for them.
 
 use crate::bundle::Splitting;
-use crate::clock::clock_of;
 use crate::store_file::{Task, use_store};
 use crate::tables::Tabling;
 use crate::zone::Zoning;
@@ -21,19 +20,19 @@ The store is opened as `restore report` opens it, and nothing in it is changed. 
 standard error has a line as the opening begins and, every two seconds, one that says how much was
 read.
 
-Refusals go to standard error: E1 PATH (can't be read or written), E3 TIME (it is no watermark), S1
-(the store failed), S2 (no memory), S3 (no store, one of another version, or another database); U4 OUT
-(over 16,777,216 bytes, or over 63 tables), U6 OUT (the id isn't 1 to 64 of A-Z a-z 0-9 . _ -), U11
-OUT (over 100,000 rows), each with a kind and a key where one object alone is it; M1 OUT (over 4,096
-bundles); H4 TABLE (rows of this table have different fields), H5 TABLE (no field has the key in each
-row of this table), H6 TABLE (its rows begin with a byte order mark), H7 (there is no chain yet), H8
-OUT (the bundle reads as other objects), H9 TABLE (another table has the same name but for case), H10
+Refusals go to standard error: E1 PATH (can't be read or written), S1 (the store failed), S2 (no
+memory), S3 (no store, one of another version, or another database); U4 OUT (over 16,777,216 bytes,
+or over 63 tables), U6 OUT (the id isn't 1 to 64 of A-Z a-z 0-9 . _ -), U11 OUT (over 100,000 rows),
+each with a kind and a key where one object alone is it; M1 OUT (over 4,096 bundles);
+H4 TABLE (rows of this table have different fields), H5 TABLE (no field has the key in each row of
+this table), H6 TABLE (its rows begin with a byte order mark), H7 (there is no chain yet), H8 OUT
+(the bundle reads as other objects), H9 TABLE (another table has the same name but for case), H10
 TABLE (SQLite can't have this table: two of its columns have the same name but for case, it has over
 2,000 of them, or its name begins with sqlite_), H11 TABLE (PostgreSQL can't load this table: a name
 has 64 bytes, or a column is called key or as one of its own, such as ctid; it has over 1,600 columns,
 a NUL, or a line that is \\. alone); Z1 to Z7 (`handover zone --help`). With -v a second line says why
-it is E1 or S: why: check desk.db: locked by another process.
-Status: 0 done; 1 refused by E3, U, H or Z, or by a test of check; 2 invalid usage; 3 stopped by S or E1.
+it is E or S: why: check desk.db: locked by another process.
+Status: 0 done; 1 refused by U, H or Z, or by a test of check; 2 invalid usage; 3 stopped by S or E1.
 ";
 
 const BUNDLE: &str = "\
@@ -69,7 +68,7 @@ is wrong and what to do. The status is 1 if one is wrong, with --strict also if 
 
 tld         the bundles that are held name one TLD at most
 end         no place is listed after the chain's end, up to the moment that is set
-future      the chain's end is not later than now, by this machine's clock or by --now
+future      the chain's end is not later than now, by this machine's clock
 chain       the chain is the latest one of the bundles that are held
 resends     no place of the chain awaits a later resend
 gaps        no place before the end is missing or blocked (told)
@@ -92,10 +91,9 @@ bodies      each bundle that is held has the SHA-256 that is listed, and can be 
 tables      the tables are those that the bundles of the chain make when they are applied again
 notes       the bundles of the chain have no notes; each is told on a line below (told)
 
-All bundles are read again. With --now the lines are the same at any time. Example:
+All bundles are read again. Example:
 
     handover check --store desk.db --strict
-    handover check --store desk.db --now 2024-03-12T09:00:00Z
 ";
 
 const TABLES: &str = "\
@@ -162,15 +160,6 @@ the registry, so keep it as the exports are kept. The status is 0 even if a test
     handover page --store desk.db release.html
 ";
 
-// What time it is, for a command that tests it.
-const NOW: Argument = Argument {
-    id: "now",
-    form: ArgumentForm::FreeOption,
-    value_name: "TIME",
-    values: ValueParser::String,
-    help: "What time it is, as 2024-03-10T00:00:00Z; else this machine's clock says it",
-};
-
 static PROGRAM: Program = Program {
     name: "handover",
     version: VERSION,
@@ -197,31 +186,25 @@ static PROGRAM: Program = Program {
             name: "check",
             about: "Prints whether the registry may be taken over as it is, a line for each test",
             details: Some(CHECK),
-            arguments: &[
-                Argument {
-                    id: "strict",
-                    form: ArgumentForm::Flag,
-                    value_name: "",
-                    values: ValueParser::Bool,
-                    help: "The status is 1 where anything is told, too",
-                },
-                NOW,
-            ],
+            arguments: &[Argument {
+                id: "strict",
+                form: ArgumentForm::Flag,
+                value_name: "",
+                values: ValueParser::Bool,
+                help: "The status is 1 where anything is told, too",
+            }],
         },
         Subcommand {
             name: "page",
             about: "Writes a page that shows the release and the registry, for a browser",
             details: Some(PAGE),
-            arguments: &[
-                NOW,
-                Argument {
-                    id: "target",
-                    form: ArgumentForm::Word,
-                    value_name: "OUT",
-                    values: ValueParser::String,
-                    help: "Where the page is written; nothing may be there",
-                },
-            ],
+            arguments: &[Argument {
+                id: "target",
+                form: ArgumentForm::Word,
+                value_name: "OUT",
+                values: ValueParser::String,
+                help: "Where the page is written; nothing may be there",
+            }],
         },
         Subcommand {
             name: "bundle",
@@ -355,12 +338,10 @@ pub fn run_words<O: Write, E: Write>(
     }
 }
 
-// What the program is asked to do: with which store, at which time, if that is given, and whether it
-// is told how far the work is.
+// What the program is asked to do: with which store, and whether it is told how far the work is.
 #[derive(Clone, Copy)]
 struct Command<'a> {
     store: &'a str,
-    now: Option<&'a str>,
     is_watched: bool,
     task: Task<'a>,
 }
@@ -369,17 +350,15 @@ struct Command<'a> {
 fn perform<O: Write>(rt: &HostRuntime, command: Command<'_>, out: &mut O) -> Result<u8, Stop> {
     let Command {
         store,
-        now,
         is_watched,
         task,
     } = command;
-    let clock = clock_of(rt, now)?;
     match task {
         Task::Tables(words) => check_folder(rt, words.folder)?,
         Task::Series(words) => check_folder(rt, words.folder)?,
         _ => {}
     }
-    let made = use_store(rt, store, is_watched, task, clock)?;
+    let made = use_store(rt, store, is_watched, task)?;
     match task {
         Task::Check { .. } | Task::Zone(_) => or_stop(rt, "-", out.write_all(&made.text))?,
         Task::Page { path } | Task::Bundle { path, .. } => place_file(rt, path, &made.text)?,
@@ -401,7 +380,6 @@ fn command_of<'a>(rt: &'a HostRuntime, matches: &ArgMatches<'a>) -> Option<Comma
     let (name, given) = matches.subcommand()?;
     Some(Command {
         store: given.get_str("store")?,
-        now: given.get_str("now"),
         is_watched: given.get_flag("progress"),
         task: task_of(rt, name, given)?,
     })
