@@ -204,11 +204,13 @@ mod notes;
 mod passes;
 mod reading;
 mod records;
+mod settling;
 mod shapes;
 mod sheet;
 mod signer;
 mod signers;
 mod status;
+mod taking;
 mod words;
 
 pub use apex::{Apex, read_apex};

@@ -69,16 +69,9 @@ impl Draft {
             then Some text.now else None)) }
     {
         match name_in(self.alloc, text, false)? {
-            Some(name) if self.has_domain(&name) => Ok(Some(name)),
+            Some(name) if self.is_domain(&name) => Ok(Some(name)),
             _ => Ok(None),
         }
-    }
-
-    // Whether a name that matters to others is that of a domain.
-    fn has_domain(&self, name: &Name) -> bool
-        ensures { result ≡ (original_notes self.now).is_domain name.now }
-    {
-        self.places.get(name).is_some_and(|place| place.is_domain)
     }
 
     // Writes a name with the servers that this original has.

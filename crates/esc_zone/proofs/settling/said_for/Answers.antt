@@ -3,7 +3,7 @@ use Rattle.esc_zone.specs.declared.address.Said.{Said}
 use Rattle.esc_zone.specs.Addresses.{said_texts}
 use Rattle.esc_zone.specs.Noted.{attribute_value, text_for}
 use Rattle.esc_zone.proofs.Listed.{parts_step_both}
-use Rattle.esc_zone.proofs.notes.said_for.Goals as goal
+use Rattle.esc_zone.proofs.settling.said_for.Goals as goal
 
 pub loop-attribute-preserved : goal.loop-attribute-preserved
 loop-attribute-preserved c =

@@ -3,7 +3,7 @@ use Rattle.esc_zone.specs.declared.address.Said.{Said}
 use Rattle.esc_zone.specs.Addresses.{said_texts}
 use Rattle.esc_zone.specs.Noted.{host_text}
 use Rattle.esc_zone.proofs.Listed.{parts_step_after}
-use Rattle.esc_zone.proofs.notes.add_rows.Goals as goal
+use Rattle.esc_zone.proofs.taking.add_rows.Goals as goal
 
 pub loop-row-preserved : goal.loop-row-preserved
 loop-row-preserved c =
