@@ -398,6 +398,9 @@ def test_progress(stage: Stage) -> None:
 # Words that are no command. The last one has a byte that is no UTF-8.
 NO_WORDS = ('', 'check', 'check --store', 'check --store a.db more',
             'check --store a.db --store a.db', 'check --store a.db --id G1', 'Check --store a.db',
+            'check --store a.db --now', 'page --store a.db out --now', 'page --store a.db --now G1',
+            'check --store a.db --now 2024-03-03T00:00:00Z --now 2024-03-03T00:00:00Z',
+            'bundle --store a.db --id G1 --now 2024-03-03T00:00:00Z out',
             '--store a.db check', 'rows --store a.db out', 'bundle --store a.db',
             'bundle --store a.db --id G1', 'bundle --store a.db out', 'bundle --id G1 out',
             'bundle --store a.db --id G1 out more', 'bundle --store a.db --id G1 --all out', 'page',

@@ -67,7 +67,8 @@ is_series id w runs some order =
     record {
       types = record {
         some = subst (λ n. 0 < n) (sym (as_many id w es of 0 runs)) some;
-        each = λ k d below. typed id w es of 0 runs k d (subst (λ n. k < n) (as_many id w es of 0 runs) below) k (omega arith);
+        each = λ k d below. typed id w es of 0 runs k d
+            (subst (λ n. k < n) (as_many id w es of 0 runs) below) k (omega arith);
       };
       deletes = λ q. ap (λ (l : List KeyName). list_any (key_eq q) l) (no_deletes id w es of 0 runs);
       contents = record {

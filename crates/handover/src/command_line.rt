@@ -1,6 +1,7 @@
 //! The words of the program, and what it does for them.
 
 use crate::bundle::Splitting;
+use crate::clock::clock_of;
 use crate::store_file::{Task, use_store};
 use crate::tables::Tabling;
 use crate::zone::Zoning;
@@ -8,6 +9,7 @@ use clap::builder::ValueParser;
 use clap::{ArgMatches, Error};
 use esc_cli::{Argument, ArgumentForm, Asked, Program, Subcommand, USAGE, print_answer};
 use esc_handover::{Stop, check_folder, or_stop, place_file, tell_stop};
+use std::alloc::Global;
 use std::io::Write;
 
 /// The version of the program, and that of the stores that it opens.
@@ -16,32 +18,29 @@ const VERSION: &str = "1 (store version 2)";
 const ABOUT: &str = "Hands over the registry that restore has rebuilt";
 
 const DETAILS: &str = "\
-The store is opened as `restore report` opens it, and nothing in it is changed. With --progress,
-standard error has a line as the opening begins and, every two seconds, one that says how much was
+Nothing in the store is changed. With --progress, standard error says every two seconds how much was
 read.
 
-Refusals go to standard error: E1 PATH (can't be read or written), S1 (the store failed), S2 (no
-memory), S3 (no store, one of another version, or another database); U4 OUT (over 16,777,216 bytes,
-or over 63 tables), U6 OUT (the id isn't 1 to 64 of A-Z a-z 0-9 . _ -), U11 OUT (over 100,000 rows),
-each with a kind and a key where one object alone is it; M1 OUT (over 4,096 bundles);
-H4 TABLE (rows of this table have different fields), H5 TABLE (no field has the key in each row of
-this table), H6 TABLE (its rows begin with a byte order mark), H7 (there is no chain yet), H8 OUT
-(the bundle reads as other objects), H9 TABLE (another table has the same name but for case), H10
+Refusals go to standard error: E1 PATH (can't be read or written), E3 TIME (it is no watermark), S1
+(the store failed), S2 (no memory), S3 (no store, one of another version, or another database); U4 OUT
+(over 16,777,216 bytes, or over 63 tables), U6 OUT (the id isn't 1 to 64 of A-Z a-z 0-9 . _ -), U11
+OUT (over 100,000 rows), each with a kind and a key where one object alone is it; M1 OUT (over 4,096
+bundles); H4 TABLE (rows of this table have different fields), H5 TABLE (no field has the key in each
+row of this table), H6 TABLE (its rows begin with a byte order mark), H7 (there is no chain yet), H8
+OUT (the bundle reads as other objects), H9 TABLE (another table has the same name but for case), H10
 TABLE (SQLite can't have this table: two of its columns have the same name but for case, it has over
 2,000 of them, or its name begins with sqlite_), H11 TABLE (PostgreSQL can't load this table: a name
 has 64 bytes, or a column is called key or as one of its own, such as ctid; it has over 1,600 columns,
 a NUL, or a line that is \\. alone); Z1 to Z7 (`handover zone --help`). With -v a second line says why
-it is E or S: why: check desk.db: locked by another process.
-Status: 0 done; 1 refused by U, H or Z, or by a test of check; 2 invalid usage; 3 stopped by S or E1.
+it is E1 or S: why: check desk.db: locked by another process.
+Status: 0 done; 1 refused by E3, U, H or Z, or by a test of check; 2 invalid usage; 3 stopped by S or E1.
 ";
 
 const BUNDLE: &str = "\
 The tables are written as one deposit: a Full at the watermark of the chain's end, with the number of
 objects of each kind in counts. It is the next deposit to make. A registry that is rebuilt from it
-alone has the same tables, and so the same exports, to the byte. Each table is declared by the fields
-that its rows have, in their order. A bundle declares the fields of a table once, so where rows of
-one table have different fields there is no bundle (H4): the deposits of the chain declare the table
-in different ways, and one of them has to be generated again. Nothing is printed. Example:
+alone has the same tables, and so the same exports, to the byte. Where rows of one table have
+different fields there is no bundle (H4): a deposit of the chain has to be generated again. Example:
 
     handover bundle --store desk.db --id F20 next/n1
     pack manifest next/n1 > next.csv
@@ -52,10 +51,9 @@ deposits/ID-001 ..  the bundles of the deposit: the first is a Full, each other 
                     the one before; each object is whole in one of them
 manifest.csv        the manifest that lists them
 
-The last bundle has the id and the watermark of the deposit, those before it have ID.1of12 and so on,
-a nanosecond apart. It alone has counts. The memory of one bundle is needed. The files are made in
-OUT.part, which becomes OUT when they are whole. Refused: U4 or U11 with the kind and the key of an
-object that no bundle takes alone; M1 OUT (over 4,096 bundles). Example:
+The last bundle has the id and the watermark of the deposit, and alone has counts; those before it
+have ID.1of12 and so on, a nanosecond apart. The memory of one bundle is needed. The files are made in
+OUT.part, which becomes OUT when they are whole. Example:
 
     handover bundle --store desk.db --id F20 --series next
     restore init --store new.db --manifest next/manifest.csv
@@ -68,7 +66,7 @@ is wrong and what to do. The status is 1 if one is wrong, with --strict also if 
 
 tld         the bundles that are held name one TLD at most
 end         no place is listed after the chain's end, up to the moment that is set
-future      the chain's end is not later than now, by this machine's clock
+future      the chain's end is not later than now, by this machine's clock or by --now
 chain       the chain is the latest one of the bundles that are held
 resends     no place of the chain awaits a later resend
 gaps        no place before the end is missing or blocked (told)
@@ -91,9 +89,10 @@ bodies      each bundle that is held has the SHA-256 that is listed, and can be 
 tables      the tables are those that the bundles of the chain make when they are applied again
 notes       the bundles of the chain have no notes; each is told on a line below (told)
 
-All bundles are read again. Example:
+All bundles are read again. With --now the lines are the same at any time. Example:
 
     handover check --store desk.db --strict
+    handover check --store desk.db --now 2024-03-12T09:00:00Z
 ";
 
 const TABLES: &str = "\
@@ -115,8 +114,7 @@ refers to its parent row by it. A column that names objects refers to them, if t
 column is of moments or of integers where each row has one, and else of texts; a comment on it says
 so. An empty text is NULL.
 
-The files are made in DIR.part, which becomes DIR when they are whole. With --progress there is also a
-line for each file that is written. Example:
+The files are made in DIR.part, which becomes DIR when they are whole. Example:
 
     handover tables --store desk.db --sqlite registry
     sqlite3 registry/registry.sqlite 'SELECT hostName, count(*) FROM domainNs GROUP BY hostName'
@@ -150,16 +148,26 @@ OUT.part is written, which becomes OUT when it is whole. Example:
 ";
 
 const PAGE: &str = "\
-One page of HTML, which a browser opens from the file. It has whether the registry may be taken over,
-with the lines of check; a picture of the release, and a table that says the same: when each listed
-deposit is, and whether it is in the chain, standing, blocked, missing or awaited again; the objects
-of each kind beside the declared numbers; the findings by code and the receipts by verdict, the first
-twenty of each; and the parked bodies. The page loads nothing and runs nothing. It names objects of
-the registry, so keep it as the exports are kept. The status is 0 even if a test is wrong. Example:
+One page of HTML, for a browser: whether the registry may be taken over, with the lines of check; a
+picture and a table of the listed deposits; the objects of each kind beside the declared numbers; the
+findings by code and the receipts by verdict, the first twenty of each; and the parked bodies. It
+loads and runs nothing. It names objects of the registry, so keep it as the exports are kept. The
+status is 0 even if a test is wrong. Example:
 
     handover page --store desk.db release.html
 ";
 
+// What time it is, for a command that tests it.
+const NOW: Argument = Argument {
+    id: "now",
+    form: ArgumentForm::FreeOption,
+    value_name: "TIME",
+    values: ValueParser::String,
+    help: "What time it is, as 2024-03-10T00:00:00Z; else this machine's clock says it",
+};
+
+// Its texts are near the prover's limit of steps for one table: with 500 bytes more it has no
+// verdict.
 static PROGRAM: Program = Program {
     name: "handover",
     version: VERSION,
@@ -186,25 +194,31 @@ static PROGRAM: Program = Program {
             name: "check",
             about: "Prints whether the registry may be taken over as it is, a line for each test",
             details: Some(CHECK),
-            arguments: &[Argument {
-                id: "strict",
-                form: ArgumentForm::Flag,
-                value_name: "",
-                values: ValueParser::Bool,
-                help: "The status is 1 where anything is told, too",
-            }],
+            arguments: &[
+                Argument {
+                    id: "strict",
+                    form: ArgumentForm::Flag,
+                    value_name: "",
+                    values: ValueParser::Bool,
+                    help: "The status is 1 where anything is told, too",
+                },
+                NOW,
+            ],
         },
         Subcommand {
             name: "page",
             about: "Writes a page that shows the release and the registry, for a browser",
             details: Some(PAGE),
-            arguments: &[Argument {
-                id: "target",
-                form: ArgumentForm::Word,
-                value_name: "OUT",
-                values: ValueParser::String,
-                help: "Where the page is written; nothing may be there",
-            }],
+            arguments: &[
+                NOW,
+                Argument {
+                    id: "target",
+                    form: ArgumentForm::Word,
+                    value_name: "OUT",
+                    values: ValueParser::String,
+                    help: "Where the page is written; nothing may be there",
+                },
+            ],
         },
         Subcommand {
             name: "bundle",
@@ -328,7 +342,7 @@ pub fn run_words<O: Write, E: Write>(
     out: &mut O,
     err: &mut E,
 ) -> u8 {
-    let matches = match PROGRAM.matches_of(rt.alloc(), words) {
+    let matches = match asked_in(rt.alloc(), words) {
         Ok(matches) => matches,
         Err(error) => return tell_error(rt, &error, out, err),
     };
@@ -338,10 +352,17 @@ pub fn run_words<O: Write, E: Write>(
     }
 }
 
-// What the program is asked to do: with which store, and whether it is told how far the work is.
+// What the words ask for. Alone, so that the table stands in one small proof.
+fn asked_in<'a>(alloc: Global, words: &'a [String]) -> Result<ArgMatches<'a>, Error> {
+    PROGRAM.matches_of(alloc, words)
+}
+
+// What the program is asked to do: with which store, at which time, if that is given, and whether it
+// is told how far the work is.
 #[derive(Clone, Copy)]
 struct Command<'a> {
     store: &'a str,
+    now: Option<&'a str>,
     is_watched: bool,
     task: Task<'a>,
 }
@@ -350,15 +371,17 @@ struct Command<'a> {
 fn perform<O: Write>(rt: &HostRuntime, command: Command<'_>, out: &mut O) -> Result<u8, Stop> {
     let Command {
         store,
+        now,
         is_watched,
         task,
     } = command;
+    let clock = clock_of(rt, now)?;
     match task {
         Task::Tables(words) => check_folder(rt, words.folder)?,
         Task::Series(words) => check_folder(rt, words.folder)?,
         _ => {}
     }
-    let made = use_store(rt, store, is_watched, task)?;
+    let made = use_store(rt, store, is_watched, task, clock)?;
     match task {
         Task::Check { .. } | Task::Zone(_) => or_stop(rt, "-", out.write_all(&made.text))?,
         Task::Page { path } | Task::Bundle { path, .. } => place_file(rt, path, &made.text)?,
@@ -380,6 +403,7 @@ fn command_of<'a>(rt: &'a HostRuntime, matches: &ArgMatches<'a>) -> Option<Comma
     let (name, given) = matches.subcommand()?;
     Some(Command {
         store: given.get_str("store")?,
+        now: given.get_str("now"),
         is_watched: given.get_flag("progress"),
         task: task_of(rt, name, given)?,
     })

@@ -1,7 +1,6 @@
 //! The store in a file: how it is opened and left, and what is made of it in between.
 
 use crate::bundle::{Splitting, tables_bundle, write_bundles};
-use crate::clock::time_now;
 use crate::tables::{Tabling, write_tables};
 use crate::zone::{Zoning, write_zone};
 use esc_desk::Reads;
@@ -28,18 +27,19 @@ pub enum Task<'a> {
     Page { path: &'a str },
 }
 
-/// Does a task with the store in a file, and tells how far it is if that is asked for. The store is
-/// not closed: nothing was written.
+/// Does a task with the store in a file, and tells how far it is if that is asked for. The clock
+/// says what time it is, if that is known. The store is not closed: nothing was written.
 pub fn use_store(
     rt: &HostRuntime,
     path: &str,
     is_watched: bool,
     task: Task<'_>,
+    clock: Option<i64>,
 ) -> Result<Answer, Stop> {
     let mut progress = Progress::new(rt, is_watched);
     progress.tell_opening(path);
     match reader_at(rt, path, Unknown) {
-        Ok(mut reader) => perform(rt.alloc(), &mut reader, task, time_now(rt), progress),
+        Ok(mut reader) => perform(rt.alloc(), &mut reader, task, clock, progress),
         Err(fault) => Err(stop_of(rt, path, fault)),
     }
 }
