@@ -3,11 +3,8 @@ use Rattle.std.specs.Prelude.{ℕ, ℤ, pos, List, Option, option_map}
 use Rattle.sqlite_keyed.specs.Keyed.{get_by}
 use Rattle.esc_sql.specs.Rows.{ObjectRow, object_number}
 use Rattle.esc_sql.specs.Changes.{ObjectEntry, object_entry}
-use Rattle.esc_scan.specs.declared.object.ObjectKey.{ObjectKey}
 
-abbrev pub key_read : ObjectKey → ℤ × ℕ × List ℕ
-key_read it = (it.id, it.kind, it.key.items)
-
+-- the rowid of an object, the number of its kind, and the bytes of its key's text
 abbrev pub key_of_object : ObjectRow → ℤ × ℕ × List ℕ
 key_of_object o = (pos o.id, o.kind, o.key)
 

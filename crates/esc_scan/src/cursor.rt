@@ -91,8 +91,9 @@ impl<'a, S: Store> Scan<'a, S> {
     }
 }
 
-/// All rows of the table with this tree's number as values, in the order of their rowids.
-pub(crate) fn read_all<S: Store, T: FromEntry>(
+/// All rows of the table with this tree's number as values, in the order of their rowids. They are
+/// read one at a time.
+pub fn read_all<S: Store, T: FromEntry>(
     alloc: Global,
     store: &mut S,
     tree: u32,

@@ -10,8 +10,9 @@
 //!
 //! In: a store of trees of any kind (`S: Store`). Out: `esc_sql`'s rows as Rust values (`Receipt`,
 //! `Listed`, `ChainStep`, `StoredObject`), or a part of a row where the rest isn't asked for
-//! (`HeldIndex`, `ParkedSize`, `ObjectKind`, `ObjectKey`, `ReceiptNumber`). A failure is a
-//! `ScanError`: the store's, out of memory among them, or a row that is none of its table.
+//! (`HeldIndex`, `ParkedSize`, `ObjectKind`, `ReceiptNumber`); and `read_all`, for values of the
+//! caller's own. A failure is a `ScanError`: the store's, out of memory among them, or a row that is
+//! none of its table.
 //!
 //! | Module | What it has |
 //! |---|---|
@@ -44,7 +45,7 @@
 //!   the start, and at each step all but the first of those before.
 #![tactic(auto)]
 
-mod cursor;
+pub mod cursor;
 pub mod held;
 pub mod listed;
 pub mod moment;

@@ -7,7 +7,7 @@ ghost use Rattle.esc_sql.specs.Changes.{object_entry};
 ghost use Rattle.esc_sql.specs.Entries.{stored_entry};
 ghost use Rattle.esc_scan.specs.Scanning.{ReadsRow, IsScan};
 ghost use Rattle.esc_scan.specs.Kinds.{kind_read, kind_of_object};
-ghost use Rattle.esc_scan.specs.ObjectKeys.{key_read, key_of_object, object_with};
+ghost use Rattle.esc_scan.specs.ObjectKeys.{object_with};
 
 use crate::cursor::{read_all, read_at};
 use crate::rows::{FromEntry, ScanError, value_at};
@@ -47,40 +47,10 @@ impl FromEntry for ObjectKind {
     }
 }
 
-/// The key of an object, without its record: the rowid, the kind (0 to 5), and the bytes of the
-/// key's text.
-#[derive(Debug, Drop)]
-pub struct ObjectKey {
-    pub id: i64,
-    pub kind: u32,
-    pub key: Vec<u8>,
-}
-
-impl FromEntry for ObjectKey {
-    ghost is_read = { ReadsRow Objects key_read key_of_object };
-
-    fn from_entry(alloc: Global, row: &Row) -> Result<ObjectKey, ScanError> {
-        Ok(ObjectKey {
-            id: value_at(alloc, row, 0)?,
-            kind: value_at(alloc, row, 1)?,
-            key: value_at(alloc, row, 2)?,
-        })
-    }
-}
-
 /// The kind of each object: from these the objects of each kind are counted.
 pub fn object_kinds<S: Store>(alloc: Global, store: &mut S) -> Result<Vec<ObjectKind>, ScanError>
     ensures read { IsScan S.Store store.old store.new
         (λ c found. map kind_read found.items ≡ map kind_of_object c.objects) result }
-{
-    read_all(alloc, store, OBJECT_TREE)
-}
-
-/// The key of each object, in the order of rowids. Each object is read, one at a time, and no
-/// record is kept.
-pub fn object_keys<S: Store>(alloc: Global, store: &mut S) -> Result<Vec<ObjectKey>, ScanError>
-    ensures read { IsScan S.Store store.old store.new
-        (λ c found. map key_read found.items ≡ map key_of_object c.objects) result }
 {
     read_all(alloc, store, OBJECT_TREE)
 }

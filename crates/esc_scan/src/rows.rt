@@ -63,7 +63,7 @@ pub trait FromEntry: Drop {
 }
 
 /// The value in a column, with the rowid as column 0. `Foreign` where it is not of this type.
-pub(crate) fn value_at<T: FromSql>(alloc: Global, row: &Row, at: usize) -> Result<T, ScanError>
+pub fn value_at<T: FromSql>(alloc: Global, row: &Row, at: usize) -> Result<T, ScanError>
     ensures value { IfOk result (T.FromSql.reads_as (column row.now at)) }
     ensures foreign { IfErr result (λ e. e ≡ ScanError.Foreign
         → ¬ T.FromSql.is_readable (column row.now at)) }

@@ -32,8 +32,7 @@ use Rattle.esc_sql.proofs.ObjectLemmas.{object_keys, keys_are}
 use Rattle.esc_sql.proofs.Sorts.{by_both, rises-sorted}
 use Rattle.esc_sql.proofs.Sorts.{key_eq as both_eq}
 use Rattle.esc_sql.specs.declared.object.StoredObject.{StoredObject}
-use Rattle.esc_scan.specs.ObjectKeys.{key_read, key_of_object, object_with}
-use Rattle.esc_scan.specs.declared.object.ObjectKey.{ObjectKey}
+use Rattle.esc_scan.specs.ObjectKeys.{key_of_object, object_with}
 use Rattle.esc_store.specs.TableKeys.{AreKeysOf, is_key_wanted, is_number_wanted, key_at, numbered_key, wanted_of}
 use Rattle.esc_store.specs.declared.reader.objects.TableKey.{TableKey}
 use Rattle.esc_store.proofs.Registries.{AreAlone, at_branch, itself, one_object, record_here, same_tests}
@@ -156,6 +155,11 @@ still_some : (o : Option ObjectValue)
 still_some None has = refl
 still_some (Some x) has = has
 
+-- where no kind is named, all keys are wanted
+pub all_wanted : (keys : List TableKey) → keys ≡ filter (λ it. is_key_wanted None (numbered_key it)) keys
+all_wanted [] = refl
+all_wanted (k ∷ keys) = ap (λ l. k ∷ l) (all_wanted keys)
+
 module _ (db : Database) (s : State)
     (c : Content) (kind : Option Kind) (holds : HoldsContent db c) (registry : IsRegistry c s) where
   abbrev wanted : ObjectRow → Bool
@@ -182,14 +186,16 @@ module _ (db : Database) (s : State)
       (ap is_some (registry.objects n q.text ∙ record_here s.content q)
       ∙ still_some (s.content q) (registry.recorded q)) refl
 
-  module _ (found : List ObjectKey)
-      (keys sorted : List TableKey) (says : map key_read found ≡ map key_of_object c.objects)
-      (are : map numbered_key keys ≡ filter (is_key_wanted kind) (map key_read found)) where
+  module _ (found keys sorted : List TableKey)
+      (says : map numbered_key found ≡ map key_of_object c.objects)
+      (are : keys ≡ filter (λ it. is_key_wanted kind (numbered_key it)) found) where
     names : map name_of keys ≡ map row_name rows
     names =
         let name : ℤ × ℕ × List ℕ → Name = λ p. (p.1, p.2) in
         sym (map-map name numbered_key keys)
-        ∙ ap (map name) (are ∙ ap (filter (is_key_wanted kind)) says
+        ∙ ap (map name) (ap (map numbered_key) are
+        ∙ sym (filter-map (is_key_wanted kind) numbered_key found)
+        ∙ ap (filter (is_key_wanted kind)) says
         ∙ filter-map (is_key_wanted kind) key_of_object c.objects)
         ∙ map-map name key_of_object rows
 

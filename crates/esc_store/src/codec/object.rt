@@ -41,7 +41,7 @@ pub(crate) fn kind_number(kind: Kind) -> u32
 }
 
 // The kind with this number in the tables. `S1` if there is none.
-fn kind_of(number: u32) -> Result<Kind, StoreFault>
+pub(crate) fn kind_of(number: u32) -> Result<Kind, StoreFault>
     ensures kind { IfOk result (λ kind. number ≡ kind_rank kind) }
     ensures cause { IfErr result IsFailure }
 {

@@ -1,25 +1,31 @@
 //! What a reader returns of the chain's tables by key, one object at a time.
 
 ghost use Rattle.std.specs.Prelude.{◌≡◌, Some, filter, map, option_map, IfOk, IfErr};
+ghost use Rattle.esc_sql.specs.StoreTable.{Objects};
 ghost use Rattle.esc_sql.specs.Entries.{stored_entry};
-ghost use Rattle.esc_scan.specs.ObjectKeys.{key_read};
+ghost use Rattle.esc_scan.specs.ObjectKeys.{key_of_object};
+ghost use Rattle.esc_scan.specs.Scanning.{ReadsRow, IsScan};
+ghost use Rattle.esc_envelope.specs.Kinds.{kind_rank};
 ghost use Rattle.esc_store.specs.Faults.{IsFailure};
 ghost use Rattle.esc_store.specs.StoreState.{StoreState};
 ghost use Rattle.esc_store.specs.Reading.{IsHonestReader, IsReadOnly, ReaderRepresents};
 ghost use Rattle.esc_store.specs.Pages.{entry_row, record_row};
-ghost use Rattle.esc_store.specs.TableKeys.{AreKeysOf, is_key_wanted, is_number_wanted, key_at};
-ghost use Rattle.esc_store.specs.TableKeys.{numbered_key, wanted_of};
+ghost use Rattle.esc_store.specs.TableKeys.{AreKeysOf, is_key_wanted, key_at, numbered_key};
+ghost use Rattle.esc_store.specs.TableKeys.{wanted_of};
 
 use crate::cause::{Cause, Table};
-use crate::codec::object::{key_of, kind_number, record_object};
+use crate::codec::object::{kind_number, kind_of, record_object};
 use crate::fault::StoreFault;
 use crate::reader::StoreReader;
 use esc_envelope::Kind;
 use esc_record::no_record_begins_another;
-use esc_scan::object::{OBJECT_TREE, ObjectKey, find_object, object_keys};
+use esc_scan::cursor::read_all;
+use esc_scan::object::{OBJECT_TREE, find_object};
+use esc_scan::rows::{FromEntry, ScanError, value_at};
 use esc_sql::object::StoredObject;
 use esc_tables::{Key, Object};
 use sqlite_trees::store::{Shape, Store};
+use sqlite_value::row::Row;
 use std::alloc::Global;
 
 /// A key of the chain's tables, and the rowid of its object. They are ordered by key.
@@ -38,6 +44,18 @@ impl TableKey {
     }
 }
 
+// The key's text stays where the row's bytes were read to: of a million objects each byte counts.
+impl FromEntry for TableKey {
+    ghost is_read = { ReadsRow Objects numbered_key key_of_object };
+
+    fn from_entry(alloc: Global, row: &Row) -> Result<TableKey, ScanError> {
+        Ok(TableKey {
+            key: read_key(value_at(alloc, row, 1)?, value_at(alloc, row, 2)?)?,
+            rowid: value_at(alloc, row, 0)?,
+        })
+    }
+}
+
 impl<S: Store> StoreReader<S> {
     /// The keys of the objects of one kind or (`None`) of all, in their order. Each object is read,
     /// one at a time, and no record is kept. `S1`, `S2`.
@@ -50,8 +68,8 @@ impl<S: Store> StoreReader<S> {
             (map key_at keys.items)) }
         ensures cause { IfErr result IsFailure }
     {
-        let stored = object_keys(alloc, &mut self.trees)?;
-        let mut keys = keys_of(alloc, kind, stored.as_slice())?;
+        let stored = stored_keys(alloc, &mut self.trees)?;
+        let mut keys = wanted_keys(kind, stored);
         keys.sort_unstable();
         Ok(keys)
     }
@@ -75,44 +93,32 @@ impl<S: Store> StoreReader<S> {
     }
 }
 
-// Whether an object of the kind with this number is wanted: the kind that is named, or any.
-fn is_wanted(kind: Option<Kind>, number: u32) -> bool
-    ensures { result ≡ is_number_wanted kind number }
+// The key of the kind with this number and these bytes as its text. `Foreign` where it is none.
+fn read_key(kind: u32, text: Vec<u8>) -> Result<Key, ScanError>
+    ensures { IfOk result (λ key. (kind ≡ kind_rank key.kind) × (text.items ≡ key.text)) }
 {
-    match kind {
-        Some(kind) => number == kind_number(kind),
-        None => true,
+    match (kind_of(kind), String::from_utf8(text)) {
+        (Ok(kind), Ok(text)) => Ok(Key { kind, text }),
+        _ => Err(ScanError::Foreign),
     }
 }
 
-// A stored key with its rowid. `S1` where it is no key; `S2`.
-fn table_key(alloc: Global, stored: &ObjectKey) -> Result<TableKey, StoreFault>
-    ensures key { IfOk result (λ key. numbered_key key ≡ key_read stored.now) }
-    ensures cause { IfErr result IsFailure }
+// The keys of all objects, in the order of rowids.
+fn stored_keys<S: Store>(alloc: Global, trees: &mut S) -> Result<Vec<TableKey>, ScanError>
+    ensures read { IsScan S.Store trees.old trees.new
+        (λ c keys. map numbered_key keys.items ≡ map key_of_object c.objects) result }
 {
-    Ok(TableKey {
-        key: key_of(alloc, stored.kind, stored.key.as_slice())?,
-        rowid: stored.id,
-    })
+    read_all(alloc, trees, OBJECT_TREE)
 }
 
-// The stored keys of one kind or of all, in the order of rowids. `S1` where one is no key; `S2`.
-fn keys_of(
-    alloc: Global,
-    kind: Option<Kind>,
-    stored: &[ObjectKey],
-) -> Result<Vec<TableKey>, StoreFault>
-    ensures keys { IfOk result (λ keys. map numbered_key keys.items
-        ≡ filter (is_key_wanted kind) (map key_read stored.now)) }
-    ensures cause { IfErr result IsFailure }
+// Those of these keys that are of one kind, or all.
+fn wanted_keys(kind: Option<Kind>, mut keys: Vec<TableKey>) -> Vec<TableKey>
+    ensures { result.items ≡ filter (λ it. is_key_wanted kind (numbered_key it)) keys.items }
 {
-    let mut keys = Vec::new(alloc);
-    for it in stored {
-        if is_wanted(kind, it.kind) {
-            keys.push(table_key(alloc, it)?)?;
-        }
+    if let Some(kind) = kind {
+        keys.retain(|it| kind_number(it.key.kind) == kind_number(kind));
     }
-    Ok(keys)
+    keys
 }
 
 // The object of this key in a row. `S1` where there is no row, or it is of another key, or it is no

@@ -1,7 +1,5 @@
-use Rattle.esc_store.proofs.Common.{refl, ◌∙◌, ap, filter, map}
+use Rattle.esc_store.proofs.Common.{refl}
 use Rattle.std.specs.Ordering.{int_cmp}
-use Rattle.esc_scan.specs.ObjectKeys.{key_read}
-use Rattle.esc_store.specs.TableKeys.{is_key_wanted}
 use Rattle.esc_store.specs.declared.reader.objects.TableKey.{TableKey}
 use Rattle.esc_store.proofs.Readers.{told_of, read_only}
 use Rattle.esc_store.proofs.ReaderKeys.{keys_read, sorted_by_key}
@@ -10,11 +8,9 @@ use Rattle.esc_store.proofs.reader.StoreReader.keys.Goals as goal
 pub returns-clause-keys : goal.returns-clause-keys
 returns-clause-keys g c = λ honest k stands.
     let told = told_of c.args.self.now c.in_ok-stored.ensures.read honest k stands in
-    let are = c.in_ok-keys.ensures.keys
-    ∙ ap (λ l. filter (is_key_wanted c.args.kind) (map key_read l)) c.as_slice.ensures.value in
     keys_read told.database k.registry told.content c.args.kind
-    told.holds told.registry c.in_ok-stored.stored.items c.in_ok-keys.keys.items _ told.says are
-    c.sort_unstable.ensures.permutation
+    told.holds told.registry c.in_ok-stored.stored.items c.wanted_keys-keys.result.items _ told.says
+    c.wanted_keys-keys.ensures c.sort_unstable.ensures.permutation
     (sorted_by_key (λ (a b : TableKey). int_cmp a.rowid b.rowid) _ c.sort_unstable.ensures.sorted)
 
 pub returns-clause-same : goal.returns-clause-same
