@@ -4,4 +4,4 @@ pub mod Guides
 pub mod Lines
 pub mod Listed
 pub mod Rebuilt
-pub mod Remarks
+pub mod Tlds

@@ -1,6 +1,6 @@
 //! What the envelopes of a chain's deposits say.
 
-use crate::remarks::{Remarks, read_remarks};
+use crate::notes::notes_of_body;
 use esc_bundle::{Fault, NoMemory};
 use esc_envelope::{Envelope, Table};
 use esc_tables::read_bundled_envelope;
@@ -29,7 +29,8 @@ impl Declared {
         match read_bundled_envelope(alloc, body) {
             Ok(envelope) => {
                 self.add_tables(envelope)?;
-                self.add_remarks(read_remarks(alloc, body)?)
+                self.notes.append(&mut notes_of_body(alloc, body)?)?;
+                Ok(())
             }
             Err(Fault::Refused(_)) => Ok(()),
             Err(Fault::NoMemory) => Err(NoMemory),
@@ -48,12 +49,6 @@ impl Declared {
 
     fn declares(&self, table: &Table) -> bool {
         self.tables.iter().any(|other| is_same_table(table, other))
-    }
-
-    fn add_remarks(&mut self, remarks: Remarks) -> Result<(), NoMemory> {
-        let Remarks { mut notes, .. } = remarks;
-        self.notes.append(&mut notes)?;
-        Ok(())
     }
 }
 

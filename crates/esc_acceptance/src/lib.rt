@@ -40,8 +40,8 @@
 //! deposits, and then their tables, which `specs/Rebuilt.antt` has as entries; and how many orphans
 //! the deposits have. `are_listed` is true only of a source that lists just these tables.
 //! `specs/Listed.antt` says when a body is as listed.
-//! `gaps_of` and `is_latest` go by `esc_chain`. `specs/Remarks.antt` has the TLD of an envelope; that
-//! [`Tlds`] has those of all bodies, and which notes there are, is tested.
+//! `gaps_of` and `is_latest` go by `esc_chain`. `specs/Tlds.antt` has the TLDs that bodies name. Which
+//! notes there are is tested.
 #![tactic(auto)]
 
 mod acceptance;
@@ -53,8 +53,8 @@ mod gaps;
 mod guide;
 mod guides;
 mod line;
+mod notes;
 mod rebuild;
-mod remarks;
 mod report;
 mod same;
 mod seen;

@@ -1,10 +1,13 @@
 //! The TLDs that deposits name.
 
-ghost use Rattle.std.specs.Prelude.{◌≡◌, map, option_map, string_bytes};
-ghost use Rattle.esc_acceptance.specs.Remarks.{only_name};
+ghost use Rattle.std.specs.Prelude.{◌≡◌, [], map, option_map, string_bytes, Some, OnOk};
+ghost use Rattle.esc_pack.specs.NamedTlds.{body_tld};
+ghost use Rattle.std.specs.List.{list_any};
+ghost use Rattle.std.specs.Str.{str_eq_ignore_ascii_case};
+ghost use Rattle.esc_acceptance.specs.Tlds.{only_name, with_tld};
 
-use crate::remarks::{Remarks, read_remarks};
 use esc_bundle::NoMemory;
+use esc_pack::tld_of_body;
 use std::alloc::Global;
 
 /// The TLDs that deposits name.
@@ -16,16 +19,20 @@ pub struct Tlds {
 
 impl Tlds {
     /// Those of no deposits.
-    pub fn new(alloc: Global) -> Tlds {
+    pub fn new(alloc: Global) -> Tlds
+        ensures { result.names.items ≡ [] }
+    {
         Tlds {
             names: Vec::new(alloc),
         }
     }
 
     /// Adds the one that a body names, if it does.
-    pub fn add(&mut self, alloc: Global, body: &[u8]) -> Result<(), NoMemory> {
-        let Remarks { tld, .. } = read_remarks(alloc, body)?;
-        match tld {
+    pub fn add(&mut self, alloc: Global, body: &[u8]) -> Result<(), NoMemory>
+        ensures { OnOk result (map string_bytes self.new.names.items
+            ≡ with_tld (body_tld body.now) (map string_bytes self.old.names.items)) }
+    {
+        match tld_of_body(alloc, body)? {
             Some(tld) => self.add_name(tld),
             None => Ok(()),
         }
@@ -42,14 +49,20 @@ impl Tlds {
         }
     }
 
-    fn add_name(&mut self, tld: String) -> Result<(), NoMemory> {
+    fn add_name(&mut self, tld: String) -> Result<(), NoMemory>
+        ensures { OnOk result (map string_bytes self.new.names.items
+            ≡ with_tld (Some (string_bytes tld)) (map string_bytes self.old.names.items)) }
+    {
         if !self.has(tld.as_str()) {
             self.names.push(tld)?;
         }
         Ok(())
     }
 
-    fn has(&self, tld: &str) -> bool {
+    fn has(&self, tld: &str) -> bool
+        ensures { result ≡ list_any (λ name. str_eq_ignore_ascii_case tld.now (string_bytes name))
+            self.now.names.items }
+    {
         self.names
             .iter()
             .any(|other| tld.eq_ignore_ascii_case(other.as_str()))

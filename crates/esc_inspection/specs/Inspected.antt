@@ -15,7 +15,7 @@ use Rattle.esc_conformity.specs.declared.rule.Rule.{Rule}
 use Rattle.esc_conformity.specs.Flaws.{flaws}
 use Rattle.esc_conformity.specs.Found.{keys_by}
 use Rattle.esc_acceptance.specs.Acceptance.{SeenValue}
-use Rattle.esc_acceptance.specs.Remarks.{only_name}
+use Rattle.esc_acceptance.specs.Tlds.{only_name}
 use Rattle.esc_acceptance.specs.declared.chain.ChainFacts.{ChainFacts}
 use Rattle.esc_inspection.specs.declared.facts.StoreFacts.{StoreFacts}
 use Rattle.esc_inspection.specs.Parts.{AreTotalsOf, AreEndingOf, AreLinesFor, AreSpoiledAmong}
