@@ -1,3 +1,2 @@
-pub mod Applied
 pub mod Named
 pub mod Places

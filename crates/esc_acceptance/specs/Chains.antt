@@ -1,4 +1,4 @@
--- What the bodies of a chain make, one after the other (RFC 8909, section 2).
+-- What the bodies of a chain say, one after the other (RFC 8909, section 2).
 use Rattle.std.specs.Prelude.{◌≡◌, ℕ, Bool, true, false, List, [], ◌∷◌, Option, Some, None}
 use Rattle.std.specs.Prelude.{Result, Ok, Err, sum_by}
 use Rattle.std.specs.List.{list_all, flat_map}
@@ -7,7 +7,6 @@ use Rattle.esc_tables.specs.DepositValue.{DepositValue}
 use Rattle.esc_tables.specs.Reading.{reading}
 use Rattle.esc_apply.specs.Registry.{saturated}
 use Rattle.esc_acceptance.specs.declared.chain.ChainFacts.{ChainFacts}
-use Rattle.esc_acceptance.specs.Rebuilt.{AreTablesOf}
 
 -- the deposit that was read, if one was
 abbrev pub read_deposits : Result DepositValue Refusal → List DepositValue
@@ -28,9 +27,8 @@ is_one (d ∷ ds) = true
 abbrev pub orphan_count : List DepositValue → ℕ
 orphan_count ds = sum_by (λ (d : DepositValue). d.orphans) ds
 
--- what these bodies say: whether each is there and is a deposit, and then their tables; and how many
--- orphans the deposits among them have
+-- what these bodies say: whether each is there and is a deposit, and how many orphans the deposits
+-- among them have
 pub record AreFactsOf (bodies : List (Option (List ℕ))) (facts : ChainFacts) : Type 0 where
   pub read : facts.are_read ≡ list_all (λ b. is_one (deposits_in b)) bodies
-  pub made : facts.are_read ≡ true → AreTablesOf (flat_map deposits_in bodies) facts.objects.entries
   pub orphans : facts.orphans ≡ saturated (orphan_count (flat_map deposits_in bodies))

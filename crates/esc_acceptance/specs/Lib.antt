@@ -3,5 +3,4 @@ pub mod Chains
 pub mod Guides
 pub mod Lines
 pub mod Listed
-pub mod Rebuilt
 pub mod Tlds

@@ -11,15 +11,12 @@
 //!
 //! What is seen is found by `gaps_of`, which has the line of each listed place, by `is_latest`, which
 //! compares a chain with the latest one, by `is_as_listed`, which compares a body with its row, by
-//! [`Tlds`], and by [`ChainFacts`], which takes one body of the chain after the other and makes its
-//! tables once more (`apply_deposit`). `are_listed` compares these with objects that come one at a
-//! time, as those of a desk's walk. (`esc_conformity` has the objects that fail a test by
-//! themselves.) Nothing here knows of a store.
+//! [`Tlds`], and by [`ChainFacts`], which takes one body of the chain after the other.
+//! (`esc_conformity` has the objects that fail a test by themselves.) Nothing here knows of a store.
 //!
 //! ```text
 //! let mut facts = ChainFacts::new(alloc);
 //! facts.add(alloc, Some(&body))?;                                // each body of the chain
-//! let is_rebuilt = are_listed(&facts.objects, &mut walk)?;
 //!
 //! let report = report_of(alloc, &seen, is_strict)?;
 //! // ok tld: example
@@ -36,10 +33,8 @@
 //! after the test's name has no contract. `specs/Guides.antt` says which fields have links, statuses
 //! and dates, which objects have them, and what looks like one of them under another name.
 //!
-//! `specs/Chains.antt` says what the bodies of a chain make: at each `add` whether all of them are
-//! deposits, and then their tables, which `specs/Rebuilt.antt` has as entries; and how many orphans
-//! the deposits have. `are_listed` is true only of a source that lists just these tables.
-//! `specs/Listed.antt` says when a body is as listed.
+//! `specs/Chains.antt` says what the bodies of a chain say: at each `add` whether all of them are
+//! deposits, and how many orphans these have. `specs/Listed.antt` says when a body is as listed.
 //! `gaps_of` and `is_latest` go by `esc_chain`. `specs/Tlds.antt` has the TLDs that bodies name. Which
 //! notes there are is tested.
 #![tactic(auto)]
@@ -54,7 +49,6 @@ mod guide;
 mod guides;
 mod line;
 mod notes;
-mod rebuild;
 mod report;
 mod same;
 mod seen;
@@ -63,15 +57,14 @@ mod tlds;
 mod words;
 
 pub use acceptance::{is_accepted, passes, status_of};
-pub use bodies::is_as_listed;
+pub use bodies::{deposit_of_body, is_as_listed};
 pub use chain::ChainFacts;
 pub use declared::Declared;
 pub use gaps::{gaps_of, is_latest};
 pub use guide::Guide;
 pub use line::{Line, lines_of};
-pub use rebuild::{apply_deposit, are_listed};
 pub use report::{Report, report_of};
-pub use same::{are_same_counts, are_same_tables, is_same_entry};
+pub use same::{are_same_counts, is_same_entry, is_same_object};
 pub use seen::Seen;
 pub use test::Test;
 pub use tlds::Tlds;

@@ -1,4 +1,4 @@
-//! Whether two rows, objects or tables are the same.
+//! Whether two rows, objects or counts are the same.
 
 ghost use Rattle.std.specs.Prelude.{◌≡◌, true, option_map};
 ghost use Rattle.std.specs.Map.Iter.{deref_pair as shown};
@@ -54,7 +54,8 @@ fn are_same_rows(rows: &[Row], others: &[Row]) -> bool
     true
 }
 
-fn is_same_object(object: &Object, other: &Object) -> bool
+/// Whether two objects are the same.
+pub fn is_same_object(object: &Object, other: &Object) -> bool
     ensures { result ≡ true → object.now ≡ other.now }
 {
     is_same_row(&object.parent, &other.parent) && are_same_rows(&object.children, &other.children)
@@ -72,22 +73,6 @@ pub fn is_same_entry(key: &Key, object: &Object, other_key: &Key, other: &Object
     ensures object { result ≡ true → object.now ≡ other.now }
 {
     is_same_key(key, other_key) && is_same_object(object, other)
-}
-
-/// Whether two tables have the same objects under the same keys.
-pub fn are_same_tables(tables: &BTreeMap<Key, Object>, others: &BTreeMap<Key, Object>) -> bool
-    ensures { result ≡ true → tables.now.entries ≡ others.now.entries }
-{
-    let mut rest = others.iter();
-    for (key, object) in tables.iter() {
-        let Some((other_key, other)) = rest.next() else {
-            return false;
-        };
-        if !is_same_key(key, other_key) || !is_same_object(object, other) {
-            return false;
-        }
-    }
-    rest.next().is_none()
 }
 
 /// Whether a map has just these counts, in this order.

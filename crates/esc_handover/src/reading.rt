@@ -1,6 +1,6 @@
 //! What is found in objects as they come, while it is told how many were read.
 
-ghost use Rattle.std.specs.Prelude.{◌≡◌, ◌↔◌, true, List, IfOk, IfErr, OnErr};
+ghost use Rattle.std.specs.Prelude.{◌↔◌, List, IfOk, IfErr};
 ghost use Rattle.std.specs.List.{Contains};
 ghost use Rattle.std.specs.List.Sorted.{IsStrictlySortedBy};
 ghost use Rattle.esc_apply.specs.ObjectStreams.{Entry};
@@ -10,7 +10,6 @@ ghost use Rattle.esc_check.specs.ObjectReports.{IfSource, OfSource};
 ghost use Rattle.esc_check.specs.TableMap.{content_of_entries};
 
 use crate::progress::{Progress, Watched};
-use esc_acceptance::{ChainFacts, are_listed};
 use esc_apply::Objects;
 use esc_check::{Finding, StreamFault, verify_from};
 use esc_envelope::Kind;
@@ -48,20 +47,4 @@ pub fn read_findings<O: Objects>(
 {
     let mut watched = Watched::new(objects, progress, "findings");
     verify_from(alloc, &mut watched, watermark, counts)
-}
-
-/// Whether the objects are those that the deposits of the chain make ([`are_listed`]).
-pub fn are_made_by<O: Objects>(
-    facts: &ChainFacts,
-    objects: &mut O,
-    progress: &mut Progress<'_>,
-) -> Result<bool, O::Error>
-    ensures follows { O.follows objects.old objects.new }
-    ensures cause { IfErr result O.fails }
-    ensures failed { OnErr result (O.has_failed objects.new) }
-    ensures same { IfOk result (λ same. same ≡ true → O.is_honest objects.new
-        → (es : List Entry) → O.lists objects.old es → es ≡ facts.now.objects.entries) }
-{
-    let mut watched = Watched::new(objects, progress, "tables");
-    are_listed(&facts.objects, &mut watched)
 }
