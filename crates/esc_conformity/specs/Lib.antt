@@ -1,6 +1,9 @@
 pub mod Digests
+pub mod Examined
 pub mod Flaws
 pub mod Found
 pub mod HostAddresses
+pub mod Marks
+pub mod Repeats
 pub mod Required
-pub mod Roids
+pub mod Surveys

@@ -1,7 +1,7 @@
 //! Objects that fail the minimum tests of a deposit's contents (RFC 9022, section 8).
 //!
-//! [`Flaws::find`] gives for each [`Rule`] the keys of the objects that break it, in the order of
-//! keys:
+//! Two walks over the objects of a registry give for each [`Rule`] the keys of the objects that break
+//! it, in the order of keys:
 //!
 //! - `Registrars`: an object names a registrar that is not there, by `crRr`, `upRr`, `reRr` or
 //!   `acRr` of its parent row or a child row, such as that of a pending transfer;
@@ -22,26 +22,43 @@
 //! An empty text names nobody. (`esc_check` has links by `clID`, contacts, hosts and IDN tables.)
 //!
 //! ```text
-//! let found = Flaws::find(alloc, &tables, Some("example"))?;
+//! let mut survey = Survey::new(alloc);
+//! while let Some((key, object)) = objects.next()? {
+//!     survey.add(alloc, &key, &object)?;
+//! }
+//! let registry = Registry { survey: &survey, tld: Some("example") };
+//! let found = flaws_from(alloc, &mut the_same_objects, &registry)?;
 //! for key in found.of(Rule::Outside) {
 //!     // the domain a.test
 //! }
 //! ```
 //!
+//! In memory are never all objects. A [`Survey`] keeps the registrars and the names of NNDNs, and of
+//! each ROID a number of 64 bits, its mark. Only objects whose mark came twice are kept in the second
+//! walk, and in the end their ROIDs are compared as texts.
+//!
 //! `specs/Flaws.antt` says by one object and the objects of all whether it breaks a rule (`breaks`).
-//! What `find` returns are just the keys of those that do.
+//! What `flaws_from` returns are just the keys of those that do, if the survey is that of the objects
+//! that come (`IsSurveyOf` of `specs/Surveys.antt`).
 #![tactic(auto)]
 
 mod address;
 mod cell;
 mod digest;
-mod flaw;
+mod examiner;
 mod found;
+mod mark;
 mod name;
 mod registrar;
+mod repeats;
 mod required;
 mod roid;
 mod rule;
+mod survey;
+mod walk;
 
+pub use examiner::Registry;
 pub use found::Flaws;
 pub use rule::Rule;
+pub use survey::Survey;
+pub use walk::flaws_from;

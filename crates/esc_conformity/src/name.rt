@@ -3,28 +3,29 @@
 ghost use Rattle.std.specs.Prelude.{◌≡◌, IfOk, map, option_map};
 ghost use Rattle.std.specs.Char.{to_ascii_lowercase};
 ghost use Rattle.std.specs.Str.{bytes_eq};
-ghost use Rattle.esc_check.specs.Gathered.{is_present};
+ghost use Rattle.std.specs.BTreeSet as sorted;
+ghost use Rattle.esc_tables.specs.KeyName.{key_cmp};
 ghost use Rattle.esc_conformity.specs.Flaws.{is_doubled, is_below_tld, is_outside};
 
 use esc_bundle::NoMemory;
 use esc_envelope::Kind;
-use esc_tables::{Key, Object};
+use esc_tables::Key;
 use std::alloc::Global;
-use std::collections::BTreeMap;
+use std::collections::BTreeSet;
 
-/// Whether an NNDN has a domain's name.
+/// Whether an NNDN has the name of one of these domains.
 pub(crate) fn is_doubled(
     alloc: Global,
-    tables: &BTreeMap<Key, Object>,
+    domains: &BTreeSet<Key>,
     key: &Key,
 ) -> Result<bool, NoMemory>
-    ensures { IfOk result (λ b. b ≡ is_doubled (is_present tables.now.entries) key.now) }
+    ensures { IfOk result (λ b. b ≡ is_doubled (sorted.contains key_cmp domains.now) key.now) }
 {
     if key.kind != Kind::Nndn {
         return Ok(false);
     }
     let domain = Key::named(alloc, Kind::Domain, key.text.as_str())?;
-    Ok(tables.contains_key(&domain))
+    Ok(domains.contains(&domain))
 }
 
 fn is_same(name: &[u8], other: &[u8]) -> bool

@@ -1,6 +1,10 @@
-use Rattle.esc_conformity.specs.Roids.{AreCounted}
+use Rattle.std.proofs.Common.{map, take}
+use Rattle.esc_tables.specs.KeyName.{key_cmp}
+use Rattle.esc_conformity.specs.declared.roid.Holder.{Holder}
+use Rattle.esc_conformity.specs.Repeats.{AreRepeatsIn}
 use Rattle.esc_conformity.proofs.roid.shared_roids.Given as goal
 
--- all objects but those that are left are counted
-abbrev pub invariant-loop-key : goal.invariant-loop-key
-invariant-loop-key l = AreCounted l.key-iterator l.tables.entries l.roids
+-- the ROIDs so far came
+abbrev pub invariant-loop-holder : goal.invariant-loop-holder
+invariant-loop-holder l = AreRepeatsIn key_cmp
+    (map (λ (h : Holder). h.roid) (take l.holder-index l.holders)) l.roids
