@@ -27,6 +27,7 @@ pub mod JudgedRows
 pub mod KnownRows
 pub mod Lengthening
 pub mod Likeness
+pub mod LookupLemmas
 pub mod Lost
 pub mod Members
 pub mod Moving

@@ -10,6 +10,7 @@ pub mod Edits
 pub mod Judging
 pub mod Laws
 pub mod Lengthening
+pub mod Lookups
 pub mod Outcomes
 pub mod Places
 pub mod Readers

@@ -36,7 +36,9 @@
 //!
 //! What writes nothing needs no desk. A reader of a store's trees
 //! ([`StoreReader`](esc_store::StoreReader)), without SQL, implements [`Reads`] as a desk over that
-//! store does, so that a report is written once.
+//! store does, so that a report is written once. A reader also implements [`Lookup`], which finds
+//! an object of the tables by its key, with its position among all. The keys alone are in memory
+//! ([`KeyIndex`]), and a look-up reads one object.
 //!
 //! # Example
 //!
@@ -58,6 +60,9 @@
 //! }
 //! let place = desk.start_walk(alloc, None)?;
 //! let mut walk = Walk::new(&mut desk, place);                // the objects, in the order of keys
+//!
+//! let index = reader.index(alloc)?;                          // of a `StoreReader`
+//! let found = reader.find(alloc, &index, &key)?;             // `Some((position, object))`
 //! ```
 //!
 //! # What is promised
@@ -180,6 +185,7 @@ mod event;
 mod intake;
 mod judging;
 mod laws;
+mod lookup;
 mod moment;
 mod moves;
 mod pages;
@@ -205,6 +211,7 @@ pub use laws::{
     same_rows_same_tables, stands_for_manifest_and_arrivals, tables_are_of_events,
     worked_migration, worked_migration_unlisted, worked_replies,
 };
+pub use lookup::{KeyIndex, Lookup};
 pub use pages::Pages;
 pub use reader::KeysLeft;
 pub use reads::Reads;
