@@ -1,4 +1,5 @@
--- Which errors are of the connection that was to be accepted (accept(2) of Linux, "Error handling").
+-- Which errors are of the connection that was to be accepted (accept(2) of Linux, "Error
+-- handling").
 use Rattle.std.specs.Prelude.{ℤ, pos, List, [], ◌∷◌, Bool, true, false, ◌||◌, Option, Some, None}
 use Rattle.std.specs.List.{list_any}
 use Rattle.std.specs.Ordering.{int_eq}
