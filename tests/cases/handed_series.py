@@ -128,6 +128,10 @@ def check_series(stage: Stage, registry: Registry) -> None:
     compare_all('files', wanted, names_in(stage.at('out')))
     bodies = [read(stage.at(f'out/deposits/{it}')) for it in names]
     check_bundles(stage, bodies, registry)
+    if length == 1:
+        run(stage, 'bundle --store a.db --id G1 one', 'handover')
+        if bodies[0] != read(stage.at('one')):
+            raise Failed('the bundle of the series is another one')
     words = ' '.join(f'out/deposits/{it}' for it in reversed(names))
     listed = run(stage, f'manifest {words}', 'pack').decode()
     compare('manifest', listed, read(stage.at('out/manifest.csv')).decode())

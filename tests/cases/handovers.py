@@ -232,6 +232,15 @@ CASES['Tables that are one deposit'] = played_apart(check_there_and_back,
                                                     [(store_of, *it) for it in TAKEN])
 
 
+def test_keys(stage: Stage) -> None:
+    """The key of a bundle's table is the first field that has the key in each row."""
+    for rows, key in ((b'C1,C1\n', 'id'), (b'C1,C1\nX2,C2\n', 'roid')):
+        store_of(stage, (contacts(rows, key='roid'),))
+        run(stage, BUNDLE, 'handover')
+        compare('key', key, envelope_in(read(stage.at('out')))['contents'][0]['key'])
+        clear(stage)
+
+
 def check_limit(stage: Stage, refusal: str, first: Sequence[Table], second: Sequence[Table],
                 later: Sequence[Table]) -> bytes:
     """Compares that a Full and a Differential make a deposit, and that with a later revision, which

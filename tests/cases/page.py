@@ -11,9 +11,9 @@ from tests.cases.acceptances import full
 from tests.cases.acceptances import release_of
 from tests.cases.handovers import clear
 from tests.support.acceptance import Seen
-from tests.support.acceptance import beginning
 from tests.support.acceptance import control_spelled
 from tests.support.acceptance import is_accepted
+from tests.support.acceptance import line_of
 from tests.support.acceptance import tests_of
 from tests.support.acceptance import word_of
 from tests.support.bundles import Header
@@ -57,6 +57,38 @@ STATES = {
     'chain': 'in the chain',
     'blocked': 'blocked',
     'missing': 'missing'
+}
+# What a page says of each code of findings and of each verdict, and of each mark; and the headings
+# of its tables, by the section.
+MEANINGS = {
+    'V1': 'a link leads to no object',
+    'V2': 'a kind has another number of objects than declared',
+    'V3': "a status is none of its kind's",
+    'V4': 'a domain is ok, and has another status',
+    'V5': "created after the chain's end",
+    'V6': 'expires before it was created',
+    'V7': 'a date has another form, or is no date',
+    'A1': 'held, as the deposit of a listed row',
+    'A2': 'listed by no row, and not kept',
+    'A3': 'listed, and no deposit',
+    'A4': 'another deposit than its row says',
+    'A5': 'listed by no row when it came, and kept'
+}
+MARKS = {
+    'chain': 'in the chain, which is the line',
+    'standing': "standing: a chain ends there, and it isn't the latest",
+    'blocked': "blocked: what it builds on isn't held",
+    'missing': 'missing: not held',
+    'awaited': 'held, and a later resend is awaited'
+}
+HEADINGS = {
+    'tests': ('Test', 'Result', 'What was found, and what to do'),
+    'release':
+        ('Type', 'From', 'To', 'Places', 'State', 'Resend held', 'Blocked by', 'Resend awaited'),
+    'objects': ('Kind', 'Objects', 'Declared', 'Compared', 'Bars'),
+    'findings': ('Kind', 'Key', 'Field', 'Value', 'Besides'),
+    'receipts': ('Receipt', 'Number', 'Fault', 'Id', 'Resend'),
+    'parked': ('SHA-256', 'Bytes')
 }
 # The height of a lane, and of a state in it.
 HEIGHTS, TRACKS = dict(zip(
@@ -138,18 +170,33 @@ def way_of(gaps: Sequence[Gap]) -> list[tuple[Stand, Stand]]:
     return parts
 
 
+def labels_of(gaps: Sequence[Gap], moment: int | None) -> Iterator[str]:
+    """What is written in the picture, with its place along the axis: the lanes, the moments at the
+    ends, and where the moment is that is set."""
+    yield from (f'lane 0.0% {it}' for it in LANES.values())
+    yield f'from 0.0% {moment_text(gaps[0].place[0])}'
+    yield f'to 100.0% {moment_text(gaps[-1].place[0])}'
+    if moment is not None:
+        x = position(gaps, moment)
+        yield f'moment {"from" if x < 500 else "to"} {percent(x)} moment'
+
+
 # ---- a page, section by section
+
+
+def check_headings(page: Element, _: Seen) -> None:
+    for name, wanted in HEADINGS.items():
+        for table in section(page, name).all('table'):
+            row = table.one('thead').one('tr')
+            compare_all(f'headings of {name}', wanted, (it.text() for it in row.elements()))
 
 
 def check_tests(page: Element, seen: Seen) -> None:
     tests = list(tests_of(seen))
     rows = rows_of(section(page, 'tests').one('table'))
-    compare_all('tests', (f'{name} {word_of(name, passes)}' for name, passes, _ in tests),
-                (f'{it[0]} {it[1]}' for it in rows))
-    for test, (name, word, detail) in zip(tests, rows):
-        line, wanted = f'{word} {name}: {detail}' if detail else f'{word} {name}', beginning(*test)
-        if not line.startswith(wanted):
-            raise Failed(f'wanted {wanted} ..\ngot    {line}')
+    compare_all('tests', (line_of(*it) for it in tests),
+                (f'{word} {name}: {detail}' if detail else f'{word} {name}'
+                 for name, word, detail in rows))
     wrong = sum(word_of(name, passes) == 'wrong' for name, passes, _ in tests)
     verdict = (
         f"The registry isn't to be taken over as it is. Tests that are wrong: {wrong} of "
@@ -193,10 +240,13 @@ def check_release(page: Element, seen: Seen) -> None:
                 (it['x1'] for it in lines if it['class'] == 'moment'))
     counts = Counter(it.state for it in gaps) | Counter(awaited=sum(
         it.awaited is not None and it.state != 'missing' for it in gaps))
-    compare_all('key', (f'{it} {counts[it]}'
-                        for it in ('chain', 'standing', 'blocked', 'missing', 'awaited')),
-                (f'{it.one("use").attributes["href"][1:]} {it.one("strong").text()}'
-                 for it in part.all('li')))
+    compare_all('key', (f'{it} {counts[it]} {words}' for it, words in MARKS.items()),
+                (f'{it.one("use").attributes["href"][1:]} {it.text()}' for it in part.all('li')))
+    labels = [(it.attributes, it.text()) for it in picture.all('text')]
+    compare_all('labels', labels_of(gaps, seen.moment),
+                (f'{it["class"]} {it["x"]} {text}' for it, text in labels))
+    compare_all('lanes', (f'{HEIGHTS[kind] + 24} {name}' for kind, name in LANES.items()),
+                (f'{it["y"]} {text}' for it, text in labels if it['class'] == 'lane'))
 
 
 def check_objects(page: Element, seen: Seen) -> None:
@@ -217,14 +267,15 @@ def check_objects(page: Element, seen: Seen) -> None:
 
 
 def check_counted(what: str, part: Element, wanted: Mapping[str, list[list[str]]]) -> None:
-    """Compares tables of what is found, by the first letters of their headings: how many there are,
-    and the first of them."""
-    found = counted_tables(part)
-    compare_all(what, (f'{name} {len(rows)}' for name, rows in wanted.items() if rows),
-                (f'{name} {number}' for name, (number, _) in found.items()))
-    for name, (_, rows) in found.items():
-        compare_all(f'{what} {name}', wanted[name][:SHOWN],
-                    (row[:len(wanted[name][0])] for row in rows))
+    """Compares tables of what is found, by their codes: what each says, how many there are, and the
+    first of them."""
+    found, some = counted_tables(part), {name: rows for name, rows in wanted.items() if rows}
+    compare_all(what, (f'{name}: {MEANINGS[name]}: {len(rows)}' for name, rows in some.items()),
+                (f'{it.meaning}: {it.number}' for it in found))
+    for (name, rows), it in zip(some.items(), found):
+        compare(f'caption of {name}', 'All' if len(rows) <= SHOWN else f'The first {SHOWN}',
+                it.caption)
+        compare_all(f'{what} {name}', rows[:SHOWN], it.rows)
 
 
 def check_lists(page: Element, seen: Seen, desk: Desk) -> None:
@@ -266,7 +317,7 @@ def check_page(stage: Stage, release: Release, store: str = 'a.db') -> bytes:
     compare('title', f'{verdict}: {told}', page.one('h1').text())
     notes = [it.text() for it in section(page, 'notes').all('li')] if seen.notes else []
     compare_all('notes', seen.notes, notes)
-    for check in (check_tests, check_facts, check_release, check_objects):
+    for check in (check_headings, check_tests, check_facts, check_release, check_objects):
         check(page, seen)
     check_lists(page, seen, desk)
     return body
@@ -284,6 +335,42 @@ def test_told(stage: Stage) -> None:
     check_page(
         stage,
         release_of((F1, full(F1, tld='example', notes=['unknown: <eppParams> 1', 'left\nout']))))
+
+
+def test_twenty(stage: Stage) -> None:
+    """The pages of what is found twenty times, which is shown whole, and once more."""
+    for count in (SHOWN, SHOWN + 1):
+        keys = [f'C{at:02}' for at in range(count)]
+        tables = [
+            Table('contact', 'contact', 'parent', ('id', 'clID', 'crDate'),
+                  csv_text([it, 'R1', 'never'] for it in keys)),
+            Table('contactStatuses', 'contact', 'child', ('id', 'status'),
+                  csv_text([it, 'unheardOf'] for it in keys))
+        ]
+        bodies = [deposit(F1, tables), *(it.encode() for it in keys)]
+        release = Release(manifest([(F1, bodies[0])]), numbered(bodies))
+        found = Counter(code for code, *_ in Seen(release.desk()).findings)
+        compare('findings', f'{[count] * 3}', f'{[found[it] for it in (1, 3, 7)]}')
+        with case(f'{count} times'):
+            check_page(stage, release, f'{count}.db')
+
+
+def test_blockers(stage: Stage) -> None:
+    """The page of deposits that others block: two that are not held, and two that are not
+    listed."""
+    def at(day: int) -> str:
+        return f'2024-03-{day:02}T00:00:00Z'
+
+    fulls = [Header(f'F{day}', 'FULL', at(day)) for day in (1, 2, 3)]
+    others = [Header(f'D{day}', 'DIFF', at(day), prev)
+              for day, prev in ((4, 'F2'), (5, 'F3'), (6, 'X1'), (7, 'X2'))]
+    listed = [(it, deposit(it)) for it in (*fulls, *others)]
+    held = [body for it, body in listed if it.id not in ('F2', 'F3')]
+    release = Release(manifest(listed), numbered(held))
+    blockers = [it.blocker for it in Seen(release.desk()).gaps if it.state == 'blocked']
+    compare_all('blockers', (f'{at(2)} FULL', f'{at(3)} FULL', 'unlisted X1', 'unlisted X2'),
+                blockers)
+    check_page(stage, release)
 
 
 def test_samples(stage: Stage) -> None:

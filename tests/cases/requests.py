@@ -87,6 +87,9 @@ REFUSED = (
     (PUT + b'Content-Length: 18446744073709551616\r\n\r\nabc', TOO_LARGE),
     (PUT + b'Content-Length: 4294967299\r\n\r\nabc', TOO_LARGE),
     (PUT + b'Content-Length: 18446744073709551619\r\n\r\nabc', TOO_LARGE),
+    # A path that is no text, and one that is.
+    (b'GET /status\xff HTTP/1.1\r\n\r\n', BAD_REQUEST),
+    (b'GET /export/\xc3\xa9 HTTP/1.1\r\n\r\n', NOT_FOUND),
     (b'GET /export/zone HTTP/1.1\r\n\r\n', NOT_FOUND),
     (b'POST /arrivals/ HTTP/1.1\r\n\r\n', NOT_FOUND),
     (b'PUT /arrivals/n1/n2 HTTP/1.1\r\n\r\n', NOT_FOUND),

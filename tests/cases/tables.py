@@ -198,6 +198,20 @@ def test_cells_that_no_bundle_has(stage: Stage) -> None:
     check_tables(stage, {('contact', b'C1'): record(rows)}, BOTH)
 
 
+def test_most_columns(stage: Stage) -> None:
+    """A table of a database has 2,000 columns at most; the key is one of them."""
+    store_of(stage, (FIRST,))
+    for count in (1_999, 2_000):
+        rows = [('contact', [(f'x{at}', '') for at in range(count)])]
+        change_row(stage, 'a.db', 'UPDATE object SET record = ? WHERE key = ?',
+                   (record(rows), b'C1'))
+        if count == 1_999:
+            check_tables(stage, {('contact', b'C1'): record(rows)}, BOTH)
+            shutil.rmtree(stage.at('out'))
+    check_refused(stage, 'H10 contact', BOTH)
+    check_tables(stage, {('contact', b'C1'): record(rows)})
+
+
 # The tables of a Full and of a Differential of which two would be in one file.
 ALIKE = (
     ('H9 more', (FIRST, CHILD, HOST), (HOST,

@@ -1,7 +1,6 @@
 """A plain model of `handover check`, by the words of docs/HANDOVER.md and docs/DEFINITIONS.md.
 
-It looks at what a store keeps (model.py), and says how each line begins. Nothing of the program is
-used."""
+It looks at what a store keeps (model.py), and says each line. Nothing of the program is used."""
 import hashlib
 import ipaddress
 import re
@@ -34,9 +33,10 @@ from tests.support.model import made_by
 
 It = TypeVar('It')
 # Of a guide the kind, the child table or none, and the field; of a finding the code, the kind, the
-# key, the field and the value; of a test its name, whether it passes, and what is said of it.
+# key, the field, the value and what is told besides; of a test its name, whether it passes, and
+# what is said of it.
 Guide = tuple[str, str | None, str]
-Finding = tuple[int, str, str, str, str]
+Finding = tuple[int, str, str, str, str, str]
 Tested = tuple[str, bool, str]
 Objects = Mapping[Named, bytes]
 # The fields by which links, statuses and dates go: the kind of the objects, the child table, or
@@ -62,13 +62,22 @@ GUIDES: tuple[Guide, ...] = (
 # The tests that are only told.
 TOLD_ALONE = ('gaps', 'moment', 'early', 'roids', 'required', 'outside', 'digests', 'addresses',
               'notes')
-# How the line of a rule of RFC 9022, section 8, begins after the number of objects that break it.
+# What the line of a rule of RFC 9022, section 8, says between the number of objects that break it
+# and the first of them.
 RULES = {
-    'registrars': "name a registrar that isn't there", 'nndns': "have a domain's name",
-    'roids': 'have a ROID that another of their kind has',
-    'required': 'lack what RFC 9022 requires of them', 'outside': 'are not below the TLD',
-    'digests': 'have a DS that is none', 'addresses': 'have an address that is none'
+    'registrars':
+        "name a registrar that isn't there, by crRr, upRr, reRr or acRr; ask the agent for it",
+    'nndns': "have a domain's name; ask the agent which the name is",
+    'roids': 'have a ROID that another of their kind has; ask the agent which has it',
+    'required':
+        'lack what RFC 9022 requires of them; `pack_rde` says what, ask the agent for it',
+    'outside': 'are not below the TLD; ask the agent why they are there',
+    'digests': 'have a DS that is none, which a zone leaves out; ask the agent for it',
+    'addresses':
+        'have an address that is none, or of another version than said; ask the agent for it'
 }
+# How many objects such a line names.
+MOST_NAMED = 20
 # The fields of a parent row, by kind, and those of a postal address, that have a text (RFC 9022,
 # sections 5.1 to 5.4).
 REQUIRED = {
@@ -112,29 +121,29 @@ def findings_of(kind: str, key: str, rows: Rows, objects: Objects,
         for text in cells_of(rows, table, field):
             target = text.lower() if field == 'hostName' else text
             if (TARGETS[field], target.encode()) not in objects:
-                yield 1, kind, key, field, target
+                yield 1, kind, key, field, target, TARGETS[field]
     found = cells_of(rows, f'{kind}Statuses', 'status') if kind in STATUSES else []
-    yield from ((3, kind, key, 'status', it) for it in found if it not in STATUSES[kind])
+    yield from ((3, kind, key, 'status', it, '') for it in found if it not in STATUSES[kind])
     if kind == 'domain' and 'ok' in found and set(found) != {'ok'}:
-        yield 4, kind, key, 'status', 'ok'
+        yield 4, kind, key, 'status', 'ok', ''
     texts = {
         field: text
         for of, _, field in GUIDES if of == kind and field.endswith('Date')
         for text in cells_of(rows, None, field)
     }
     moments = {field: formats.moment(text) for field, text in texts.items()}
-    yield from ((7, kind, key, field, texts[field]) for field in texts if moments[field] is None)
+    yield from ((7, kind, key, field, texts[field], '') for field in texts
+                if moments[field] is None)
     created, expired = moments.get('crDate'), moments.get('exDate')
     if created is not None and created > watermark:
-        yield 5, kind, key, 'crDate', texts['crDate']
+        yield 5, kind, key, 'crDate', texts['crDate'], moment_text(watermark)
     if created is not None and expired is not None and expired < created:
-        yield 6, kind, key, 'exDate', texts['exDate']
+        yield 6, kind, key, 'exDate', texts['exDate'], texts['crDate']
 
 
 def findings(objects: Objects, watermark: int, counts: dict[str, int]) -> list[Finding]:
-    """The findings V1 to V7 in objects, which are records by kind and key: code, kind, key, field
-    and value, in order."""
-    found = {(2, kind, '', 'count', f'{count}')
+    """The findings V1 to V7 in objects, which are records by kind and key, in order."""
+    found = {(2, kind, '', 'count', f'{count}', f'{count_of(objects, kind)}')
              for kind, count in counts.items() if count != count_of(objects, kind)}
     for (kind, key), record in objects.items():
         found |= {*findings_of(kind, key.decode(), read_record(record), objects, watermark)}
@@ -317,15 +326,19 @@ class Seen:
 
 # ---- the lines
 
+# What to do, where it is said of more than one test.
+TAKE = 'take what `restore report gaps` names'
+ANEW = 'go back to a copy of the store, or make it anew'
+
 
 def end_line(seen: Seen) -> tuple[bool, str]:
     """Whether no place is listed after the end, up to the moment; and what is said of it."""
     if seen.end is None:
-        return False, 'there is no chain'
+        return False, f'there is no chain; {TAKE}'
     listed = [it.place for it in seen.gaps if seen.moment is None or it.place[0] <= seen.moment]
     by = '' if seen.moment is None else f', up to the moment {moment_text(seen.moment)}'
     last = max(listed, key=in_order)
-    later = '' if last == seen.end else f', and listed up to {place_text(last)}'
+    later = '' if last == seen.end else f', and listed up to {place_text(last)}; {TAKE}'
     return not later, place_text(seen.end) + by + later
 
 
@@ -340,7 +353,7 @@ def control_spelled(text: str) -> str:
 
 def counted(found: Sequence[It], words: Callable[[It], str]) -> str:
     """How many there are, and these words of the first one."""
-    return f'{len(found)}{words(found[0])};' if found else ''
+    return f'{len(found)}{words(found[0])}' if found else ''
 
 
 def named(found: Iterable[str], words: str) -> str:
@@ -369,17 +382,22 @@ def wrong_gaps(seen: Seen) -> dict[str, str]:
               and seen.end and in_order(it.place) < in_order(seen.end)]
     is_late = seen.end and seen.end[0] > time.time_ns()
     return {
-        'future': f'{place_text(seen.end)} is later than now' if is_late else '',
-        'chain': '' if seen.is_latest else 'not the latest one',
+        'future': f"{place_text(seen.end)} is later than now; set this machine's clock, or ask the "
+                  'agent which watermark it has' if is_late else '',
+        'chain': '' if seen.is_latest else f'not the latest one of the held rows; {ANEW}',
         'resends': counted(
             outdated, lambda it: ' of the chain await a later resend, the first '
-            f'{place_text(it.place)} resend {it.awaited}'),
+            f'{place_text(it.place)} resend {it.awaited}; ask the agent for it'),
         'gaps': counted(
             passed, lambda it: ' before the end are missing or blocked, the first '
-            f'{place_text(it.place)} {it.state}'),
-        'moment': '' if seen.moment is None else f'{moment_text(seen.moment)} is set',
-        'parked': f'{seen.parked} are listed by no row' if seen.parked else '',
-        'early': f'{seen.early} arrivals of version 1' if seen.early else '',
+            f'{place_text(it.place)} {it.state}; the chain goes past them'),
+        'moment': '' if seen.moment is None else
+                  f"{moment_text(seen.moment)} is set, and what is later doesn't count; take it "
+                  'back by `restore as-of` with `latest`',
+        'parked': f'{seen.parked} are listed by no row; ask the agent for the manifest that lists '
+                  'them, see `restore report parked`' if seen.parked else '',
+        'early': f"{seen.early} arrivals of version 1 had no row, and their bodies weren't kept; "
+                 'take them again unless they are held' if seen.early else '',
     }
 
 
@@ -388,39 +406,53 @@ def finding_text(finding: Finding) -> str:
     return ' '.join(filter(None, (f'V{code}', kind, control_spelled(key), more)))
 
 
+def rule_text(found: Sequence[Named], words: str) -> str:
+    """How many objects break a rule, these words, and the first of the objects."""
+    first = ', '.join(f'{kind} {control_spelled(key.decode())}' for kind, key in found[:MOST_NAMED])
+    return f'{len(found)} {words}: {first}' if found else ''
+
+
 def wrong_objects(seen: Seen) -> dict[str, str]:
     """What is wrong with the objects, by the test."""
-    broken = {rule: f'{len(seen.flaws[rule])} {words}' if seen.flaws[rule] else ''
-              for rule, words in RULES.items()}
+    broken = {rule: rule_text(seen.flaws[rule], words) for rule, words in RULES.items()}
     other_names = (guide_text(it) for it in GUIDES if is_under_other_name(it, seen.tables))
     return {
-        'findings': counted(seen.findings, lambda it: f', the first {finding_text(it)}'),
+        'findings': counted(
+            seen.findings,
+            lambda it: f', the first {finding_text(it)}; see `restore report links`'),
         **broken,
-        'orphans': f'{seen.orphans} child rows' if seen.orphans else '',
-        'counts': named([it for it in KINDS if it not in seen.counts], 'not declared'),
+        'orphans': f"{seen.orphans} child rows in the chain's deposits have no parent row, and are "
+                   'lost; ask the agent by which field they belong to it' if seen.orphans else '',
+        'counts': named([it for it in KINDS if it not in seen.counts],
+                        "not declared by the chain's last deposit; ask the agent how many there "
+                        'are'),
         'fields': named(map(guide_text, undeclared(seen)),
-                        'declared by no deposit of the chain, or not for each object'),
-        'names': named(other_names, 'under another name'),
+                        'declared by no deposit of the chain, or not for each object, and so not '
+                        'checked; ask the agent which fields they are'),
+        'names': named(other_names, 'under another name, and so not checked; have the deposits '
+                       'declared by these names'),
     }
 
 
 def wrong_bodies(seen: Seen) -> dict[str, str]:
     """What is wrong with the bodies that are held, by the test."""
     spoiled = counted(seen.spoiled, lambda it: ' held are gone or have another SHA-256 than '
-                      f'listed, the first of row {it + 1}')
-    unread = '' if seen.are_read else 'one of the chain is gone or is no deposit'
+                      f'listed, the first of row {it + 1}; {ANEW}')
+    unread = '' if seen.are_read else f'one of the chain is gone or is no deposit; {ANEW}'
     return {
         'bodies': spoiled or unread,
-        'tables': '' if seen.is_rebuilt else 'not those',
-        'notes': f'{len(seen.notes)} in the chain' if seen.notes else '',
+        'tables': '' if seen.is_rebuilt else f"not those of the chain's deposits; {ANEW}",
+        'notes': f"{len(seen.notes)} in the chain's deposits, from when their bundles were made; "
+                 'each has a line below' if seen.notes else '',
     }
 
 
 def tests_of(seen: Seen) -> Iterator[Tested]:
-    """Each test in order: its name, whether it passes, and what its line then begins to say if it
-    doesn't. Of the end this is said in any case."""
+    """Each test in order: its name, whether it passes, and what its line says if it doesn't. Of the
+    TLD and of the end this is said in any case."""
     tlds = ', '.join(map(control_spelled, seen.tlds)) or 'no held deposit names one'
-    yield 'tld', len(seen.tlds) < 2, tlds
+    several = ' are named by the held deposits; make a store for each' if seen.tlds[1:] else ''
+    yield 'tld', not several, tlds + several
     yield 'end', *end_line(seen)
     for name, wrong in {**wrong_gaps(seen), **wrong_objects(seen), **wrong_bodies(seen)}.items():
         yield name, not wrong, wrong
@@ -436,7 +468,7 @@ def word_of(name: str, passes: bool) -> str:
     return 'ok' if passes else 'told' if name in TOLD_ALONE else 'wrong'
 
 
-def beginning(name: str, passes: bool, said: str) -> str:
-    """How the line of a test begins, or the whole line where it passes."""
+def line_of(name: str, passes: bool, said: str) -> str:
+    """The line of a test."""
     line = f'{word_of(name, passes)} {name}'
     return f'{line}: {said}' if not passes or name in ('tld', 'end') else line

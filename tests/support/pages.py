@@ -4,6 +4,7 @@ from collections.abc import Iterator
 from dataclasses import dataclass
 from dataclasses import field
 from html.parser import HTMLParser
+from typing import NamedTuple
 
 from tests.support.stage import Failed
 
@@ -170,10 +171,20 @@ def rows_of(table: Element) -> list[list[str]]:
     return [[cell.text() for cell in row.elements()] for row in table.one('tbody').all('tr')]
 
 
-def counted_tables(part: Element) -> dict[str, tuple[int, list[list[str]]]]:
-    """The tables of a section by their headings: the number in the heading, and the rows."""
-    found = {}
+class Counted(NamedTuple):
+    """A table with a number in its heading: what the heading says before it, the number, what the
+    caption says, and the rows."""
+    meaning: str
+    number: int
+    caption: str
+    rows: list[list[str]]
+
+
+def counted_tables(part: Element) -> list[Counted]:
+    """The tables of a section that have a heading of their own."""
+    found = []
     for heading, frame in zip(part.all('h3'), part.all('div')):
         words, _, number = heading.text().rpartition(': ')
-        found[words[:2]] = int(number), rows_of(frame.one('table'))
+        table = frame.one('table')
+        found.append(Counted(words, int(number), table.one('caption').text(), rows_of(table)))
     return found

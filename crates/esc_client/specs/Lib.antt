@@ -1,2 +1,3 @@
+pub mod Connections
 pub mod TimeBudget
 pub mod TimedStream

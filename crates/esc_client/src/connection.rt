@@ -1,5 +1,8 @@
 //! The beginning and the end of a connection over TCP.
 
+ghost use Rattle.std.specs.Prelude.{◌≡◌};
+ghost use Rattle.esc_client.specs.Connections.{is_of_connection};
+
 use crate::budget::TimeBudget;
 use crate::stream::TimedStream;
 use std::io::{Error, ErrorKind, Read};
@@ -18,7 +21,9 @@ const UNNAMED_ERRORS: [i32; 5] = [64, 71, 92, 95, 112];
 /// Whether an error of `accept` is one of the connection that was to be accepted: Linux reports there
 /// what has happened to it. Each other one is the listener's, as where no file more may be open: the
 /// next connection would fail the same way.
-pub fn is_of_connection(error: &Error) -> bool {
+pub fn is_of_connection(error: &Error) -> bool
+    ensures { result ≡ is_of_connection error.now }
+{
     match error.kind() {
         ErrorKind::ConnectionAborted
         | ErrorKind::ConnectionReset

@@ -39,9 +39,9 @@
 //!
 //! No contract says that the time of each is counted, nor that the stream is limited to `next_wait`
 //! before it: a clock and a stream have no model that could say it. Both are tested, and so is that
-//! a limited read ends in time, which is up to the system. `is_of_connection` and `drain` have no
-//! clause: no contract can say what a system reports of a connection, or what is done to a stream.
-//! Scenes over sockets test them.
+//! a limited read ends in time, which is up to the system. `drain` has no clause: no contract can
+//! say what is done to a stream. Scenes over sockets test it. `specs/Connections.antt` has the
+//! errors that are of a connection.
 #![tactic(auto)]
 
 mod budget;
