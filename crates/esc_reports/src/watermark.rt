@@ -1,7 +1,7 @@
 //! Watermarks in reports.
 
-ghost use Rattle.std.specs.Prelude.{◌≡◌, IfOk, IfErr, string_bytes};
-ghost use Rattle.esc_envelope.specs.Watermark.{printed};
+ghost use Rattle.std.specs.Prelude.{◌≡◌, Err, IfOk, IfErr, string_bytes};
+ghost use Rattle.esc_envelope.specs.Watermark.{printed, IsInYears};
 ghost use Rattle.esc_store.specs.Faults.{IsFailure};
 
 use esc_envelope::watermark_text;
@@ -12,6 +12,7 @@ use std::alloc::Global;
 /// to 2261, where no listed one is; `S2`.
 pub fn printed_watermark(alloc: Global, watermark: i64) -> Result<String, StoreFault>
     ensures text { IfOk result (λ text. string_bytes text ≡ printed watermark) }
+    ensures outside { (IsInYears watermark → ⊥) → result ≡ Err (StoreFault.Failed Cause.NoMoment) }
     ensures cause { IfErr result IsFailure }
 {
     match watermark_text(alloc, watermark)? {
