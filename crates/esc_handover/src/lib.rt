@@ -6,8 +6,8 @@
 //! receipts and the parked bodies: the lines, the release as a picture and as a table, the objects
 //! beside the declared numbers, the findings.
 //!
-//! What `handover` does without its store is here, too. `read_findings` and `are_made_by` find
-//! something in objects as they come. `bundle_or_stop` gives the bundle of `esc_deposit`, and
+//! What `handover` does without its store is here, too. `read_findings`, `read_survey`, `read_flaws`
+//! and `are_made_by` find something in objects as they come. `bundle_or_stop` gives the bundle of `esc_deposit`, and
 //! `place_file` writes a file in one step. A [`TableFolder`] is where the files of
 //! `esc_table_files` are written, and a [`SeriesFolder`] where the bundles of a series of
 //! `esc_deposit` are, with their manifest. A [`Progress`] tells on standard error how far that is,
@@ -38,7 +38,7 @@
 //! each ends: no contract can say what a file holds or what is printed, so that is tested on the
 //! built program. So it is with `files`, `progress`, `registry_bundle`, `series_folder`, `stop` and
 //! `table_folder`, with `read_layouts`, and with what is below `page` but for `axis`, `group` and
-//! `share`. `read_findings` and `are_made_by` are exact: what is told on the way changes nothing.
+//! `share`. The other calls that read are exact: what is told on the way changes nothing.
 #![tactic(auto)]
 
 mod answer;
@@ -59,7 +59,7 @@ pub use laws::{
 };
 pub use page::page_of;
 pub use progress::Progress;
-pub use reading::{are_made_by, read_findings, read_layouts};
+pub use reading::{are_made_by, read_findings, read_flaws, read_layouts, read_survey};
 pub use registry_bundle::{bundle_or_stop, check_object_count, read_lengths, series_of};
 pub use series_folder::SeriesFolder;
 pub use stop::{REFUSED, Stop, or_stop, tell_stop};
