@@ -321,7 +321,8 @@ class Seen:
         ]
         self.are_read, self.made = deposits == read, made_by(deposits)
         self.is_rebuilt = self.are_read and self.made == desk.objects
-        self.flaws = flaws_of(self.made, self.tlds[0] if len(self.tlds) == 1 else None)
+        self.stored = desk.objects
+        self.flaws = flaws_of(self.stored, self.tlds[0] if len(self.tlds) == 1 else None)
 
 
 # ---- the lines
@@ -371,7 +372,7 @@ def undeclared(seen: Seen) -> list[Guide]:
                        for table in seen.tables)]
     return [it for it in wanted
             if it not in declared
-            or not all(has_guide(it, kind, of) for (kind, _), of in seen.made.items())]
+            or not all(has_guide(it, kind, of) for (kind, _), of in seen.stored.items())]
 
 
 def wrong_gaps(seen: Seen) -> dict[str, str]:

@@ -1,2 +1,3 @@
+pub mod Covered
 pub mod Named
 pub mod Places

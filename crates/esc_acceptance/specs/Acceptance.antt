@@ -21,16 +21,16 @@ use Rattle.esc_conformity.specs.Flaws.{rule_name}
 use Rattle.esc_conformity.specs.Found.{keys_by}
 use Rattle.esc_acceptance.specs.declared.test.Test.{Test}
 use Rattle.esc_acceptance.specs.declared.test.Test.TheVariants as test
-use Rattle.esc_apply.specs.ObjectStreams.{Entry}
-use Rattle.esc_acceptance.specs.Guides.{guides, is_wanted, is_declared_for_all, is_disguise}
+use Rattle.esc_acceptance.specs.declared.guide.Guide.{Guide}
+use Rattle.esc_acceptance.specs.Guides.{guides, is_wanted, is_guide_declared, is_disguise}
 
 -- what was seen of a store: how many TLDs the held deposits name; the moment that is set, what time
 -- it is, the chain's end, whether the chain is the latest one, the line of each listed place; how
 -- many bodies are parked, how many arrivals are early ones without a body, how many findings there
 -- are, and which objects break each rule; the objects and the declared numbers by kind, the tables
--- that the chain's deposits declare, what they make, how many orphans they have, how many held
--- bodies aren't what their rows list, whether those of the chain are deposits, and whether the
--- tables are what they make; and the notes in them
+-- that the chain's deposits declare, which guides some object lacks, how many orphans the deposits
+-- have, how many held bodies aren't what their rows list, whether those of the chain are deposits,
+-- and whether the tables are what they make; and the notes in them
 pub record SeenValue : Type 0 where
   pub tlds : ℕ
   pub moment : Option ℤ
@@ -45,7 +45,7 @@ pub record SeenValue : Type 0 where
   pub objects : List (Kind × ℕ)
   pub counts : List (Kind × ℕ)
   pub tables : List TableValue
-  pub made : List Entry
+  pub lacking : List Guide
   pub orphans : ℕ
   pub spoiled : ℕ
   pub are_read : Bool
@@ -118,7 +118,8 @@ passes (test.Conforms rule) s = length (keys_by s.flaws rule) == 0
 passes test.Orphans s = s.orphans == 0
 passes test.Counts s = list_all (is_counted s.counts) kinds
 passes test.Fields s =
-    list_all (λ g. not (is_wanted s.objects g) || is_declared_for_all s.tables s.made g) guides
+    list_all (λ g. not (is_wanted s.objects g) || is_guide_declared s.tables g) guides
+    && not (list_any (is_wanted s.objects) s.lacking)
 passes test.Names s = list_all (λ g. not (list_any (is_disguise g) s.tables)) guides
 passes test.Bodies s = (s.spoiled == 0) && s.are_read
 passes test.Tables s = s.is_rebuilt

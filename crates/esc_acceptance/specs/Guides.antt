@@ -1,9 +1,9 @@
 -- The fields by which links, statuses and dates go, and how a declared table has them (RFC 9022,
 -- RFC 5731 to 5733, and this project's profile).
-use Rattle.std.specs.Prelude.{ℕ, List, [], ◌∷◌, map, filter, take, drop, length, Bool, true, false}
+use Rattle.std.specs.Prelude.{◌≡◌, ◌↔◌, ℕ, List, [], ◌∷◌, map, filter, take, drop, length, Bool, true, false}
 use Rattle.std.specs.Prelude.{not, ◌&&◌, ◌||◌, ◌==◌, nat_lt, codes, if◌then◌else◌}
 use Rattle.std.specs.Prelude.{is_some}
-use Rattle.std.specs.List.{list_any, list_all}
+use Rattle.std.specs.List.{Contains, list_any, list_all}
 use Rattle.std.specs.Map.{lookup}
 use Rattle.std.specs.Str.{bytes_eq}
 use Rattle.std.specs.Char.{to_ascii_lowercase}
@@ -13,6 +13,7 @@ use Rattle.esc_envelope.specs.EnvelopeValue.{TableValue}
 use Rattle.esc_envelope.specs.Kinds.{is_kind}
 use Rattle.esc_tables.specs.ObjectValue.{RowValue}
 use Rattle.esc_apply.specs.ObjectStreams.{Entry}
+use Rattle.esc_acceptance.specs.declared.coverage.Coverage.{Coverage}
 use Rattle.esc_acceptance.specs.declared.guide.Guide.{Guide}
 use Rattle.esc_acceptance.specs.declared.guide.Guide.TheVariants.{RegistrarCreation, ContactSponsor}
 use Rattle.esc_acceptance.specs.declared.guide.Guide.TheVariants.{ContactCreation, ContactStatus}
@@ -138,9 +139,14 @@ has_guide g e = not (is_kind e.0.kind (guide_kind g))
     else list_all (λ r. not (bytes_eq r.table (child_name g)) || has_cell (guide_field_name g) r)
     e.1.children)
 
--- whether it is declared, and each of these objects has it
-abbrev pub is_declared_for_all : List TableValue → List Entry → Guide → Bool
-is_declared_for_all tables es g = is_guide_declared tables g && list_all (has_guide g) es
+-- these are the guides that some of these objects lacks
+abbrev pub AreLackingIn : List Entry → List Guide → Type 0
+AreLackingIn es gs = (g : Guide) → Contains gs g ↔ (list_all (has_guide g) es ≡ false)
+
+-- it is kept which guides each of these objects has, and which some of them lacks
+pub record IsCoverageOf (es : List Entry) (c : Coverage) : Type 0 where
+  pub common : c.common.items ≡ filter (λ g. list_all (has_guide g) es) guides
+  pub lacking : AreLackingIn es c.lacking.items
 
 -- whether there are objects of a kind
 abbrev pub has_objects : List (Kind × ℕ) → Kind → Bool

@@ -8,16 +8,14 @@ ghost use Rattle.esc_acceptance.specs.Acceptance.{is_after, is_by, is_past, is_l
 ghost use Rattle.esc_acceptance.specs.Acceptance.{is_end, is_in_chain};
 ghost use Rattle.esc_acceptance.specs.Acceptance.{is_outdated, is_open, is_passed, is_counted};
 ghost use Rattle.esc_acceptance.specs.Acceptance.{passes, tests, is_accepted, status_of};
-ghost use Rattle.esc_acceptance.specs.Guides.{is_disguise, is_wanted, is_declared_for_all, guides};
+ghost use Rattle.esc_acceptance.specs.Guides.{is_disguise, is_wanted, is_guide_declared, guides};
 
 use crate::guide::Guide;
-use crate::guides::{all_guides, is_disguise, is_there, is_wanted};
+use crate::guides::{all_guides, is_declared, is_disguise, is_wanted};
 use crate::seen::Seen;
 use crate::test::Test;
 use esc_chain::{GapLine, State};
 use esc_envelope::{DepositType, Kind, Place, Table};
-use esc_tables::{Key, Object};
-use std::collections::BTreeMap;
 
 // The place of a type in the order of types.
 fn rank(kind: DepositType) -> u8
@@ -130,13 +128,19 @@ fn are_counted(counts: &[(Kind, u64)]) -> bool
     kinds.iter().all(|kind| is_counted(counts, *kind))
 }
 
-fn are_fields_there(objects: &[(Kind, u64)], tables: &[Table], made: &BTreeMap<Key, Object>) -> bool
+fn are_declared(objects: &[(Kind, u64)], tables: &[Table]) -> bool
     ensures { result ≡ list_all (λ g.
-        not (is_wanted objects.now g) || is_declared_for_all tables.now made.now.entries g)
-        guides }
+        not (is_wanted objects.now g) || is_guide_declared tables.now g) guides }
 {
     let guides = all_guides();
-    guides.iter().all(|guide| !is_wanted(objects, *guide) || is_there(tables, made, *guide))
+    guides.iter().all(|guide| !is_wanted(objects, *guide) || is_declared(tables, *guide))
+}
+
+// Whether one of these is wanted.
+fn is_one_wanted(objects: &[(Kind, u64)], guides: &[Guide]) -> bool
+    ensures { result ≡ list_any (is_wanted objects.now) guides.now }
+{
+    guides.iter().any(|guide| is_wanted(objects, *guide))
 }
 
 pub(crate) fn has_disguise(guide: Guide, tables: &[Table]) -> bool
@@ -182,7 +186,9 @@ pub fn passes(test: Test, seen: &Seen<'_>) -> bool
         Test::Conforms(rule) => seen.flaws.of(rule).len() == 0,
         Test::Orphans => seen.orphans == 0,
         Test::Counts => are_counted(seen.counts),
-        Test::Fields => are_fields_there(seen.objects, seen.tables, seen.made),
+        Test::Fields => {
+            are_declared(seen.objects, seen.tables) && !is_one_wanted(seen.objects, seen.lacking)
+        }
         Test::Names => are_names_clear(seen.tables),
         Test::Bodies => seen.spoiled.len() == 0 && seen.are_read,
         Test::Tables => seen.is_rebuilt,

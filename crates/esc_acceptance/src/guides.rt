@@ -6,7 +6,7 @@ ghost use Rattle.std.specs.List.{list_any, list_all};
 ghost use Rattle.std.specs.Str.{bytes_eq};
 ghost use Rattle.esc_acceptance.specs.Guides.{guides, is_of_parents, is_its_table, has_field};
 ghost use Rattle.esc_acceptance.specs.Guides.{is_guide_declared, has_objects, is_wanted};
-ghost use Rattle.esc_acceptance.specs.Guides.{has_cell, has_guide, is_declared_for_all};
+ghost use Rattle.esc_acceptance.specs.Guides.{has_cell, has_guide};
 ghost use Rattle.esc_acceptance.specs.Guides.{is_name_sign, folds_to, looks_like, is_disguised};
 ghost use Rattle.esc_acceptance.specs.Guides.{is_disguised_table, has_disguised_field, has_disguise};
 ghost use Rattle.esc_acceptance.specs.Guides.{stands_for_its_table, is_disguise};
@@ -14,7 +14,6 @@ ghost use Rattle.esc_acceptance.specs.Guides.{stands_for_its_table, is_disguise}
 use crate::guide::Guide;
 use esc_envelope::{Kind, Table};
 use esc_tables::{Key, Object, Row};
-use std::collections::BTreeMap;
 
 // All of them.
 #[tactic(auto, unfolding(crate::specs::Guides::guides))]
@@ -55,8 +54,8 @@ fn has_field(table: &Table, field: &str) -> bool
     is_among(&table.fields, field)
 }
 
-// Whether a field is in a declared table.
-fn is_declared(tables: &[Table], guide: Guide) -> bool
+/// Whether a field is in a declared table.
+pub(crate) fn is_declared(tables: &[Table], guide: Guide) -> bool
     ensures { result ≡ is_guide_declared tables.now guide }
 {
     tables.iter().any(|table| is_its_table(guide, table) && has_field(table, guide.field_name()))
@@ -76,8 +75,8 @@ fn have_cells(rows: &[Row], table: &str, field: &str) -> bool
         .all(|row| row.table() != table || has_cell(row, field))
 }
 
-// Whether an object has a field, if it is of the kind that does.
-fn has_guide(guide: Guide, key: &Key, object: &Object) -> bool
+/// Whether an object has a field, if it is of the kind that does.
+pub(crate) fn has_guide(guide: Guide, key: &Key, object: &Object) -> bool
     ensures { result ≡ has_guide guide (key.now, object.now) }
 {
     if key.kind != guide.kind() {
@@ -90,18 +89,9 @@ fn has_guide(guide: Guide, key: &Key, object: &Object) -> bool
     }
 }
 
-fn have_guide(guide: Guide, made: &BTreeMap<Key, Object>) -> bool
-    ensures { result ≡ list_all (has_guide guide) made.now.entries }
-{
-    made.iter()
-        .all(|(key, object)| has_guide(guide, key, object))
-}
-
-/// Whether a field is in a declared table, and in each object that has to have it.
-pub(crate) fn is_there(tables: &[Table], made: &BTreeMap<Key, Object>, guide: Guide) -> bool
-    ensures { result ≡ is_declared_for_all tables.now made.now.entries guide }
-{
-    is_declared(tables, guide) && have_guide(guide, made)
+/// Whether a field is among these.
+pub(crate) fn is_among_guides(guides: &[Guide], guide: Guide) -> bool {
+    guides.contains(&guide)
 }
 
 fn has_objects(objects: &[(Kind, u64)], kind: Kind) -> bool

@@ -11,7 +11,8 @@
 //!
 //! What is seen is found by `gaps_of`, which has the line of each listed place, by `is_latest`, which
 //! compares a chain with the latest one, by `is_as_listed`, which compares a body with its row, by
-//! [`Tlds`], and by [`ChainFacts`], which takes one body of the chain after the other.
+//! [`Tlds`], by `survey_from`, which goes over all objects as they come, and by [`ChainFacts`], which
+//! takes one body of the chain after the other.
 //! (`esc_conformity` has the objects that fail a test by themselves.) Nothing here knows of a store.
 //!
 //! ```text
@@ -31,7 +32,8 @@
 //! 0 exactly where the registry is accepted. `specs/Lines.antt` says what the text is: a line for
 //! each test, in order, with `ok` exactly where it passes, then one for each note. What a line says
 //! after the test's name has no contract. `specs/Guides.antt` says which fields have links, statuses
-//! and dates, which objects have them, and what looks like one of them under another name.
+//! and dates, which objects have them, and what looks like one of them under another name;
+//! `survey_from` returns just the fields that some object lacks (`IsCoverageOf`).
 //!
 //! `specs/Chains.antt` says what the bodies of a chain say: at each `add` whether all of them are
 //! deposits, and how many orphans these have. `specs/Listed.antt` says when a body is as listed.
@@ -42,6 +44,7 @@
 mod acceptance;
 mod bodies;
 mod chain;
+mod coverage;
 mod declared;
 mod detail;
 mod gaps;
@@ -52,6 +55,7 @@ mod notes;
 mod report;
 mod same;
 mod seen;
+mod surveying;
 mod test;
 mod tlds;
 mod words;
@@ -59,6 +63,7 @@ mod words;
 pub use acceptance::{is_accepted, passes, status_of};
 pub use bodies::{deposit_of_body, is_as_listed};
 pub use chain::ChainFacts;
+pub use coverage::Coverage;
 pub use declared::Declared;
 pub use gaps::{gaps_of, is_latest};
 pub use guide::Guide;
@@ -66,6 +71,7 @@ pub use line::{Line, lines_of};
 pub use report::{Report, report_of};
 pub use same::{are_same_counts, is_same_entry, is_same_object};
 pub use seen::Seen;
+pub use surveying::{Surveyed, survey_from};
 pub use test::Test;
 pub use tlds::Tlds;
 pub use words::{moment_words, one_line};

@@ -1,11 +1,10 @@
 //! What was seen of a store.
 
+use crate::guide::Guide;
 use esc_chain::GapLine;
 use esc_check::Finding;
 use esc_conformity::Flaws;
 use esc_envelope::{Kind, Place, Table};
-use esc_tables::{Key, Object};
-use std::collections::BTreeMap;
 use std::marker::Model;
 
 /// What was seen of a store, for its acceptance.
@@ -37,8 +36,8 @@ pub struct Seen<'a> {
     pub counts: &'a [(Kind, u64)],
     /// The tables of contents that the chain's deposits declare.
     pub tables: &'a [Table],
-    /// The objects that the chain's deposits make.
-    pub made: &'a BTreeMap<Key, Object>,
+    /// The fields that some object lacks, of the kind that has them.
+    pub lacking: &'a [Guide],
     /// How many orphans the chain's deposits have.
     pub orphans: u64,
     /// The held rows whose body isn't there, or has another SHA-256 than listed.
@@ -71,7 +70,7 @@ impl<'a> Model for Seen<'a> {
       objects = s.objects.now;
       counts = s.counts.now;
       tables = s.tables.now;
-      made = s.made.now.entries;
+      lacking = s.lacking.now;
       orphans = s.orphans;
       spoiled = length s.spoiled.now;
       are_read = s.are_read;

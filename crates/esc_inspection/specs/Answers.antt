@@ -1,5 +1,5 @@
 -- What is answered to the question of whether a registry may be taken over.
-use Rattle.std.specs.Prelude.{◌≡◌, ℕ, ℤ, List, Bool, Option}
+use Rattle.std.specs.Prelude.{◌≡◌, ℤ, List, Option}
 use Rattle.esc_html.specs.Markup.{IsHtmlPage}
 use Rattle.esc_handover.specs.declared.answer.Answer.{Answer}
 use Rattle.esc_handover.specs.Titles.{TellsVerdict}

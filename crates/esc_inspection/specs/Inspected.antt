@@ -1,23 +1,19 @@
 -- What is seen of a store that reflects a list of events, for its acceptance.
-use Rattle.std.specs.Prelude.{◌≡◌, ℕ, ℤ, List, length, map, Bool, true, false, Option, count_by}
+use Rattle.std.specs.Prelude.{◌≡◌, ℕ, List, length, map, Bool, true, false, count_by}
 use Rattle.std.specs.FinSet as set
 use Rattle.std.specs.Prelude.{string_bytes}
 use Rattle.esc_chain.specs.Chain.{IsLatestChainAt}
 use Rattle.esc_store.specs.ReplyValue.{ReplyValue}
 use Rattle.esc_store.specs.declared.reply.Verdict.{Verdict}
 use Rattle.esc_store.specs.declared.reply.Verdict.TheVariants.{A1, A2, A3, A4, A5}
-use Rattle.esc_store.specs.declared.parked.ParkedBody.{ParkedBody}
 use Rattle.esc_events.specs.Apart.{WhereApart}
 use Rattle.esc_events.specs.Events.{EventValue, union, last_moment}
 use Rattle.esc_events.specs.LatestTables.{IsChainOf}
 use Rattle.esc_desk.specs.Reads.{replies_of, AreParkedOf}
-use Rattle.esc_conformity.specs.declared.rule.Rule.{Rule}
-use Rattle.esc_conformity.specs.Flaws.{flaws}
-use Rattle.esc_conformity.specs.Found.{keys_by}
 use Rattle.esc_acceptance.specs.Acceptance.{SeenValue}
 use Rattle.esc_acceptance.specs.Tlds.{only_name}
-use Rattle.esc_acceptance.specs.declared.chain.ChainFacts.{ChainFacts}
 use Rattle.esc_inspection.specs.declared.facts.StoreFacts.{StoreFacts}
+use Rattle.esc_inspection.specs.Contents.{AreContentsOf}
 use Rattle.esc_inspection.specs.Parts.{AreTotalsOf, AreEndingOf, AreLinesFor, AreSpoiledAmong}
 use Rattle.esc_inspection.specs.Parts.{AreChainFactsOf, IsRebuiltFrom}
 
@@ -45,11 +41,11 @@ seen_in f = record {
   parked = length f.parked.items;
   early = early_count f.books.receipts.items;
   findings = length f.ending.findings.items;
-  flaws = f.flaws;
+  flaws = f.contents.flaws;
   objects = f.totals.objects.items;
   counts = f.ending.counts.items;
   tables = f.chain.declared.tables.items;
-  made = f.chain.objects.entries;
+  lacking = f.contents.lacking.items;
   orphans = f.chain.orphans;
   spoiled = length f.bodies.spoiled.items;
   are_read = f.chain.are_read;
@@ -68,14 +64,13 @@ module _ (e : List EventValue) where
     pub rows : IsChainOf e f.kept.rows.items
     pub chain : AreChainFactsOf e f.chain
     pub rebuilt : IsRebuiltFrom e f.chain f.is_rebuilt
+    pub contents : AreContentsOf e (only_name (map string_bytes f.bodies.tlds.names.items))
+        f.contents.lacking.items f.contents.flaws
 
   -- what was seen is what the events leave
   pub record AreFactsAfter (f : StoreFacts) : Type 0 where
     pub moment : f.books.moment ≡ last_moment e
     pub receipts : f.books.receipts.items ≡ replies_of e
-    pub flawed : (rule : Rule) → keys_by f.flaws rule
-        ≡ flaws rule (only_name (map string_bytes f.bodies.tlds.names.items))
-        f.chain.objects.entries
     pub latest : f.kept.is_latest ≡ true → IsLatestChainAt (union e)
         (set.from_list f.listing.held.items) f.books.moment f.kept.rows.items
     pub kept : WhereApart e (AreKeptFacts f)

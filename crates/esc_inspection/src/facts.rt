@@ -8,9 +8,9 @@ use crate::books::Books;
 use crate::ending::Ending;
 use crate::kept::Kept;
 use crate::listing::Listing;
+use crate::surveying::Contents;
 use crate::totals::Totals;
 use esc_acceptance::{ChainFacts, Seen};
-use esc_conformity::Flaws;
 use esc_events::ParkedBody;
 use esc_store::{Reply, Verdict};
 
@@ -29,10 +29,10 @@ pub struct StoreFacts {
     pub bodies: Bodies,
     /// What the deposits of the chain say.
     pub chain: ChainFacts,
-    /// The objects that break the rules of RFC 9022, section 8.
-    pub flaws: Flaws,
     /// Whether the tables are those that the bodies of the chain make.
     pub is_rebuilt: bool,
+    /// What is asked of all objects of the tables.
+    pub contents: Contents,
 }
 
 impl StoreFacts {
@@ -51,11 +51,11 @@ impl StoreFacts {
             parked: self.parked.len(),
             early: early_in(&self.books.receipts),
             findings: &self.ending.findings,
-            flaws: &self.flaws,
+            flaws: &self.contents.flaws,
             objects: &self.totals.objects,
             counts: &self.ending.counts,
             tables: &declared.tables,
-            made: &self.chain.objects,
+            lacking: &self.contents.lacking,
             orphans: self.chain.orphans,
             spoiled: &self.bodies.spoiled,
             are_read: self.chain.are_read,

@@ -16,11 +16,11 @@ use crate::form::Form;
 use crate::kept::read_kept;
 use crate::listing::read_listing;
 use crate::rebuilt::is_rebuilt;
+use crate::surveying::read_contents;
 use crate::totals::read_totals;
 use esc_acceptance::{Report, Seen, report_of};
 use esc_bundle::NoMemory;
 use esc_cli::DONE;
-use esc_conformity::Flaws;
 use esc_desk::{Reads, StoreFault};
 use esc_handover::{Answer, Progress, page_of};
 use std::alloc::Global;
@@ -48,7 +48,7 @@ pub fn inspect<R: Reads>(
     let bodies = read_bodies(alloc, reader, &listing.held, progress)?;
     let chain = read_chain(alloc, reader, &kept.rows, progress)?;
     let is_rebuilt = is_rebuilt(alloc, reader, &chain, progress)?;
-    let flaws = Flaws::find(alloc, &chain.objects, bodies.tlds.only())?;
+    let contents = read_contents(alloc, reader, bodies.tlds.only(), progress)?;
     Ok(StoreFacts {
         clock,
         books,
@@ -59,8 +59,8 @@ pub fn inspect<R: Reads>(
         kept,
         bodies,
         chain,
-        flaws,
         is_rebuilt,
+        contents,
     })
 }
 

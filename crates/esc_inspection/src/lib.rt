@@ -48,6 +48,7 @@ mod kept;
 mod laws;
 mod listing;
 mod rebuilt;
+mod surveying;
 mod totals;
 
 pub use bodies::Bodies;
@@ -59,4 +60,5 @@ pub use inspection::{acceptance, answer_of, inspect};
 pub use kept::Kept;
 pub use laws::status_zero_is_all_clear;
 pub use listing::Listing;
+pub use surveying::Contents;
 pub use totals::Totals;

@@ -1,9 +1,9 @@
-use Rattle.std.proofs.Common.{◌≡◌, true, map, rules, ◌∙◌, ap, subst, List, ℕ}
+use Rattle.std.proofs.Common.{◌≡◌, true, map, rules, subst, List, ℕ, Option}
 use Rattle.std.specs.FinSet as set
 use Rattle.esc_acceptance.specs.Chains.{AreFactsOf}
 use Rattle.esc_chain.specs.Chain.{IsLatestChainAt}
 use Rattle.esc_events.specs.Events.{union}
-use Rattle.esc_conformity.specs.Flaws.{flaws}
+use Rattle.esc_inspection.specs.Contents.{AreContentsOf}
 use Rattle.esc_inspection.specs.Parts.{AreSpoiledAmong, body_at}
 use Rattle.esc_inspection.proofs.Reading.{read_made, read_then}
 use Rattle.esc_inspection.proofs.inspection.inspect.Goals as goal
@@ -11,7 +11,8 @@ use Rattle.esc_inspection.proofs.inspection.inspect.Goals as goal
 pub returns-clause-facts : goal.returns-clause-facts
 returns-clause-facts g c = λ clean e serves.
     let laws = g.met.R.Reads in
-    let honest8 = laws.was_honest _ _ c.in_ok-is_rebuilt.ensures.read.follows clean in
+    let honest9 = laws.was_honest _ _ c.in_ok-contents.ensures.read.follows clean in
+    let honest8 = laws.was_honest _ _ c.in_ok-is_rebuilt.ensures.read.follows honest9 in
     let honest7 = laws.was_honest _ _ c.in_ok-chain.ensures.read.follows honest8 in
     let honest6 = laws.was_honest _ _ c.in_ok-bodies.ensures.read.follows honest7 in
     let honest5 = laws.was_honest _ _ c.in_ok-kept.ensures.read.follows honest6 in
@@ -27,12 +28,11 @@ returns-clause-facts g c = λ clean e serves.
     let serves6 = c.in_ok-kept.ensures.read.reflects e serves5 in
     let serves7 = c.in_ok-bodies.ensures.read.reflects e serves6 in
     let serves8 = c.in_ok-chain.ensures.read.reflects e serves7 in
+    let serves9 = c.in_ok-is_rebuilt.ensures.read.reflects e serves8 in
     let moment = c.in_ok-books.ensures.moment honest1 e serves in
     record {
       moment = moment;
       receipts = c.in_ok-books.ensures.receipts honest1 e serves;
-      flawed = λ rule. c.in_ok-flaws.ensures rule
-          ∙ ap (λ tld. flaws rule tld c.in_ok-chain.chain.objects.entries) c.only.ensures;
       latest = subst (λ (rows : List ℕ). c.in_ok-kept.kept.is_latest ≡ true
           → IsLatestChainAt (union e) (set.from_list rows) c.in_ok-books.books.moment
           c.in_ok-kept.kept.rows.items)
@@ -51,7 +51,10 @@ returns-clause-facts g c = λ clean e serves.
           say = subst (λ (rows : List ℕ). AreFactsOf (map (body_at e) rows) c.in_ok-chain.chain)
               c.deref-3.ensures.value (c.in_ok-chain.ensures.facts honest8 e serves7 apart);
         };
-        rebuilt = c.in_ok-is_rebuilt.ensures.rebuilt clean e serves8 apart;
+        rebuilt = c.in_ok-is_rebuilt.ensures.rebuilt honest9 e serves8 apart;
+        contents = subst (λ (tld : Option (List ℕ)). AreContentsOf e tld
+            c.in_ok-contents.contents.lacking.items c.in_ok-contents.contents.flaws)
+            c.only.ensures (c.in_ok-contents.ensures.contents clean e serves9 apart);
       };
     }
 
@@ -155,8 +158,8 @@ returns-in_err-is_rebuilt-clause-read g c =
       reflects = search rules;
     }
 
-pub returns-in_err-flaws-clause-read : goal.returns-in_err-flaws-clause-read
-returns-in_err-flaws-clause-read g c =
+pub returns-in_err-contents-clause-read : goal.returns-in_err-contents-clause-read
+returns-in_err-contents-clause-read g c =
     let goes_on = g.met.R.Reads.goes_on in
     let read1 = c.in_ok-books.ensures.read in
     let read2 = read_then goes_on read1 c.in_ok-totals.ensures.read in
@@ -167,7 +170,10 @@ returns-in_err-flaws-clause-read g c =
     let read7 = read_then goes_on read6 c.in_ok-bodies.ensures.read in
     let read8 = read_then goes_on read7 c.in_ok-chain.ensures.read in
     let read9 = read_then goes_on read8 c.in_ok-is_rebuilt.ensures.read in
-    read_made read9
+    record {
+      follows = goes_on _ _ _ read9.follows c.in_err-contents.ensures.read.follows;
+      reflects = search rules;
+    }
 
 pub returns-clause-read : goal.returns-clause-read
 returns-clause-read g c =
@@ -181,4 +187,5 @@ returns-clause-read g c =
     let read7 = read_then goes_on read6 c.in_ok-bodies.ensures.read in
     let read8 = read_then goes_on read7 c.in_ok-chain.ensures.read in
     let read9 = read_then goes_on read8 c.in_ok-is_rebuilt.ensures.read in
-    read_made read9
+    let read10 = read_then goes_on read9 c.in_ok-contents.ensures.read in
+    read_made read10

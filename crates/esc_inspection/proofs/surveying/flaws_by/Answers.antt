@@ -1,0 +1,24 @@
+use Rattle.std.proofs.Common.{rules, subst, None}
+use Rattle.esc_desk.specs.WalkCalls.{walked_by, place_of}
+use Rattle.esc_desk.specs.Walking.{of_kinds}
+use Rattle.esc_inspection.proofs.Reading.{walked_ill, walked_well}
+use Rattle.esc_inspection.proofs.surveying.flaws_by.Goals as goal
+
+pub returns-in-Ok-clause-each : goal.returns-in-Ok-clause-each
+returns-in-Ok-clause-each g c = λ clean e serves apart es tables ordered.
+    let laws = g.met.R.Reads in
+    let at_end : g.R.Reads.is_honest (walked_by c.read_flaws.new.objects) = search rules in
+    let walk = c.new-walk.ensures in
+    let at_walk = subst g.R.Reads.is_honest walk.same (laws.was_honest _ _ c.in-Ok.ensures.follows.same at_end) in
+    let lists : g.R.Reads.lists (walked_by c.new-walk.result) (place_of c.new-walk.result) (of_kinds None es) =
+    rw (walk.same, walk.place) (c.in_ok-place.ensures.lists at_walk e serves apart es tables ordered) in
+    c.in-Ok.ensures.each at_end es lists
+
+pub returns-in-Ok-clause-read : goal.returns-in-Ok-clause-read
+returns-in-Ok-clause-read g c = search (rules, walked_well, g.met.R.Reads.goes_on)
+
+pub returns-in-Ok-2-clause-read : goal.returns-in-Ok-2-clause-read
+returns-in-Ok-2-clause-read g c = search (rules, walked_ill, g.met.R.Reads.goes_on)
+
+pub returns-clause-read : goal.returns-clause-read
+returns-clause-read g c = search (rules, walked_ill, g.met.R.Reads.goes_on)
