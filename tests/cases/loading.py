@@ -6,17 +6,13 @@ import os
 import shutil
 from collections.abc import Callable
 
-from tests.cases.handovers import BUNDLE
-from tests.cases.handovers import CHECK
 from tests.cases.handovers import CHILD
 from tests.cases.handovers import FIRST
-from tests.cases.handovers import PAGE
 from tests.cases.handovers import TABLES
 from tests.cases.handovers import check_contents_refused
 from tests.cases.handovers import check_refused
 from tests.cases.handovers import children
 from tests.cases.handovers import contacts
-from tests.cases.handovers import names_in
 from tests.cases.handovers import played_apart
 from tests.cases.handovers import store_of
 from tests.cases.tables import sheets_of
@@ -24,7 +20,6 @@ from tests.support.bundles import Table
 from tests.support.documents import csv_text
 from tests.support.files import read
 from tests.support.formats import KINDS
-from tests.support.outputs import prepared
 from tests.support.releases import SAMPLES
 from tests.support.releases import Release
 from tests.support.stage import Failed
@@ -33,8 +28,6 @@ from tests.support.stage import Wanted
 from tests.support.stage import case
 from tests.support.stage import compare
 from tests.support.stage import compare_all
-from tests.support.stores import EMPTY_LOG
-from tests.support.stores import contents
 from tests.support.stores import run
 
 LOAD = 'tables --store a.db --postgres out'
@@ -45,7 +38,6 @@ LINKS = {
     ('domain', 'idnTableId'): 'idn',
     ('nndn', 'idnTableId'): 'idn', ('domainContacts', 'contactId'): 'contact',
     ('domainNs', 'hostName'): 'host'}
-NOBODY = 65534
 
 Sheets = dict[str, tuple[bool, list[str], list[tuple]]]
 
@@ -137,36 +129,3 @@ def test_words(stage: Stage) -> None:
     stage.check(f'{LOAD} --sqlite --progress', Wanted(
         0, '', f'opening a.db\n{told}load.sql: written\nregistry.sqlite: written\n'),
         program='handover')
-
-
-def test_the_store_is_as_it_was(stage: Stage) -> None:
-    """What reads a store does not change it, and writes nothing into its log but the header."""
-    store_of(stage, (FIRST, CHILD))
-    run(stage, 'report --store a.db status')
-    before = read(stage.at('a.db'))
-    for at, line in enumerate((CHECK, PAGE, TABLES, LOAD, f'{LOAD} --sqlite', BUNDLE) * 2):
-        with case(line):
-            run(stage, line.replace(' out', f' out{at}'), 'handover', (0, 1))
-            if read(stage.at('a.db')) != before:
-                raise Failed('the store is changed')
-            if len(read(stage.at('a.db-wal'))) > EMPTY_LOG:
-                raise Failed('something is written into the log')
-
-
-def test_a_store_that_may_not_be_written(stage: Stage) -> None:
-    """A store that may be read alone, in such a folder. (This asks for root.)"""
-    if os.geteuid():
-        return
-    store_of(stage, (FIRST,))
-    stage.programs = {it: shutil.copy(stage.programs[it], stage.at(it))
-                      for it in ('restore', 'handover')}
-    os.chmod(stage.room.name, 0o755)
-    for end in ('', '-wal'):
-        os.chmod(stage.at(f'a.db{end}'), 0o644)
-    before, names = contents(stage.at('a.db')), names_in(stage.room.name)
-    for line in (CHECK, PAGE, TABLES, LOAD, BUNDLE):
-        stage.check(line, Wanted(3, '', 'E1 a.db\n'), program='handover',
-                    prepare=prepared(user=NOBODY))
-        compare_all('files', names, names_in(stage.room.name))
-    if contents(stage.at('a.db')) != before:
-        raise Failed('the store or its log is changed')

@@ -370,10 +370,12 @@ def test_rights(stage: Stage) -> None:
                                          'readable.csv'), 'closed/b.db')):
         check(stage, words, refused(path), user=NOBODY)
     before = make_store(stage)
-    for mode in (0o600, 0o644):
+    writers = ((*TAKE, 'closed'),)
+    for mode, lines in ((0o600, (*writers, RECEIPTS, ('export', '--store', 'a.db', 'domain'))),
+                        (0o644, writers)):
         for end in ('', '-wal'):
             os.chmod(stage.at(f'a.db{end}'), mode)
-        for words in (RECEIPTS, (*TAKE, 'closed'), ('export', '--store', 'a.db', 'domain')):
+        for words in lines:
             check(stage, words, refused('a.db'), user=NOBODY)
     check_whole(stage, 'rights', before)
     make_store(stage, taken=False)

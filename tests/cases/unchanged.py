@@ -1,6 +1,5 @@
-"""What `handover` reads: FILE and what its log holds stay as they are, byte for byte, whatever
-command reads them, and each says and makes the same again. Of a log that holds nothing each opening
-writes the header anew."""
+"""What `handover` reads: FILE and its log stay as they are, byte for byte, whatever command reads
+them, and each says and makes the same again."""
 import os
 
 from tests.cases.handovers import BUNDLE
@@ -43,36 +42,32 @@ def made(stage: Stage, path: str) -> dict[str, bytes]:
     return {name: read(stage.at(it)) for name, it in paths.items() if os.path.isfile(stage.at(it))}
 
 
-def held(stage: Stage, store: str) -> tuple[bytes, bytes]:
-    """The bytes of FILE, and those of its log unless that holds nothing."""
-    file, log = contents(stage.at(store))
-    return file, log if len(log) > EMPTY_LOG else b''
-
-
-def check_unchanged(stage: Stage, store: str) -> None:
+def check_unchanged(stage: Stage, store: str, out: str = 'out') -> None:
     """Runs each reader of a store, and each again."""
-    before, answers = held(stage, store), {}
+    before, answers = contents(stage.at(store)), {}
     for at, line in enumerate(READERS * 2):
-        words = line.replace('a.db', store).replace(' out', f' out{at}')
+        words = line.replace('a.db', store).replace(' out', f' {out}{at}')
         with case(words):
             got = stage.end(stage.begin(words.split(), 'handover'))
             if got.status not in (0, 1) or (got.status == 1) != (line == CHECK):
                 raise Failed(f'status {got.status}: {got.err!r:.400}')
-            if held(stage, store) != before:
+            if contents(stage.at(store)) != before:
                 raise Failed('the store or its log is changed')
-            answer = got, made(stage, f'out{at}')
+            answer = got, made(stage, f'{out}{at}')
             if answers.setdefault(line, answer) != answer:
                 raise Failed('it is another answer')
 
 
 def test_a_store_at_rest(stage: Stage) -> None:
-    """A store that no command uses stays as it is, and its log empty."""
+    """A store that no command uses stays as it is, and its log empty; or there is none."""
     store_of(stage, draw_registry(*DRAWN))
     check_unchanged(stage, 'a.db')
+    os.remove(stage.at('a.db-wal'))
+    check_unchanged(stage, 'a.db', 'again')
 
 
-def test_after_a_stopped_command(stage: Stage) -> None:
-    """What a stopped command wrote is in the log alone: it is read there, and stays there."""
+def put_stopped(stage: Stage) -> None:
+    """What a stopped command leaves of a store: all that was taken is in its log."""
     body = full_of(draw_registry(*DRAWN))
     stage.write('listed.csv', manifest([(HEADER, body)]))
     stage.write('apex', (SOA + NS).encode())
@@ -84,6 +79,11 @@ def test_after_a_stopped_command(stage: Stage) -> None:
     child.wait()
     if len(read(stage.at('stopped.db-wal'))) <= EMPTY_LOG:
         raise Failed('nothing is in the log')
+
+
+def test_after_a_stopped_command(stage: Stage) -> None:
+    """What a stopped command wrote is in the log alone: it is read there, and stays there."""
+    put_stopped(stage)
     check_unchanged(stage, 'stopped.db')
 
 

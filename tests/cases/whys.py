@@ -188,8 +188,8 @@ def test_rights(stage: Stage) -> None:
         os.chmod(stage.room.name, 0o777)
         begun = {'prepare': prepared(user=NOBODY)}
     stage.write('closed.csv', read(MANIFEST))
-    os.chmod(stage.at('a.db'), 0o400)
-    os.chmod(stage.at('closed.csv'), 0)
+    for path in ('a.db', 'closed.csv'):
+        os.chmod(stage.at(path), 0)
     for line, path in (('report --store a.db gaps', 'a.db'),
                        ('init --store b.db --manifest closed.csv', 'closed.csv')):
         check(stage, Refusal(line, f'E1 {path}', path, 'permission denied'), **begun)

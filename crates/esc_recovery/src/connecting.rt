@@ -3,6 +3,7 @@
 ghost use Rattle.std.specs.Prelude.{true, false, IsTrue, IfOk, IfErr};
 ghost use Rattle.sqlite_wal.specs.Files.{image_at};
 ghost use Rattle.sqlite_std_file.specs.File.{file_is_usable, IsFresh};
+ghost use Rattle.esc_read_only.specs.Untouched.{reading_is_usable, IsUnasked};
 ghost use Rattle.sqlite.specs.State.{HasCleanDisk};
 ghost use Rattle.sqlite.specs.Start.{FindsIn};
 ghost use Rattle.sqlite.specs.Files.{file_state, IsOpened};
@@ -11,6 +12,7 @@ ghost use Rattle.esc_recovery.specs.PathFaults.{IsUnopenedOr};
 
 use crate::path::PathFault;
 use esc_desk::StoreFault;
+use esc_read_only::UntouchedFrom;
 use esc_store::Obstacle;
 use sqlite::{Connection, Error, ErrorCode, FileFrom, FileStore, Files, Options, Start};
 use sqlite_std_file::OpenError;
@@ -54,13 +56,41 @@ pub(crate) fn files_at<S: Start>(
     ensures fresh { IfOk result (λ files. IsFresh true files.log × IsFresh false files.db) }
     ensures cause { IfErr result (IsUnopenedOr IsOpenFault) }
 {
-    if path == ":memory:" || path.starts_with("file:") {
-        return Err(PathFault::Unopened(Obstacle::NoFileName));
-    }
+    check_name(path)?;
     match sqlite_std_file::open(rt, path, start) {
         Ok(files) => Ok(files),
         Err(error) => Err(why_unopened(error)),
     }
+}
+
+/// The files at a path, to be read alone: they stay as they are, and none is made, whether the
+/// system lets them be written or not. `Unopened` where it doesn't let them be read, or where the
+/// path means something else to SQLite than a file.
+pub(crate) fn untouched_files_at<S: Start>(
+    rt: &HostRuntime,
+    path: &str,
+    start: S,
+) -> Result<Files<UntouchedFrom<S>>, PathFault>
+    ensures log { IfOk result (λ files. IsTrue (reading_is_usable files.log)) }
+    ensures db { IfOk result (λ files. IsTrue (reading_is_usable files.db)) }
+    ensures fresh { IfOk result (λ files. IsUnasked true files.log × IsUnasked false files.db) }
+    ensures cause { IfErr result (IsUnopenedOr IsOpenFault) }
+{
+    check_name(path)?;
+    match esc_read_only::open(rt, path, start) {
+        Ok(files) => Ok(files),
+        Err(error) => Err(why_unopened(error)),
+    }
+}
+
+// Whether a path means a file to SQLite.
+fn check_name(path: &str) -> Result<(), PathFault>
+    ensures cause { IfErr result (IsUnopenedOr IsOpenFault) }
+{
+    if path == ":memory:" || path.starts_with("file:") {
+        return Err(PathFault::Unopened(Obstacle::NoFileName));
+    }
+    Ok(())
 }
 
 // Why files weren't opened: what the system refused, or a fault of the store.

@@ -10,9 +10,9 @@
 //! - [`new_desk_at`] makes a store of a manifest in the files at a path, [`open_desk_at`] opens
 //!   that of the files at a path, and [`migrated_desk_at`] one of version 1; each gives the desk
 //!   over it, or the [`PathFault`]. The last two make no file.
-//! - [`reader_at`] gives a reader of the store of the files at a path. A reader goes over the
-//!   store's trees, without SQL, once their version was tested; another row is tested where it is
-//!   read. It makes no file.
+//! - [`reader_at`] gives a reader of the store of the files at a path, which stay as they are
+//!   (`esc_read_only`). A reader goes over the store's trees, without SQL, once their version was
+//!   tested; another row is tested where it is read. It makes no file.
 //! - [`close_desk`] copies what is still in the log into the database, and gives the files.
 //!
 //! Over any connection or disk, for instance one that fails from some call on:
@@ -65,7 +65,8 @@
 //!    and one of those in doubt, and none is in doubt any more (`ServesOneOf`). What is opened has
 //!    the nine tables and version 2. `migrated_desk_at` says the same of files that hold a store of
 //!    version 1 (`IsMigratedFrom`). `reopen_desk`: the desk reflects what it reflected before, and
-//!    none is in doubt. A reader of `reader_at` reflects the same list as a desk would (`IsReaderFrom`).
+//!    none is in doubt. A reader of `reader_at` reflects the same list as a desk would, and what was
+//!    read is of version 2 (`IsReaderFrom`).
 //!
 //! From there on `Desk::arrive` promises that a duplicate of an earlier arrival has the first one's
 //! reply. So an arrival that was answered before the crash has the same reply after it, and one in

@@ -1,0 +1,4 @@
+pub mod Contents
+pub mod Noted
+pub mod Notes
+pub mod Untouched
