@@ -24,8 +24,13 @@ bytes_behind question bytes = bytes
 
 -- a call with these bytes
 abbrev pub call_noted : Call → List ℕ → Event
-call_noted call bytes = (question_number call.question, call.at, call.count, call.succeeds,
-    bytes_behind call.question bytes)
+call_noted call bytes = (
+  question_number call.question,
+  call.at,
+  call.count,
+  call.succeeds,
+  bytes_behind call.question bytes,
+)
 
 -- a question for so many bytes at an offset, whether it succeeds, and these bytes
 abbrev pub read_noted : Question → ℕ → ℕ → Bool → List ℕ → Event
