@@ -1,4 +1,5 @@
 pub mod AllClear
 pub mod Answers
+pub mod Compared
 pub mod Inspected
 pub mod Parts
