@@ -1,8 +1,12 @@
 pub mod Cleared
+pub mod ComparedBodies
+pub mod ComparedDeposits
+pub mod ComparedParts
 pub mod GreatestPlace
 pub mod KeptRows
 pub mod LastPlace
 pub mod Listed
+pub mod Marking
 pub mod NewestRows
 pub mod NoOrphans
 pub mod Reading

@@ -22,6 +22,7 @@ use Rattle.esc_reports.specs.Reports.{AreFindings}
 use Rattle.esc_acceptance.specs.declared.chain.ChainFacts.{ChainFacts}
 use Rattle.esc_acceptance.specs.Chains.{AreFactsOf}
 use Rattle.esc_acceptance.specs.Listed.{IsAsListed}
+use Rattle.esc_inspection.specs.Compared.{AreTablesOfBodies}
 
 -- how many objects of each kind the end of a chain declares; without a chain nothing is declared
 abbrev pub counts_at : Option End → List (Kind × ℕ)
@@ -70,6 +71,7 @@ module _ (e : List EventValue) where
     pub latest : IsChainOf e chain
     pub say : AreFactsOf (map body_at chain) facts
 
-  -- where it is said so, the tables are what these bodies make
-  abbrev pub IsRebuiltFrom : ChainFacts → Bool → Type 0
-  IsRebuiltFrom facts is_rebuilt = is_rebuilt ≡ true → AreEntries e facts.objects.entries
+  -- where it is said so, the bodies of these rows are deposits, and the tables are what they make
+  abbrev pub IsRebuiltFrom : List ℕ → Bool → Type 0
+  IsRebuiltFrom rows is_rebuilt = is_rebuilt ≡ true → (es : List Entry) → AreEntries e es
+      → AreTablesOfBodies (map body_at rows) es

@@ -1,4 +1,4 @@
-//! The bodies of a store: whether they are as listed, and what those of the chain make.
+//! The bodies of a store: whether they are as listed, and what those of the chain say.
 
 ghost use Rattle.std.specs.Prelude.{◌≡◌, ◌++◌, ◌∷◌, [], ℕ, List, Option, map, cond, OnOk, IfErr};
 ghost use Rattle.esc_events.specs.Apart.{WhereApart};

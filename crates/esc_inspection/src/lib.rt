@@ -2,13 +2,13 @@
 //!
 //! # In and out
 //!
-//! [`inspect`] takes a reader of a store (`Reads` of `esc_desk`: a desk, or a reader of trees) and
+//! [`inspect`] takes a reader of a store (`Lookup` of `esc_desk`: a reader of trees) and
 //! the time, and gives [`StoreFacts`]: the moment and the receipts, the end of the chain and how
 //! many objects there are, what that end declares and the findings V1 to V7, the line of each listed
-//! place, the parked bodies, which held bodies aren't as listed, what the bodies of the chain make,
-//! which of these objects break a rule of RFC 9022, and whether the tables are those. [`acceptance`]
-//! makes the lines or the page of it ([`Form`]), with the status. It tells a `Progress` how far it
-//! is. It changes nothing. Errors are those of reads: `S1`, `S2`.
+//! place, the parked bodies, which held bodies aren't as listed, what the bodies of the chain say,
+//! whether the tables are what these make, and which objects break a rule of RFC 9022.
+//! [`acceptance`] makes the lines or the page of it ([`Form`]), with the status. It tells a
+//! `Progress` how far it is. It changes nothing. Errors are those of reads: `S1`, `S2`.
 //!
 //! ```text
 //! let form = Form::Lines { is_strict: false };
@@ -16,7 +16,7 @@
 //! answer.status                                       // 0 exactly where the registry is accepted
 //! ```
 //!
-//! In memory are the objects that the bodies of the chain make, and the keys of a walk.
+//! In memory are the keys of the tables, and one body at a time, with its deposit.
 //!
 //! # What the contracts mean
 //!
@@ -33,13 +33,14 @@
 //! On an honest disk the bodies are as listed, the chain is the latest, and the tables are those of
 //! the bodies. Whether the disk is honest or not, the chain that was read is the latest one of the
 //! rows that are held, where it is said so (`latest` of `AreFactsAfter`). That the other two tests
-//! find a disk that isn't honest is said by the calls that compare, `is_as_listed` and `are_listed`
-//! of `esc_acceptance`, and it is tested. Which TLDs, notes and declared tables there are has no
-//! contract.
+//! find a disk that isn't honest is said by the calls that compare, `is_as_listed` of
+//! `esc_acceptance` and those of `comparison` (`specs/Compared.antt`), and it is tested. Which TLDs,
+//! notes and declared tables there are has no contract.
 #![tactic(auto)]
 
 mod bodies;
 mod books;
+mod comparison;
 mod ending;
 mod facts;
 mod form;
