@@ -6,9 +6,10 @@
 //! the time, and gives [`StoreFacts`]: the moment and the receipts, the end of the chain and how
 //! many objects there are, what that end declares and the findings V1 to V7, the line of each listed
 //! place, the parked bodies, which held bodies aren't as listed, what the bodies of the chain say,
-//! whether the tables are what these make, and which objects break a rule of RFC 9022.
-//! [`acceptance`] makes the lines or the page of it ([`Form`]), with the status. It tells a
-//! `Progress` how far it is. It changes nothing. Errors are those of reads: `S1`, `S2`.
+//! whether the tables are what these make, and, by two walks over them, which fields their objects
+//! lack and which break a rule of RFC 9022. [`acceptance`] makes the lines or the page of it
+//! ([`Form`]), with the status. It tells a `Progress` how far it is. It changes nothing. Errors are
+//! those of reads: `S1`, `S2`.
 //!
 //! ```text
 //! let form = Form::Lines { is_strict: false };
@@ -21,9 +22,9 @@
 //! # What the contracts mean
 //!
 //! The premises are those of each read: the store reflects a list of events, and the disk gave back
-//! what was written. `specs/Parts.antt` and `specs/Inspected.antt` say what is seen, by these events
-//! (`AreFactsAfter`), and `specs/Answers.antt` that this is what is shown (`IsAnswerAfter`): a line
-//! for each test, `ok` exactly where it passes, and the status.
+//! what was written. `specs/Parts.antt`, `specs/Contents.antt` and `specs/Inspected.antt` say what is
+//! seen, by these events (`AreFactsAfter`), and `specs/Answers.antt` that this is what is shown
+//! (`IsAnswerAfter`): a line for each test, `ok` exactly where it passes, and the status.
 //!
 //! [`status_zero_is_all_clear`] is a law, and what an operator believes: where the status is 0, the
 //! tables, and so the exports, are those of the greatest listed deposit's chain, each deposit of it
