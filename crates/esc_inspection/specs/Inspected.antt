@@ -63,7 +63,7 @@ module _ (e : List EventValue) where
     pub spoiled : AreSpoiledAmong e f.listing.held.items f.bodies.spoiled.items
     pub rows : IsChainOf e f.kept.rows.items
     pub chain : AreChainFactsOf e f.chain
-    pub rebuilt : IsRebuiltFrom e f.chain f.is_rebuilt
+    pub rebuilt : IsRebuiltFrom e f.kept.rows.items f.is_rebuilt
     pub contents : AreContentsOf e (only_name (map string_bytes f.bodies.tlds.names.items))
         f.contents.lacking.items f.contents.flaws
 

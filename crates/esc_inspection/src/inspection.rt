@@ -21,14 +21,14 @@ use crate::totals::read_totals;
 use esc_acceptance::{Report, Seen, report_of};
 use esc_bundle::NoMemory;
 use esc_cli::DONE;
-use esc_desk::{Reads, StoreFault};
+use esc_desk::{Lookup, Reads, StoreFault};
 use esc_handover::{Answer, Progress, page_of};
 use std::alloc::Global;
 
 /// Inspects a store that a reader reads, at a time that a clock says, if one does. It tells how far
 /// it is. `S1`, `S2`.
 #[tactic(auto, using(crate::proofs::Reading::reads_stay))]
-pub fn inspect<R: Reads>(
+pub fn inspect<R: Lookup>(
     alloc: Global,
     reader: &mut R,
     clock: Option<i64>,
@@ -47,7 +47,7 @@ pub fn inspect<R: Reads>(
     let kept = read_kept(alloc, reader, &listing.held, books.moment)?;
     let bodies = read_bodies(alloc, reader, &listing.held, progress)?;
     let chain = read_chain(alloc, reader, &kept.rows, progress)?;
-    let is_rebuilt = is_rebuilt(alloc, reader, &chain, progress)?;
+    let is_rebuilt = is_rebuilt(alloc, reader, &kept.rows, progress)?;
     let contents = read_contents(alloc, reader, bodies.tlds.only(), progress)?;
     Ok(StoreFacts {
         clock,
@@ -66,7 +66,7 @@ pub fn inspect<R: Reads>(
 
 /// Whether a registry may be taken over, in this form, at a time that a clock says, if one does.
 #[tactic(auto, using(crate::proofs::Reading::reads_stay))]
-pub fn acceptance<R: Reads>(
+pub fn acceptance<R: Lookup>(
     alloc: Global,
     reader: &mut R,
     form: Form,

@@ -4,7 +4,7 @@ use Rattle.esc_acceptance.specs.Chains.{AreFactsOf}
 use Rattle.esc_chain.specs.Chain.{IsLatestChainAt}
 use Rattle.esc_events.specs.Events.{union}
 use Rattle.esc_inspection.specs.Contents.{AreContentsOf}
-use Rattle.esc_inspection.specs.Parts.{AreSpoiledAmong, body_at}
+use Rattle.esc_inspection.specs.Parts.{AreSpoiledAmong, IsRebuiltFrom, body_at}
 use Rattle.esc_inspection.proofs.Reading.{read_made, read_then}
 use Rattle.esc_inspection.proofs.inspection.inspect.Goals as goal
 
@@ -51,7 +51,8 @@ returns-clause-facts g c = λ clean e serves.
           say = subst (λ (rows : List ℕ). AreFactsOf (map (body_at e) rows) c.in_ok-chain.chain)
               c.deref-3.ensures.value (c.in_ok-chain.ensures.facts honest8 e serves7 apart);
         };
-        rebuilt = c.in_ok-is_rebuilt.ensures.rebuilt honest9 e serves8 apart;
+        rebuilt = subst (λ (rows : List ℕ). IsRebuiltFrom e rows c.in_ok-is_rebuilt.is_rebuilt)
+            c.deref-4.ensures.value (c.in_ok-is_rebuilt.ensures.rebuilt honest9 e serves8 apart);
         contents = subst (λ (tld : Option (List ℕ)). AreContentsOf e tld
             c.in_ok-contents.contents.lacking.items c.in_ok-contents.contents.flaws)
             c.only.ensures (c.in_ok-contents.ensures.contents clean e serves9 apart);
