@@ -1,4 +1,4 @@
-pub mod PageRules
+pub mod PageParts
 pub mod Picture
 pub mod Restored
 pub mod Titles

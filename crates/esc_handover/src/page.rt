@@ -1,8 +1,10 @@
 //! A store as a page.
 
-ghost use Rattle.std.specs.Prelude.{IfOk};
+ghost use Rattle.std.specs.Prelude.{ℕ, List, Some, IfOk};
+ghost use Rattle.esc_envelope.specs.declared.kind.Kind.{Kind};
 ghost use Rattle.esc_html.specs.Markup.{IsHtmlPage};
 ghost use Rattle.esc_acceptance.specs.Acceptance.{is_accepted};
+ghost use Rattle.esc_handover.specs.PageParts.{IsPart, IsWithin, HasKind, TellsKinds};
 ghost use Rattle.esc_handover.specs.Titles.{HasTitle, TellsVerdict};
 
 mod axis;
@@ -35,8 +37,9 @@ use esc_store::Reply;
 use std::alloc::Global;
 
 /// A page of HTML that shows what was seen of a store, with its receipts in order and its parked
-/// bodies. Its title begins with whether the registry may be taken over. It loads nothing and runs
-/// nothing, and each text of a deposit is escaped.
+/// bodies. Its title begins with whether the registry may be taken over. Of each kind it says how
+/// many objects there are, and how many are declared. It loads nothing and runs nothing, and each
+/// text of a deposit is escaped.
 pub fn page_of(
     alloc: Global,
     seen: &Seen<'_>,
@@ -45,33 +48,63 @@ pub fn page_of(
 ) -> Result<Vec<u8>, NoMemory>
     ensures markup { IfOk result (λ page. IsHtmlPage page.items) }
     ensures verdict { IfOk result (λ page. TellsVerdict (is_accepted seen.now) page.items) }
+    ensures kinds { IfOk result
+        (λ page. TellsKinds seen.now.objects seen.now.counts page.items) }
 {
     let title = title_of(alloc, seen)?;
+    let body = body_of(alloc, seen, title.as_str(), receipts, parked)?;
+    titled(body, title.as_str(), STYLE)
+}
+
+fn body_of(
+    alloc: Global,
+    seen: &Seen<'_>,
+    title: &str,
+    receipts: &[Reply],
+    parked: &[ParkedBody],
+) -> Result<Html, NoMemory>
+    ensures { IfOk result
+        (λ body. (k : Kind) → HasKind seen.now.objects seen.now.counts body k) }
+{
     let lines = lines_of(alloc, seen)?;
-    let sections = tests_section(alloc, &lines)
+    let before = tests_section(alloc, &lines)
         .add(notes_section(alloc, seen.notes))
-        .add(release_section(alloc, seen)?)
-        .add(objects_section(alloc, seen))
-        .add(findings_section(alloc, seen.findings))
-        .add(receipts_section(alloc, receipts))
-        .add(parked_section(alloc, parked));
-    let head = page_head(alloc, seen, &lines, title.as_str());
+        .add(release_section(alloc, seen)?);
+    let after = receipts_section(alloc, receipts).add(parked_section(alloc, parked));
+    let shown = before.add(numbers(alloc, seen));
+    let sections = shown.add(after);
+    let head = page_head(alloc, seen, &lines, title);
+    Ok(around(alloc, head, sections))
+}
+
+// The sections of the objects and of the findings.
+fn numbers(alloc: Global, seen: &Seen<'_>) -> Html
+    ensures { (k : Kind) → HasKind seen.now.objects seen.now.counts result k }
+{
+    objects_section(alloc, seen.objects, seen.counts).add(findings_section(alloc, seen.findings))
+}
+
+// The body of a page, with this head and these sections.
+fn around(alloc: Global, head: Html, sections: Html) -> Html
+    ensures { IsWithin sections result }
+{
     let foot = leaf(
         alloc,
         Tag::Paragraph,
         "Made by handover page. It loads nothing and runs nothing.",
     );
-    let body = Html::new(alloc)
+    Html::new(alloc)
         .element(Tag::Header, &[], head)
         .element(Tag::Main, &[], sections)
-        .element(Tag::Footer, &[], foot);
-    titled(body, title.as_str(), STYLE)
+        .element(Tag::Footer, &[], foot)
 }
 
 // The page with this title, style and body.
 fn titled(body: Html, title: &str, style: &str) -> Result<Vec<u8>, NoMemory>
     ensures markup { IfOk result (λ page. IsHtmlPage page.items) }
     ensures title { IfOk result (λ page. HasTitle title.now page.items) }
+    ensures parts { IfOk result
+        (λ page. (piece : List ℕ) → IsWithin (Some piece) body → IsPart piece page.items) }
 {
     body.into_page(title, style)
 }

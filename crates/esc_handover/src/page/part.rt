@@ -1,5 +1,9 @@
 //! What the sections of a page have in common.
 
+ghost use Rattle.std.specs.Prelude.{◌<◌, Some};
+ghost use Rattle.esc_html.specs.Markup.{IsUnlessRefused};
+ghost use Rattle.esc_handover.specs.PageParts.{IsWithin, heading_cell, counted_heading};
+
 use esc_acceptance::{moment_words, one_line};
 use esc_bundle::NoMemory;
 use esc_html::{Attribute, Html, Tag, Value};
@@ -56,13 +60,17 @@ fn with_words(html: Html, words: Result<String, NoMemory>) -> Html {
 }
 
 /// A section of a page: a heading of the second level, and what is below it.
-pub(crate) fn section(alloc: Global, id: &str, heading: &str, inside: Html) -> Html {
+pub(crate) fn section(alloc: Global, id: &str, heading: &str, inside: Html) -> Html
+    ensures { IsWithin inside result }
+{
     let whole = leaf(alloc, Tag::H2, heading).add(inside);
     Html::new(alloc).element(Tag::Section, &[(Attribute::Id, Value::Text(id))], whole)
 }
 
 /// A table with a caption and a heading for each column.
-pub(crate) fn table(alloc: Global, caption: &str, headings: &[&str], rows: Html) -> Html {
+pub(crate) fn table(alloc: Global, caption: &str, headings: &[&str], rows: Html) -> Html
+    ensures { IsWithin rows result }
+{
     let text = Html::new(alloc).text(caption);
     framed_table(alloc, caption, text, headings, rows)
 }
@@ -75,28 +83,43 @@ pub(crate) fn counted_table(
     count: u64,
     headings: &[&str],
     rows: Html,
-) -> Html {
+) -> Html
+    ensures { 0 < count → IsWithin (Some (counted_heading heading.now count)) result }
+{
     if count == 0 {
         return Html::new(alloc);
     }
-    let title = Html::new(alloc).text(heading).text(": ").number(count);
     let shown = if count > MOST_SHOWN {
         Html::new(alloc).text("The first ").number(MOST_SHOWN)
     } else {
         Html::new(alloc).text("All")
     };
-    Html::new(alloc)
-        .element(Tag::H3, &[], title)
-        .add(framed_table(alloc, heading, shown, headings, rows))
+    let rest = framed_table(alloc, heading, shown, headings, rows);
+    counted_heading(alloc, heading, count).add(rest)
+}
+
+fn counted_heading(alloc: Global, heading: &str, count: u64) -> Html
+    ensures { IsUnlessRefused (Some (counted_heading heading.now count)) result }
+{
+    let inside = Html::new(alloc).text(heading).text(": ").number(count);
+    Html::new(alloc).element(Tag::H3, &[], inside)
 }
 
 // A table in a frame in which it can be moved, also by keys.
-fn framed_table(alloc: Global, label: &str, caption: Html, headings: &[&str], rows: Html) -> Html {
+fn framed_table(alloc: Global, label: &str, caption: Html, headings: &[&str], rows: Html) -> Html
+    ensures { IsWithin rows result }
+{
     let caption = Html::new(alloc).element(Tag::Span, &[], caption);
     let inside = Html::new(alloc)
         .element(Tag::Caption, &[], caption)
         .element(Tag::TableHead, &[], heading_row(alloc, headings))
         .element(Tag::TableBody, &[], rows);
+    framed(alloc, label, inside)
+}
+
+fn framed(alloc: Global, label: &str, inside: Html) -> Html
+    ensures { IsWithin inside result }
+{
     let frame = [
         (Attribute::Class, Value::Text("frame")),
         (Attribute::Role, Value::Text("region")),
@@ -119,18 +142,20 @@ fn heading_row(alloc: Global, headings: &[&str]) -> Html {
 
 /// A row of a table: its heading, and cells.
 pub(crate) fn row(alloc: Global, heading: Cell<'_>, cells: &[Cell<'_>]) -> Html {
-    let inside = row_cells(alloc, heading, cells);
+    let scope = [(Attribute::Scope, Value::Text("row"))];
+    let mut inside = Html::new(alloc).element(Tag::Heading, &scope, cell_inside(alloc, heading));
+    for cell in cells {
+        inside = inside.element(Tag::Cell, &[], cell_inside(alloc, *cell));
+    }
     Html::new(alloc).element(Tag::Row, &[], inside)
 }
 
-/// The cells of a row.
-pub(crate) fn row_cells(alloc: Global, heading: Cell<'_>, cells: &[Cell<'_>]) -> Html {
+/// The cell with which a row begins, around a text.
+pub(crate) fn heading_cell(alloc: Global, text: &str) -> Html
+    ensures { IsUnlessRefused (Some (heading_cell text.now)) result }
+{
     let scope = [(Attribute::Scope, Value::Text("row"))];
-    let mut html = Html::new(alloc).element(Tag::Heading, &scope, cell_inside(alloc, heading));
-    for cell in cells {
-        html = html.element(Tag::Cell, &[], cell_inside(alloc, *cell));
-    }
-    html
+    Html::new(alloc).element(Tag::Heading, &scope, Html::new(alloc).text(text))
 }
 
 fn cell_inside(alloc: Global, cell: Cell<'_>) -> Html {

@@ -1,0 +1,9 @@
+use Rattle.esc_handover.specs.PageParts.{kind_cells_text}
+use Rattle.esc_handover.proofs.Titled.{if_ok}
+use Rattle.esc_handover.proofs.page.page_of.Goals as goal
+
+pub returns-clause-kinds : goal.returns-clause-kinds
+returns-clause-kinds c =
+    let s = c.args.seen.now in
+    if_ok _ _ c.titled.result
+    (λ page has k. has (kind_cells_text s.objects s.counts k) (c.in_ok-body.ensures k)) c.titled.ensures.parts
