@@ -16,13 +16,13 @@ use Rattle.esc_html.specs.declared.tag.Tag.{Tag}
 use Rattle.esc_html.specs.Escape.{escaped}
 use Rattle.esc_html.specs.Names.{tag_name}
 use Rattle.esc_html.specs.Markup.{Given, attribute_text, element_text, page_front, page_text, joined, IsUnlessRefused}
-use Rattle.esc_handover.specs.PageParts.{IsPart, IsWithin, kind_cells_text, HasKind, page_rules, rule_heading_text}
+use Rattle.esc_handover.specs.PageParts.{IsPiece, IsWithin, kind_cells_text, HasKind, page_rules, rule_heading_text}
 use Rattle.esc_handover.specs.PageParts.{HasRule}
 
 -- ---- texts
 
 -- a part of a part is a part
-part_of_part : (a b c : List ℕ) → IsPart a b → IsPart b c → IsPart a c
+part_of_part : (a b c : List ℕ) → IsPiece a b → IsPiece b c → IsPiece a c
 part_of_part a b c p q =
     let u = p.0 in
     let v = p.1 in
@@ -38,7 +38,7 @@ part_of_part a b c p q =
 
 -- what is written in an element is a part of it
 inside_part : (tag : Tag) (attributes : List Given) (inside : List ℕ)
-    → IsPart inside (element_text tag attributes inside)
+    → IsPiece inside (element_text tag attributes inside)
 inside_part tag attributes inside =
     let front : List ℕ = codes "<" ++ tag_name tag ++ flat_map attribute_text attributes ++ codes ">" in (
       front,
@@ -48,7 +48,7 @@ inside_part tag attributes inside =
     )
 
 -- what is written in the body of a page is a part of the page
-body_part : (title style body : List ℕ) → IsPart body (page_text title style body)
+body_part : (title style body : List ℕ) → IsPiece body (page_text title style body)
 body_part title style body = (
   page_front ++ escaped title ++ codes "</title><style>" ++ escaped style ++ codes "</style></head><body>",
   codes "</body></html>\n",
@@ -63,7 +63,7 @@ within_both a b None p q = tt
 within_both a None (Some z) p q = absurd (none-some q.0 q.1)
 within_both a (Some y) (Some z) p q =
     let same : y ≡ q.0 = same_Some y q.0 q.1 in
-    (p.0, p.1, part_of_part p.0 y z p.2 (subst (λ (t : List ℕ). IsPart t z) (sym same) q.2))
+    (p.0, p.1, part_of_part p.0 y z p.2 (subst (λ (t : List ℕ). IsPiece t z) (sym same) q.2))
 
 -- a piece is in what another one is added to it
 pub within_first : (a b c : Option (List ℕ)) → IsUnlessRefused (joined a b) c → IsWithin a c
@@ -97,13 +97,13 @@ within_exact text (Some z) is =
 
 -- what is in the body of a page is in the page
 pub within_page : (title style : List ℕ) (body : Option (List ℕ)) (page piece : List ℕ)
-    → option_map (page_text title style) body ≡ Some page → IsWithin (Some piece) body → IsPart piece page
+    → option_map (page_text title style) body ≡ Some page → IsWithin (Some piece) body → IsPiece piece page
 within_page title style None page piece is within = absurd (none-some page is)
 within_page title style (Some body) page piece is within =
     let same : piece ≡ within.0 = same_Some piece within.0 within.1 in
     let whole : page_text title style body ≡ page = same_Some (page_text title style body) page is in
-    subst (IsPart piece) whole (part_of_part piece body (page_text title style body)
-    (subst (λ (t : List ℕ). IsPart t body) (sym same) within.2) (body_part title style body))
+    subst (IsPiece piece) whole (part_of_part piece body (page_text title style body)
+    (subst (λ (t : List ℕ). IsPiece t body) (sym same) within.2) (body_part title style body))
 
 -- ---- the kinds and the rules of a page
 

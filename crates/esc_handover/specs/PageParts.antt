@@ -18,12 +18,12 @@ use Rattle.esc_html.specs.Escape.{escaped}
 use Rattle.esc_html.specs.Markup.{element_text}
 
 -- a text has a piece in it
-abbrev pub IsPart : List ℕ → List ℕ → Type 0
-IsPart piece text = (before after : List ℕ) × (text ≡ before ++ piece ++ after)
+abbrev pub IsPiece : List ℕ → List ℕ → Type 0
+IsPiece piece text = (before after : List ℕ) × (text ≡ before ++ piece ++ after)
 
 -- one piece of a page is in another one, unless memory was refused
 abbrev pub IsWithin : Option (List ℕ) → Option (List ℕ) → Type 0
-IsWithin piece whole = IfSome whole (λ text. (part : List ℕ) × (piece ≡ Some part) × IsPart part text)
+IsWithin piece whole = IfSome whole (λ text. (part : List ℕ) × (piece ≡ Some part) × IsPiece part text)
 
 -- ---- the objects of each kind
 
@@ -56,7 +56,7 @@ HasKind objects counts html k = IsWithin (Some (kind_cells_text objects counts k
 
 -- the cells of each kind are on a page
 abbrev pub TellsKinds : List (Kind × ℕ) → List (Kind × ℕ) → List ℕ → Type 0
-TellsKinds objects counts page = (k : Kind) → IsPart (kind_cells_text objects counts k) page
+TellsKinds objects counts page = (k : Kind) → IsPiece (kind_cells_text objects counts k) page
 
 -- ---- the findings of each rule
 
@@ -96,4 +96,4 @@ HasRule findings html rule =
 -- the heading of each rule of which there are findings is on a page
 abbrev pub TellsRules : List FindingValue → List ℕ → Type 0
 TellsRules findings page =
-    (rule : Rule) → 0 < findings_by findings rule → IsPart (rule_heading_text findings rule) page
+    (rule : Rule) → 0 < findings_by findings rule → IsPiece (rule_heading_text findings rule) page

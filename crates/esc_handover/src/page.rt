@@ -4,7 +4,7 @@ ghost use Rattle.std.specs.Prelude.{ℕ, List, Some, IfOk};
 ghost use Rattle.esc_envelope.specs.declared.kind.Kind.{Kind};
 ghost use Rattle.esc_html.specs.Markup.{IsHtmlPage};
 ghost use Rattle.esc_acceptance.specs.Acceptance.{is_accepted};
-ghost use Rattle.esc_handover.specs.PageParts.{IsPart, IsWithin, HasKind, TellsKinds};
+ghost use Rattle.esc_handover.specs.PageParts.{IsPiece, IsWithin, HasKind, TellsKinds};
 ghost use Rattle.esc_handover.specs.Titles.{HasTitle, TellsVerdict};
 
 mod axis;
@@ -104,7 +104,7 @@ fn titled(body: Html, title: &str, style: &str) -> Result<Vec<u8>, NoMemory>
     ensures markup { IfOk result (λ page. IsHtmlPage page.items) }
     ensures title { IfOk result (λ page. HasTitle title.now page.items) }
     ensures parts { IfOk result
-        (λ page. (piece : List ℕ) → IsWithin (Some piece) body → IsPart piece page.items) }
+        (λ page. (piece : List ℕ) → IsWithin (Some piece) body → IsPiece piece page.items) }
 {
     body.into_page(title, style)
 }
