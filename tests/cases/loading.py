@@ -8,7 +8,6 @@ from collections.abc import Callable
 
 from tests.cases.handovers import CHILD
 from tests.cases.handovers import FIRST
-from tests.cases.handovers import TABLES
 from tests.cases.handovers import check_contents_refused
 from tests.cases.handovers import check_refused
 from tests.cases.handovers import children
@@ -22,10 +21,8 @@ from tests.support.files import read
 from tests.support.formats import KINDS
 from tests.support.releases import SAMPLES
 from tests.support.releases import Release
-from tests.support.stage import Failed
 from tests.support.stage import Stage
 from tests.support.stage import Wanted
-from tests.support.stage import case
 from tests.support.stage import compare
 from tests.support.stage import compare_all
 from tests.support.stores import run

@@ -191,8 +191,8 @@ CASES = {
 
 
 def test_locks(stage: Stage) -> None:
-    """Who may not write a store reads it beside one who reads, and not beside one who writes; nobody
-    writes it meanwhile."""
+    """Who may not write a store reads it beside one who reads, and not beside one who writes;
+    nobody writes it meanwhile."""
     store_of(stage, draw_registry(*DRAWN))
     kept = kept_of(stage)
     answer = kept.answers[STATUS][0]
