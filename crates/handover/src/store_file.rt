@@ -3,7 +3,7 @@
 use crate::bundle::{Splitting, tables_bundle, write_bundles};
 use crate::tables::{Tabling, write_tables};
 use crate::zone::{Zoning, write_zone};
-use esc_desk::Reads;
+use esc_desk::Lookup;
 use esc_handover::{Answer, Progress, Stop, unopened_stop};
 use esc_inspection::{Form, acceptance};
 use esc_recovery::{PathFault, reader_at};
@@ -46,7 +46,7 @@ pub fn use_store(
 
 // Does a task with a store. (Over any reader: each use of a `FileStore` as a store costs the prover
 // seconds.)
-fn perform<R: Reads>(
+fn perform<R: Lookup>(
     alloc: Global,
     reader: &mut R,
     task: Task<'_>,
