@@ -40,7 +40,6 @@ from tests.support.steps import Link
 from tests.support.steps import Statements
 from tests.support.steps import Step
 from tests.support.steps import Text
-from tests.support.stores import EMPTY_LOG
 from tests.support.stores import change_row
 from tests.support.stores import opened
 from tests.support.stores import run
@@ -161,11 +160,11 @@ def store_of(stage: Stage, *contents: Sequence[Table]) -> None:
 
 def check_refused(stage: Stage, refusal: str, line: str = BUNDLE, status: int = 1,
                   kept: Sequence[str] = ('a.db',), **given: Given) -> None:
-    """Compares a refusal, after which the folder has what it had and the store's log, and these
-    files are as they were."""
-    names, before = {*names_in(stage.room.name), 'a.db-wal'}, [read(stage.at(it)) for it in kept]
+    """Compares a refusal, after which the folder has what it had, and these files are as they
+    were."""
+    names, before = names_in(stage.room.name), [read(stage.at(it)) for it in kept]
     stage.check(line, Wanted(status, '', f'{refusal}\n'), program='handover', **given)
-    compare_all(f'$ handover {line}\nfiles', sorted(names), names_in(stage.room.name))
+    compare_all(f'$ handover {line}\nfiles', names, names_in(stage.room.name))
     if [read(stage.at(it)) for it in kept] != before:
         raise Failed(f'$ handover {line}\na file is changed')
 
@@ -324,14 +323,13 @@ OTHERS = (
 
 
 def check_no_store(stage: Stage, line: str, made: Step, refusal: str, is_opened: bool) -> None:
-    """Compares a refusal of what is no store, which stays as it is, beside an empty log. An empty
-    file is a database without tables then."""
+    """Compares a refusal of what is no store, which stays as it is. An empty file is a database
+    without tables then."""
     made.do(stage)
-    names, before = {*names_in(stage.room.name), *(['a.db-wal'] if is_opened else [])
-                     }, read(stage.at('a.db')) if is_opened else b''
+    names, before = names_in(stage.room.name), read(stage.at('a.db')) if is_opened else b''
     stage.check(line, Wanted(3, '', f'{refusal}\n'), program='handover')
-    compare_all('files', sorted(names), names_in(stage.room.name))
-    if before and (len(read(stage.at('a.db-wal'))) > EMPTY_LOG or read(stage.at('a.db')) != before):
+    compare_all('files', names, names_in(stage.room.name))
+    if before and read(stage.at('a.db')) != before:
         raise Failed('a file is changed')
     if is_opened and not before:
         with contextlib.closing(sqlite3.connect(stage.at('a.db'))) as database:
@@ -339,7 +337,7 @@ def check_no_store(stage: Stage, line: str, made: Step, refusal: str, is_opened:
                     f'{database.execute("SELECT name FROM sqlite_master").fetchall()}')
 
 
-CASES['What is no store is refused, and nothing is made but a log'] = played_apart(
+CASES['What is no store is refused, and nothing is made'] = played_apart(
     check_no_store, [(line, *it) for it in OTHERS for line in (CHECK, BUNDLE, TABLES, PAGE)])
 
 

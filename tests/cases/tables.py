@@ -108,7 +108,7 @@ def check_database(stage: Stage, sheets: dict[str, Sheet]) -> None:
 def check_tables(stage: Stage, objects: Objects, line: str = TABLES) -> None:
     """Makes the files of a store, and compares them with the tables of these objects. Nothing else
     is made or changed."""
-    names, before = {*names_in(stage.room.name), 'a.db-wal', 'out'}, read(stage.at('a.db'))
+    names, before = {*names_in(stage.room.name), 'out'}, read(stage.at('a.db'))
     run(stage, line, 'handover')
     sheets = sheets_of(objects)
     files = [*(f'{it}.csv' for it in sheets), *(['registry.sqlite'] if '--sqlite' in line else [])]
