@@ -19,7 +19,6 @@ from tests.support.bundles import Header
 from tests.support.bundles import Table
 from tests.support.bundles import deposit
 from tests.support.bundles import manifest
-from tests.support.files import read
 from tests.support.first_store import first_rows
 from tests.support.first_store import write_store
 from tests.support.flawed import draw_release
@@ -103,7 +102,8 @@ SPOILINGS = {
 def check_store(stage: Stage, store: str, desk: Desk, seen: Mapping[str, set[str]]) -> None:
     """Compares what is said of a store, which stays as it is, and notes the word of each test.
     Nothing but S1 is said where the body of the chain's last deposit is no bundle."""
-    before, is_read = contents(stage.at(store)), not desk.steps or is_bundle(desk.held[desk.steps[-1]])
+    before = contents(stage.at(store))
+    is_read = not desk.steps or is_bundle(desk.held[desk.steps[-1]])
     tests = list(tests_of(Seen(desk))) if is_read else []
     got = stage.end(stage.begin(['check', '--store', store], 'handover'))
     compare('standard error', '' if is_read else 'S1\n', got.err.decode())
