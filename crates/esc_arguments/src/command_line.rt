@@ -17,6 +17,8 @@ use std::io::Write;
 pub struct Invocation<'a> {
     /// The path of the store.
     pub store: &'a str,
+    /// Whether standard error says how far the work is.
+    pub is_watched: bool,
     pub command: Command<'a>,
 }
 
@@ -124,13 +126,22 @@ static PROGRAM: Program = Program {
     version: VERSION,
     about: ABOUT,
     details: DETAILS,
-    shared: &[Argument {
-        id: "store",
-        form: ArgumentForm::Option,
-        value_name: "FILE",
-        values: ValueParser::String,
-        help: "The store's file; beside it FILE-wal may stand, and belongs to it",
-    }],
+    shared: &[
+        Argument {
+            id: "store",
+            form: ArgumentForm::Option,
+            value_name: "FILE",
+            values: ValueParser::String,
+            help: "The store's file; beside it FILE-wal may stand, and belongs to it",
+        },
+        Argument {
+            id: "progress",
+            form: ArgumentForm::Flag,
+            value_name: "",
+            values: ValueParser::Bool,
+            help: "Tells on standard error how far take, links and export are, as on a terminal",
+        },
+    ],
     commands: &[
         Subcommand {
             name: "init",
@@ -276,7 +287,11 @@ pub fn invocation_of<'a>(
         return Ok(None);
     };
     match command_named(rt, name, given)? {
-        Some(command) => Ok(Some(Invocation { store, command })),
+        Some(command) => Ok(Some(Invocation {
+            store,
+            is_watched: given.get_flag("progress"),
+            command,
+        })),
         None => Ok(None),
     }
 }

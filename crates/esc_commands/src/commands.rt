@@ -8,10 +8,11 @@ use esc_arguments::{
 };
 use esc_cli::{Asked, USAGE};
 use esc_desk::{Desk, Reads};
+use esc_progress::Progress;
 use esc_recovery::{
     Obstacle, PathFault, close_desk, migrated_desk_at, new_desk_at, open_desk_at, reader_at,
 };
-use esc_reports::Report;
+use esc_reports::{Report, report_links};
 use sqlite::{File, FileStore, Unknown};
 use std::alloc::{AllocError, Global};
 use std::io::Write;
@@ -44,6 +45,7 @@ where
                 out,
                 err,
                 asked,
+                progress: Progress::new(rt, invocation.is_watched),
             };
             run.finish(&invocation)
         }
@@ -76,6 +78,7 @@ where
     // Does a command with the store at a path: a report with a reader, and every other command with
     // a desk.
     fn use_store(&mut self, path: &str, command: &Command<'_>) -> Result<Ended, Stop> {
+        self.progress.tell_opening(path);
         match command {
             Command::Report(report) => self.read_store(path, *report),
             _ => self.use_desk_at(path, command),
@@ -93,8 +96,14 @@ where
     fn read_by<R: Reads>(&mut self, reader: &mut R, report: Report) -> Result<Ended, Stop> {
         match report {
             Report::Export(kind) => self.print_export(reader, kind),
+            Report::Links => self.read_links(reader),
             _ => read_report(self.rt.alloc(), reader, report),
         }
+    }
+
+    fn read_links<R: Reads>(&mut self, reader: &mut R) -> Result<Ended, Stop> {
+        let text = report_links(self.rt.alloc(), reader, &mut self.progress)?;
+        Ok(Ended::done(text))
     }
 
     // Opens the store at a path, or makes it, and does a command with its desk.

@@ -10,6 +10,7 @@ use esc_arguments::{NO_MEMORY, Stop, or_stop};
 use esc_cli::DONE;
 use esc_desk::{Reads, StoreFault, Walk};
 use esc_envelope::Kind;
+use esc_progress::{Progress, Watched};
 use esc_reports::{ExportFault, write_export_of};
 use std::alloc::Global;
 use std::io::{BufWriter, Write};
@@ -22,7 +23,7 @@ impl<N, O: Write, E: Write> Run<'_, N, O, E> {
     /// is whole unless the store or memory fails in between.
     pub fn print_export<R: Reads>(&mut self, reader: &mut R, kind: Kind) -> Result<Ended, Stop> {
         let alloc = self.rt.alloc();
-        read_objects(alloc, reader, kind)?;
+        read_objects(alloc, reader, kind, &mut self.progress)?;
         let Ok(mut output) = BufWriter::with_capacity(alloc, PIECE, &mut *self.out) else {
             return Err(NO_MEMORY);
         };
@@ -33,10 +34,19 @@ impl<N, O: Write, E: Write> Run<'_, N, O, E> {
     }
 }
 
-// Reads the objects of a kind, and keeps none. `S1`, `S2`.
-fn read_objects<R: Reads>(alloc: Global, reader: &mut R, kind: Kind) -> Result<(), StoreFault> {
+// Reads the objects of a kind, and keeps none. It tells how far it is: what is printed then comes as
+// fast. `S1`, `S2`.
+fn read_objects<R: Reads>(
+    alloc: Global,
+    reader: &mut R,
+    kind: Kind,
+    progress: &mut Progress<'_>,
+) -> Result<(), StoreFault> {
     let place = reader.start_walk(alloc, Some(kind))?;
-    read_all(&mut Walk::new(reader, place))
+    let mut walk = Walk::new(reader, place);
+    progress.begin(kind.name(), "objects", walk.left());
+    let mut watched = Watched::new(&mut walk, progress);
+    read_all(&mut watched)
 }
 
 // Reads the objects that are still to come: then none is.

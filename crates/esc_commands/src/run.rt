@@ -2,10 +2,11 @@
 
 use esc_arguments::{Stop, or_stop};
 use esc_cli::{Asked, OneLine, Why, print_refusal};
+use esc_progress::Progress;
 use std::io::Write;
 
-/// One run of the program: the runtime, the network, the two streams that it writes to, and what
-/// is asked for. The commands are its methods, each in its module.
+/// One run of the program: the runtime, the network, the two streams that it writes to, what is
+/// asked for, and what tells how far that is. The commands are its methods, each in its module.
 #[derive(Drop)]
 pub(crate) struct Run<'a, N, O, E> {
     pub rt: &'a HostRuntime,
@@ -13,6 +14,7 @@ pub(crate) struct Run<'a, N, O, E> {
     pub out: &'a mut O,
     pub err: &'a mut E,
     pub asked: Asked<'a>,
+    pub progress: Progress<'a>,
 }
 
 impl<N, O: Write, E: Write> Run<'_, N, O, E> {

@@ -44,7 +44,10 @@ impl<N, O: Write, E: Write> Run<'_, N, O, E> {
         names: &[String],
     ) -> Result<bool, Stop> {
         let mut are_held = true;
-        for name in names {
+        self.progress
+            .begin("take", "files", Some(names.len() as u64));
+        for (count, name) in names.iter().enumerate() {
+            self.progress.tell_read(count as u64);
             are_held &= self.take_file(desk, folder, name.as_str())?;
         }
         Ok(are_held)

@@ -113,6 +113,11 @@ impl<S: Alter> Reads for Desk<S> {
         Ok(pages)
     }
 
+    // Only a read of all pages would tell.
+    fn left(&self, _place: &Pages) -> Option<u64> {
+        None
+    }
+
     #[tactic(auto, using(crate::proofs::ReadLemmas::desk_unread))]
     fn walk_on(&mut self, place: &mut Pages) -> Result<Option<(Key, Object)>, StoreFault> {
         if place.left == 0 {

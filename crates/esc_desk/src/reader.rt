@@ -133,6 +133,10 @@ impl<S: Store> Reads for StoreReader<S> {
         })
     }
 
+    fn left(&self, place: &KeysLeft) -> Option<u64> {
+        Some(place.keys.len() as u64)
+    }
+
     #[tactic(auto, using(crate::proofs::ReaderLemmas::reader_reads))]
     fn walk_on(&mut self, place: &mut KeysLeft) -> Result<Option<(Key, Object)>, StoreFault> {
         match place.keys.next() {

@@ -1,6 +1,6 @@
 //! What is read of a store that reflects a list of events.
 
-ghost use Rattle.std.specs.Prelude.{◌≡◌, ◌+◌, ℕ, List, IfOk, IfErr, IsSome, option_map};
+ghost use Rattle.std.specs.Prelude.{◌≡◌, ◌+◌, ℕ, List, IfOk, IfErr, IfSome, IsSome, option_map};
 ghost use Rattle.esc_apply.specs.ObjectStreams.{Entry, GivesFirst, InOrder};
 ghost use Rattle.esc_store.specs.Faults.{IsFailure};
 ghost use Rattle.esc_events.specs.Events.{EventValue, union, last_moment};
@@ -114,6 +114,10 @@ pub trait Reads {
         ensures lists { OkForEvents is_honest reflects self.old self.new result
             (λ e place. ListsTables (lists self.new place) kind e) }
         ensures cause { IfErr result IsFailure };
+
+    /// How many objects of a walk are still to come, where that is known without a read.
+    fn left(&self, place: &Self::Place) -> Option<u64>
+        ensures { IfSome result (λ count. count ≡ bound place.now) };
 
     /// The next object of a walk, or `None` if there is none. `S1`, `S2`.
     fn walk_on(&mut self, place: &mut Self::Place) -> Result<Option<(Key, Object)>, StoreFault>

@@ -1,6 +1,6 @@
 //! The objects of the latest chain's tables, one at a time.
 
-ghost use Rattle.std.specs.Prelude.{◌≡◌};
+ghost use Rattle.std.specs.Prelude.{◌≡◌, IfSome};
 
 use crate::reads::Reads;
 use esc_apply::Objects;
@@ -32,6 +32,13 @@ impl<'a, R: Reads> Walk<'a, R, R::Place> {
             place,
             has_failed: false,
         }
+    }
+
+    /// How many objects are still to come, where that is known without a read.
+    pub fn left(&self) -> Option<u64>
+        ensures { IfSome result (λ count. count ≡ R.bound (place_of self.now)) }
+    {
+        self.reader.left(&self.place)
     }
 
     /// Whether a call has failed. Then nothing is said of what is read later.

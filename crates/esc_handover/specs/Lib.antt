@@ -2,5 +2,4 @@ pub mod PageParts
 pub mod Picture
 pub mod Restored
 pub mod Titles
-pub mod Watching
 pub mod WorkedSeries

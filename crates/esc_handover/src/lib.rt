@@ -6,12 +6,11 @@
 //! receipts and the parked bodies: the lines, the release as a picture and as a table, the objects
 //! beside the declared numbers, the findings.
 //!
-//! What `handover` does without its store is here, too. `read_findings`, `read_survey` and
-//! `read_flaws` find something in objects as they come. `bundle_or_stop` gives the bundle of
+//! What `handover` does without its store is here, too. `read_survey` and `read_flaws` find
+//! something in objects as they come. `bundle_or_stop` gives the bundle of
 //! `esc_deposit`, and `place_file` writes a file in one step. A [`TableFolder`] is where the files of
 //! `esc_table_files` are written, and a [`SeriesFolder`] where the bundles of a series of
-//! `esc_deposit` are, with their manifest. A [`Progress`] tells on standard error how far that is,
-//! where it takes long. A [`Stop`] says what all of this stops for, in a line and a status.
+//! `esc_deposit` are, with their manifest. A [`Stop`] says what all of this stops for, in a line and a status.
 //!
 //! ```text
 //! let page = page_of(alloc, &seen, &receipts, &parked)?;         // HTML, for a browser
@@ -37,7 +36,7 @@
 //!
 //! Of what touches files, a store or standard error it is proved that no call is unsafe and that
 //! each ends: no contract can say what a file holds or what is printed, so that is tested on the
-//! built program. So it is with `files`, `progress`, `registry_bundle`, `series_folder`, `stop` and
+//! built program. So it is with `files`, `registry_bundle`, `series_folder`, `stop` and
 //! `table_folder`, with `read_layouts`, and with what is below `page` but for `axis`, `findings`,
 //! `group`, `objects`, `part` and `share`. The other calls that read are exact: what is told on the
 //! way changes nothing.
@@ -47,7 +46,6 @@ mod answer;
 mod files;
 mod laws;
 mod page;
-mod progress;
 mod reading;
 mod registry_bundle;
 mod series_folder;
@@ -60,8 +58,7 @@ pub use laws::{
     full_bundle_restores_its_tables, moments_stand_in_order, series_restores_its_tables,
 };
 pub use page::page_of;
-pub use progress::Progress;
-pub use reading::{read_findings, read_flaws, read_layouts, read_survey};
+pub use reading::{read_flaws, read_layouts, read_survey};
 pub use registry_bundle::{bundle_or_stop, check_object_count, read_lengths, series_of};
 pub use series_folder::SeriesFolder;
 pub use stop::{REFUSED, Stop, or_stop, tell_stop};

@@ -1,28 +1,22 @@
 //! What is found in objects as they come, while it is told how many were read.
 
-ghost use Rattle.std.specs.Prelude.{◌≡◌, ◌↔◌, List, IfOk, IfErr, option_map};
-ghost use Rattle.std.specs.List.{Contains};
-ghost use Rattle.std.specs.List.Sorted.{IsStrictlySortedBy};
+ghost use Rattle.std.specs.Prelude.{◌≡◌, List, IfOk, IfErr, option_map};
 ghost use Rattle.esc_apply.specs.ObjectStreams.{Entry};
-ghost use Rattle.esc_check.specs.FindingValue.{FindingValue, listing_cmp};
-ghost use Rattle.esc_check.specs.Findings.{IsFinding};
 ghost use Rattle.esc_check.specs.ObjectReports.{IfSource, OfSource};
-ghost use Rattle.esc_check.specs.TableMap.{content_of_entries};
 ghost use Rattle.esc_conformity.specs.declared.rule.Rule.{Rule};
 ghost use Rattle.esc_conformity.specs.Flaws.{flaws};
 ghost use Rattle.esc_conformity.specs.Found.{keys_by};
 ghost use Rattle.esc_conformity.specs.Surveys.{IsSurveyOf};
 ghost use Rattle.esc_acceptance.specs.Guides.{IsCoverageOf};
 
-use crate::progress::{Progress, Watched};
 use esc_acceptance::{Surveyed, survey_from};
 use esc_apply::Objects;
-use esc_check::{Finding, StreamFault, verify_from};
+use esc_check::StreamFault;
 use esc_conformity::{Flaws, Registry, flaws_from};
 use esc_envelope::Kind;
+use esc_progress::{Progress, Watched};
 use esc_table_files::{Layout, layouts_of};
 use std::alloc::Global;
-use std::collections::BTreeMap;
 
 /// The tables of a kind with their columns ([`layouts_of`]).
 pub fn read_layouts<O: Objects>(
@@ -31,29 +25,8 @@ pub fn read_layouts<O: Objects>(
     kind: Kind,
     progress: &mut Progress<'_>,
 ) -> Result<Vec<Layout>, StreamFault<O::Error>> {
-    let mut watched = Watched::new(objects, progress, kind.name());
+    let mut watched = Watched::new(objects, progress);
     layouts_of(alloc, &mut watched, kind)
-}
-
-/// The findings V1 to V7 ([`verify_from`]).
-pub fn read_findings<O: Objects>(
-    alloc: Global,
-    objects: &mut O,
-    watermark: i64,
-    counts: &BTreeMap<Kind, u64>,
-    progress: &mut Progress<'_>,
-) -> Result<Vec<Finding>, StreamFault<O::Error>>
-    ensures follows { O.follows objects.old objects.new }
-    ensures source { IfErr result (λ fault. IfSource fault (O.has_failed objects.new)) }
-    ensures cause { IfErr result (OfSource O.fails) }
-    ensures ordered { IfOk result (λ found. IsStrictlySortedBy listing_cmp found.items) }
-    ensures each { IfOk result (λ found. O.is_honest objects.new → (es : List Entry)
-        → O.lists objects.old es
-        → (f : FindingValue) → Contains found.items f ↔ IsFinding
-        (content_of_entries es) watermark counts.now.entries f) }
-{
-    let mut watched = Watched::new(objects, progress, "findings");
-    verify_from(alloc, &mut watched, watermark, counts)
 }
 
 /// What is asked of all objects ([`survey_from`]).
@@ -69,7 +42,7 @@ pub fn read_survey<O: Objects>(
         → O.lists objects.old es
         → IsSurveyOf es surveyed.survey × IsCoverageOf es surveyed.coverage) }
 {
-    let mut watched = Watched::new(objects, progress, "fields");
+    let mut watched = Watched::new(objects, progress);
     survey_from(alloc, &mut watched)
 }
 
@@ -88,6 +61,6 @@ pub fn read_flaws<O: Objects>(
         → (rule : Rule) → keys_by found rule
         ≡ flaws rule (option_map (λ t. t.now) registry.now.tld) es) }
 {
-    let mut watched = Watched::new(objects, progress, "rules");
+    let mut watched = Watched::new(objects, progress);
     flaws_from(alloc, &mut watched, registry)
 }

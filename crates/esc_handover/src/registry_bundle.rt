@@ -1,11 +1,11 @@
 //! A registry as the bundle or the series that was asked for, or what stops that.
 
-use crate::progress::{Progress, Watched};
 use crate::stop::Stop;
 use esc_apply::Objects;
 use esc_bundle::Refusal;
 use esc_deposit::{BundleRefusal, MOST_PARTS, Series, bundle_of, cut_objects};
 use esc_envelope::Kind;
+use esc_progress::{Progress, Watched};
 use esc_store::StoreFault;
 use esc_tables::{Key, MOST_ROWS, Object};
 use std::alloc::Global;
@@ -50,7 +50,7 @@ pub fn read_lengths<O>(
 where
     O: Objects<Error = StoreFault>,
 {
-    let mut watched = Watched::new(objects, progress, "series");
+    let mut watched = Watched::new(objects, progress);
     Ok(cut_objects(alloc, &mut watched)?)
 }
 

@@ -2,13 +2,13 @@
 
 ghost use Rattle.esc_pack.specs.Release.{AddsRow};
 
-use crate::progress::{Progress, Watched};
 use crate::stop::{Stop, or_stop};
 use crate::table_folder::create_folder;
 use esc_apply::Objects;
 use esc_bundle::Fault;
 use esc_deposit::{BundleRefusal, Bundles, Series, SeriesFault, write_series};
 use esc_pack::{Release, ReleaseFault};
+use esc_progress::{Progress, Watched};
 use esc_store::StoreFault;
 use esc_table_files::NewFolder;
 use std::alloc::Global;
@@ -61,7 +61,7 @@ impl<'a> SeriesFolder<'a> {
         let made = self.folder.create_folder(DEPOSITS);
         or_stop(self.rt, self.place, made)?;
         let (alloc, series, place) = (self.rt.alloc(), self.series, self.place);
-        let mut watched = Watched::new(objects, progress, "bundles");
+        let mut watched = Watched::new(objects, progress);
         match write_series(alloc, series, lengths, &mut watched, self) {
             Ok(()) => self.write_manifest(),
             Err(SeriesFault::Source(fault)) => Err(Stop::Store(fault)),

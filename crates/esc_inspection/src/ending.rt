@@ -1,20 +1,18 @@
 //! What the end of the latest chain declares, and the findings in its tables.
 
-ghost use Rattle.std.specs.Prelude.{◌≡◌, IfOk, IfErr, Some};
+ghost use Rattle.std.specs.Prelude.{◌≡◌, IfOk, IfErr};
 ghost use Rattle.esc_events.specs.Apart.{WhereApart};
 ghost use Rattle.esc_store.specs.Faults.{IsFailure};
 ghost use Rattle.esc_desk.specs.Reading.{IsReadOf, OkForEvents};
-ghost use Rattle.esc_reports.specs.Walked.{AreFoundAt};
 ghost use Rattle.esc_inspection.specs.Parts.{AreEndingOf, counts_at};
 
 use crate::totals::entries_of;
-use esc_apply::tables_are_listed;
 use esc_bundle::NoMemory;
 use esc_check::Finding;
-use esc_desk::{Cause, End, Reads, StoreFault, Walk, tables_are_of_events};
+use esc_desk::{End, Reads, StoreFault};
 use esc_envelope::Kind;
-use esc_handover::{Progress, read_findings};
-use esc_reports::walk_fault;
+use esc_progress::Progress;
+use esc_reports::findings_at;
 use std::alloc::Global;
 
 /// What the end of the latest chain declares, and the findings in its tables.
@@ -50,50 +48,5 @@ fn declared_by(alloc: Global, end: &Option<End>) -> Result<Vec<(Kind, u64)>, NoM
     match end {
         Some(end) => entries_of(alloc, &end.counts),
         None => Ok(Vec::new(alloc)),
-    }
-}
-
-#[tactic(auto, using(crate::proofs::Reading::reads_stay))]
-fn findings_at<R: Reads>(
-    alloc: Global,
-    reader: &mut R,
-    end: &Option<End>,
-    progress: &mut Progress<'_>,
-) -> Result<Vec<Finding>, StoreFault>
-    ensures read { IsReadOf R.follows R.reflects reader.old reader.new result }
-    ensures findings { OkForEvents R.is_honest R.reflects reader.old reader.new result
-        (λ e findings. AreFoundAt e end.now findings.items) }
-    ensures cause { IfErr result IsFailure }
-{
-    tables_are_listed();
-    tables_are_of_events();
-    match end {
-        Some(end) => findings(alloc, reader, end, progress),
-        None => Ok(Vec::new(alloc)),
-    }
-}
-
-// The findings in the tables, by what the last deposit of their chain says. That the walk hasn't
-// failed is asked, since a list of findings alone doesn't say so.
-#[tactic(auto, using(crate::proofs::Reading::reads_stay))]
-fn findings<R: Reads>(
-    alloc: Global,
-    reader: &mut R,
-    end: &End,
-    progress: &mut Progress<'_>,
-) -> Result<Vec<Finding>, StoreFault>
-    ensures read { IsReadOf R.follows R.reflects reader.old reader.new result }
-    ensures findings { OkForEvents R.is_honest R.reflects reader.old reader.new result
-        (λ e findings. AreFoundAt e (Some end.now) findings.items) }
-    ensures cause { IfErr result IsFailure }
-{
-    tables_are_listed();
-    tables_are_of_events();
-    let place = reader.start_walk(alloc, None)?;
-    let mut walk = Walk::new(reader, place);
-    match read_findings(alloc, &mut walk, end.watermark, &end.counts, progress) {
-        Ok(findings) if !walk.has_failed() => Ok(findings),
-        Ok(_) => Err(StoreFault::Failed(Cause::WalkEnded)),
-        Err(fault) => Err(walk_fault(fault)),
     }
 }

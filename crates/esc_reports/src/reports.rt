@@ -1,25 +1,23 @@
 //! The reports of a store.
 
-ghost use Rattle.std.specs.Prelude.{Some, IfErr};
+ghost use Rattle.std.specs.Prelude.{IfErr};
 ghost use Rattle.esc_store.specs.Faults.{IsFailure};
 ghost use Rattle.esc_desk.specs.Reading.{IsReadOf, OkForEvents};
 ghost use Rattle.esc_reports.specs.declared.catalog.Report.TheVariants as what;
 ghost use Rattle.esc_reports.specs.Reports.{IsReport};
-ghost use Rattle.esc_reports.specs.Walked.{AreFoundAt};
 
 use crate::catalog::Report;
 use crate::export::{export_fault, write_export_of};
+use crate::findings::findings_at;
 use crate::gaps::gaps_report;
 use crate::links::links_text;
 use crate::moment::moment_line;
 use crate::parked::parked_text;
 use crate::receipts::receipts_text;
 use crate::status::status_text;
-use crate::walked::walk_fault;
-use esc_apply::tables_are_listed;
-use esc_check::{Finding, verify_from};
-use esc_desk::{Cause, End, Reads, StoreFault, Walk, tables_are_of_events};
+use esc_desk::{Reads, StoreFault};
 use esc_envelope::Kind;
+use esc_progress::Progress;
 use std::alloc::Global;
 
 /// The text of a report of a store, which a desk or a reader reads: what the program prints, and
@@ -37,7 +35,7 @@ pub fn report<R: Reads>(
     match report {
         Report::Status => report_status(alloc, reader),
         Report::Gaps => report_gaps(alloc, reader),
-        Report::Links => report_links(alloc, reader),
+        Report::Links => report_links(alloc, reader, &mut Progress::silent()),
         Report::Receipts => report_receipts(alloc, reader),
         Report::Parked => report_parked(alloc, reader),
         Report::Moment => report_moment(alloc, reader),
@@ -68,56 +66,21 @@ fn report_status<R: Reads>(alloc: Global, reader: &mut R) -> Result<Vec<u8>, Sto
     Ok(status_text(alloc, &status)?.into_bytes())
 }
 
+/// The report of links of a store, while it is told how many objects were read. `S1`, `S2`.
 #[tactic(auto, using(crate::proofs::Reading::reads_stay))]
-fn report_links<R: Reads>(alloc: Global, reader: &mut R) -> Result<Vec<u8>, StoreFault>
+pub fn report_links<R: Reads>(
+    alloc: Global,
+    reader: &mut R,
+    progress: &mut Progress<'_>,
+) -> Result<Vec<u8>, StoreFault>
     ensures read { IsReadOf R.follows R.reflects reader.old reader.new result }
     ensures text { OkForEvents R.is_honest R.reflects reader.old reader.new result
         (λ e text. IsReport e what.Links text.items) }
     ensures cause { IfErr result IsFailure }
 {
     let end = reader.end(alloc)?;
-    let findings = findings_at(alloc, reader, &end)?;
+    let findings = findings_at(alloc, reader, &end, progress)?;
     Ok(links_text(alloc, &findings)?)
-}
-
-// The findings in the tables, by what the end of their chain says. Without a chain there are none.
-#[tactic(auto, using(crate::proofs::Reading::reads_stay))]
-fn findings_at<R: Reads>(
-    alloc: Global,
-    reader: &mut R,
-    end: &Option<End>,
-) -> Result<Vec<Finding>, StoreFault>
-    ensures read { IsReadOf R.follows R.reflects reader.old reader.new result }
-    ensures findings { OkForEvents R.is_honest R.reflects reader.old reader.new result
-        (λ e findings. AreFoundAt e end.now findings.items) }
-    ensures cause { IfErr result IsFailure }
-{
-    tables_are_listed();
-    tables_are_of_events();
-    match end {
-        Some(end) => findings(alloc, reader, end),
-        None => Ok(Vec::new(alloc)),
-    }
-}
-
-// The findings in the tables, by what the last deposit of their chain says. That the walk hasn't
-// failed is asked, since a list of findings alone doesn't say so.
-#[tactic(auto, using(crate::proofs::Reading::reads_stay))]
-fn findings<R: Reads>(alloc: Global, reader: &mut R, end: &End) -> Result<Vec<Finding>, StoreFault>
-    ensures read { IsReadOf R.follows R.reflects reader.old reader.new result }
-    ensures findings { OkForEvents R.is_honest R.reflects reader.old reader.new result
-        (λ e findings. AreFoundAt e (Some end.now) findings.items) }
-    ensures cause { IfErr result IsFailure }
-{
-    tables_are_listed();
-    tables_are_of_events();
-    let place = reader.start_walk(alloc, None)?;
-    let mut walk = Walk::new(reader, place);
-    match verify_from(alloc, &mut walk, end.watermark, &end.counts) {
-        Ok(findings) if !walk.has_failed() => Ok(findings),
-        Ok(_) => Err(StoreFault::Failed(Cause::WalkEnded)),
-        Err(fault) => Err(walk_fault(fault)),
-    }
 }
 
 #[tactic(auto, using(crate::proofs::Reading::reads_stay))]

@@ -6,9 +6,9 @@ use esc_apply::Objects;
 use esc_cli::DONE;
 use esc_desk::{Reads, StoreFault};
 use esc_handover::{
-    Answer, Progress, SeriesFolder, Stop, bundle_or_stop, check_object_count, read_lengths,
-    series_of,
+    Answer, SeriesFolder, Stop, bundle_or_stop, check_object_count, read_lengths, series_of,
 };
+use esc_progress::Progress;
 use esc_tables::{Key, Object};
 use std::alloc::Global;
 
@@ -46,7 +46,7 @@ pub fn write_bundles<R: Reads>(
 ) -> Result<Answer, Stop> {
     let alloc = words.rt.alloc();
     let watermark = end_watermark(alloc, reader)?;
-    let lengths = read_lengths(alloc, &mut walk(alloc, reader, None)?, &mut progress)?;
+    let lengths = lengths_of(alloc, reader, &mut progress)?;
     let series = series_of(alloc, words.id, watermark, &lengths, words.folder)?;
     let mut folder = SeriesFolder::create(words.rt, words.folder, series)?;
     let written = fill(alloc, reader, &lengths, &mut folder, &mut progress);
@@ -55,6 +55,17 @@ pub fn write_bundles<R: Reads>(
         text: Vec::new(alloc),
         status: DONE,
     })
+}
+
+// How many objects each bundle has.
+fn lengths_of<R: Reads>(
+    alloc: Global,
+    reader: &mut R,
+    progress: &mut Progress<'_>,
+) -> Result<Vec<usize>, Stop> {
+    let mut walk = walk(alloc, reader, None)?;
+    progress.begin("series", "objects", walk.left());
+    read_lengths(alloc, &mut walk, progress)
 }
 
 // Writes all files of the folder.
@@ -66,6 +77,7 @@ fn fill<R: Reads>(
     progress: &mut Progress<'_>,
 ) -> Result<(), Stop> {
     let mut walk = walk(alloc, reader, None)?;
+    progress.begin("bundles", "objects", walk.left());
     folder.write(lengths, &mut walk, progress)
 }
 

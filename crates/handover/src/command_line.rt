@@ -18,8 +18,8 @@ const VERSION: &str = "1 (store version 2)";
 const ABOUT: &str = "Hands over the registry that restore has rebuilt";
 
 const DETAILS: &str = "\
-Nothing in the store is changed. With --progress, standard error says every two seconds how much was
-read.
+Nothing in the store is changed. On a terminal, or with --progress, standard error says every two
+seconds how much was read.
 
 Refusals go to standard error: E1 PATH (can't be read or written), E3 TIME (it is no watermark), S1
 (the store failed), S2 (no memory), S3 (no store, one of another version, or another database); U4 OUT

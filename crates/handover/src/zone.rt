@@ -4,7 +4,8 @@ use crate::walking::walk;
 use esc_cli::{DONE, Links, OneLine, read_whole};
 use esc_desk::{Reads, StoreFault};
 use esc_envelope::Kind;
-use esc_handover::{Answer, Progress, REFUSED, Stop, or_stop, read_layouts};
+use esc_handover::{Answer, REFUSED, Stop, or_stop, read_layouts};
+use esc_progress::Progress;
 use esc_table_files::Layout;
 use esc_zone::{
     Draft, Halt, Refusal, Rule, Settings, Shape, ZoneFault, check_shapes, read_apex, read_origin,
@@ -153,6 +154,7 @@ fn check_tables<R: Reads>(
     let mut layouts = Vec::new(alloc);
     for kind in [Kind::Host, Kind::Domain, Kind::Nndn] {
         let mut walk = walk(alloc, reader, Some(kind))?;
+        progress.begin(kind.name(), "objects", walk.left());
         let read = read_layouts(alloc, &mut walk, kind, progress);
         layouts.append(&mut read.map_err(Stop::from)?)?;
     }

@@ -1,5 +1,5 @@
-use Rattle.esc_inspection.proofs.Listed.{listing}
-use Rattle.esc_inspection.proofs.ending.findings_at.Goals as goal
+use Rattle.esc_reports.proofs.Listed.{listing}
+use Rattle.esc_reports.proofs.findings.findings_at.Goals as goal
 
 pub returns-in-Some-clause-findings : goal.returns-in-Some-clause-findings
 returns-in-Some-clause-findings g c = rw c.in-Some.is c.findings.ensures.findings

@@ -10,13 +10,13 @@ use Rattle.esc_desk.specs.WalkCalls.{walked_by, place_of}
 use Rattle.esc_desk.specs.Walking.{of_kinds}
 use Rattle.esc_reports.proofs.Reading.{walked_ill, walked_well}
 use Rattle.esc_reports.proofs.Listed.{listing}
-use Rattle.esc_reports.proofs.reports.findings.Goals as goal
+use Rattle.esc_reports.proofs.findings.findings.Goals as goal
 
 pub returns-in-Ok-clause-findings : goal.returns-in-Ok-clause-findings
 returns-in-Ok-clause-findings g c = λ clean e serves apart.
     let laws = g.met.R.Reads in
     let state = laws.stands_for _ e serves in
-    let at_end : g.R.Reads.is_honest (walked_by c.verify_from.new.objects) = search rules in
+    let at_end : g.R.Reads.is_honest (walked_by c.read_findings.new.objects) = search rules in
     let entries = listing e state.kept
     c.tables_are_listed.ensures c.tables_are_of_events.ensures state.stands_for apart in
     let walk = c.new-walk.ensures in

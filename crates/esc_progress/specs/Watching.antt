@@ -1,6 +1,6 @@
 -- Objects of which it is told how many came, from call to call.
 use Rattle.std.specs.Prelude.{◌≡◌, ℕ}
-use Rattle.esc_handover.specs.declared.progress.Watched.{Watched}
+use Rattle.esc_progress.specs.declared.watched.Watched.{Watched}
 
 -- the objects, as they are now
 abbrev pub watched_in : {O : Type 0} → Watched O → O

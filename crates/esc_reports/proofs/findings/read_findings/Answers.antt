@@ -6,8 +6,8 @@ use Rattle.std.proofs.lemmas.Result.{IfOk-weaker}
 use Rattle.esc_check.specs.FindingValue.{FindingValue}
 use Rattle.esc_check.specs.Findings.{IsFinding}
 use Rattle.esc_check.specs.TableMap.{content_of_entries}
-use Rattle.esc_handover.specs.Watching.{watched_in}
-use Rattle.esc_handover.proofs.reading.read_findings.Goals as goal
+use Rattle.esc_progress.specs.Watching.{watched_in}
+use Rattle.esc_reports.proofs.findings.read_findings.Goals as goal
 
 pub returns-clause-each : goal.returns-clause-each
 returns-clause-each g c =
