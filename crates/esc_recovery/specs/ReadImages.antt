@@ -5,8 +5,8 @@ use Rattle.sqlite_wal.specs.Recovery.{Image}
 use Rattle.sqlite_trees.specs.declared.store.Store.{Ghosts}
 use Rattle.sqlite_trees.specs.Tree.{Trees}
 use Rattle.esc_tables.specs.Reading.{reading}
-use Rattle.esc_scan.specs.Opening.{ReadsStore}
-use Rattle.esc_store.specs.Reading.{AreOfVersion, AreReadAs}
+use Rattle.esc_scan.specs.Opening.{AreTreesOf}
+use Rattle.esc_store.specs.Reading.{AreOfVersion, AreReadAs, trees_of}
 use Rattle.esc_store.specs.StoreState.{StoreState}
 use Rattle.esc_events.specs.Events.{EventValue}
 use Rattle.esc_events.specs.StateAfter.{IsStateAfter}
@@ -26,16 +26,13 @@ abbrev pub ReflectsOneOf : {S : Type 0} → Ghosts S → StoreReader S → List 
 ReflectsOneOf g reader e doubtful = ∥ ((x : List EventValue) × IsOneOf x e doubtful
     × ReaderReflects g reader x) ∥₁
 
--- the two files were read as trees of this version
-abbrev pub AreReadAtVersion : Image → Type 0
-AreReadAtVersion image = (trees : Trees) × ReadsStore image trees × AreOfVersion trees
-
 -- the reader is over the store that the two files hold: it reflects the events of that; of what a
--- crash left it reflects the events, or them and one of those in doubt. What was read of the files
--- is of this version
+-- crash left it reflects the events, or them and one of those in doubt. Whatever the files hold,
+-- its trees are what they read as, and have version 2
 pub record IsReaderFrom {S : Type 0} (g : Ghosts S) (image : Image) (reader : StoreReader S)
     : Type 0 where
   pub serves : (e : List EventValue) → HoldsStoreFor image e → ReaderReflects g reader e
   pub found : (e doubtful : List EventValue) → HoldsOneOf image e doubtful
       → ReflectsOneOf g reader e doubtful
-  pub version : AreReadAtVersion image
+  pub reads : AreTreesOf image (g.view (trees_of reader)).trees
+  pub version : AreOfVersion (g.view (trees_of reader)).trees

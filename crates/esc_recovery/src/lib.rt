@@ -65,8 +65,8 @@
 //!    and one of those in doubt, and none is in doubt any more (`ServesOneOf`). What is opened has
 //!    the nine tables and version 2. `migrated_desk_at` says the same of files that hold a store of
 //!    version 1 (`IsMigratedFrom`). `reopen_desk`: the desk reflects what it reflected before, and
-//!    none is in doubt. A reader of `reader_at` reflects the same list as a desk would, and what was
-//!    read is of version 2 (`IsReaderFrom`).
+//!    none is in doubt. A reader of `reader_at` reflects the same list as a desk would. Its trees
+//!    are what the files read as, whatever they hold, and have version 2 (`IsReaderFrom`).
 //!
 //! From there on `Desk::arrive` promises that a duplicate of an earlier arrival has the first one's
 //! reply. So an arrival that was answered before the crash has the same reply after it, and one in

@@ -1,10 +1,10 @@
 //! The reader of the store of two files, by its trees.
 
-ghost use Rattle.std.specs.Prelude.{List, IsTrue, IfOk, IfErr};
+ghost use Rattle.std.specs.Prelude.{◌≡◌, List, IsTrue, IfOk, IfErr};
 ghost use Rattle.sqlite_wal.specs.Files.{image_at};
 ghost use Rattle.sqlite.specs.Files.{over_files, image_of};
 ghost use Rattle.esc_store.specs.Faults.{IsOpenFault};
-ghost use Rattle.esc_store.specs.Reading.{AreHonest, AreOfVersion, IsHonestReader};
+ghost use Rattle.esc_store.specs.Reading.{AreHonest, AreOfVersion, IsHonestReader, trees_of};
 ghost use Rattle.esc_events.specs.Events.{EventValue};
 ghost use Rattle.esc_desk.specs.Readers.{ReaderReflects};
 ghost use Rattle.esc_recovery.specs.PathFaults.{IsUnopenedOr};
@@ -81,6 +81,8 @@ fn reader_over<S: Store + Drop>(alloc: Global, trees: S) -> Result<StoreReader<S
     ensures reflects { IfOk result (λ reader. IsHonestReader S.Store reader
         → (e : List EventValue) → AreReadFor (S.Store.view trees).trees e
         → ReaderReflects S.Store reader e) }
+    ensures same { IfOk result (λ reader. IsHonestReader S.Store reader
+        → (S.Store.view (trees_of reader)).trees ≡ (S.Store.view trees).trees) }
     ensures version { IfOk result (λ reader. IsHonestReader S.Store reader
         → AreOfVersion (S.Store.view trees).trees) }
     ensures cause { IfErr result IsOpenFault }

@@ -13,7 +13,8 @@ use Rattle.sqlite_store.specs.Listing.{file_trees, IsOurs}
 use Rattle.sqlite_store.specs.declared.store.open.Unopened.{Unopened}
 use Rattle.sqlite_store.specs.Unopened.{state_of, image, files_of, Opens}
 use Rattle.sqlite.proofs.OpenLemmas.{pool_files}
-use Rattle.esc_scan.specs.Opening.{IsHeldAt, IsRecovered}
+use Rattle.sqlite_trees.specs.Tree.{Trees}
+use Rattle.esc_scan.specs.Opening.{AreTreesAt, IsHeldAt, IsRecovered}
 
 -- files that recover to the same pages hold the same
 pub still_held : (size : ℕ) (old new : Image) (pages : PageMap)
@@ -52,3 +53,20 @@ held_after stays old mid left was opens clean =
           (subst (λ k. RecoversAs k (image mid) (image left)) was.size same) was.pages was.again
     ] in
     still_held n (image old) (image left) was.pages was.found now
+
+-- what files read as once they were recovered, they read as before
+pub trees_before : {D : Type 0} {g : Ghosts D} (old mid : Unopened D g) (trees : Trees) → IsRecovered old mid
+    → AreTreesAt (state_of mid).page_size (image mid) trees → AreTreesAt (state_of old).page_size (image old) trees
+trees_before old mid trees was at =
+    let n = (state_of old).page_size in
+    let (wanted, tables, by) = subst (λ k. AreTreesAt k (image mid) trees) was.size at in
+    let same = recovers_once n (image mid) by.pages was.pages by.found was.again in (
+      wanted,
+      tables,
+      record {
+        pages = was.pages;
+        found = was.found;
+        ours = subst (λ p. ∥ IsOurs n true wanted p ∥₁) same by.ours;
+        reads = by.reads ∙ ap (file_trees n wanted) same;
+      },
+    )

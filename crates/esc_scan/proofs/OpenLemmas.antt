@@ -1,6 +1,6 @@
 -- From files with pages of a length to the two files, whatever the length is.
 use Rattle.std.proofs.Common.{◌≡◌, ℕ, ◌≤◌, List, length, slice_index, Option, Some, Result, Ok, Err}
-use Rattle.std.proofs.Common.{IsTrue, IfOk, sym, ap, subst, subst₂, ◌∙◌, arith}
+use Rattle.std.proofs.Common.{IsTrue, IfOk, IfSome, sym, ap, subst, subst₂, ◌∙◌, arith}
 use Rattle.std.proofs.Math.Logic.{∥∥₁_elim}
 use Rattle.sqlite_disk.specs.declared.Disk.{Ghosts}
 use Rattle.sqlite_disk.specs.declared.Files.{Files}
@@ -19,7 +19,7 @@ use Rattle.sqlite_trees.specs.Tree.{Trees}
 use Rattle.sqlite_trees.specs.Props.{rows_set}
 use Rattle.sqlite.specs.Opening.{HoldsAt}
 use Rattle.sqlite.specs.declared.error.Error.{Error}
-use Rattle.sqlite.specs.Files.{HoldsDatabase, image_of}
+use Rattle.sqlite.specs.Files.{HoldsDatabase, NamesSize, image_of}
 use Rattle.sqlite.proofs.FileLemmas.{probe_size, reads_then, same_image}
 use Rattle.sqlite.proofs.OpenLemmas.{pool_files}
 use Rattle.sqlite_store.specs.declared.store.open.Unopened.{Unopened}
@@ -77,14 +77,21 @@ holds_database size image db valid held = (
   },
 )
 
--- an opening at one length is one of the files
-pub opened_from : {D : Type 0} {g : Ghosts D} (size : ℕ) (image : Image)
+-- the length that was probed is the one that is named
+named : (found : Option PageSize) (size : PageSize) (n : ℕ) → found ≡ Some size → Names found n → bytes_of size ≡ n
+named found size n is names = subst (λ f. IfSome f (λ s. bytes_of s ≡ n)) is names.1
+
+-- an opening at one length, which the files name, is one of the files
+pub opened_from : {D : Type 0} {g : Ghosts D} (size : ℕ) (image : Image) → NamesSize image size
     → HoldsOnlyAt size image → (it : Opened D g) → IsOpeningAt size image it → IsOpeningOf image it
-opened_from size image only (opened.Trees store) at = λ db c held is. record {
-  info = ∥∥₁_elim held (rows_set _ _) (λ h. (at db c (only db h).1 is).info);
-  tables = λ t. ∥∥₁_elim held (rows_set _ _) (λ h. (at db c (only db h).1 is).tables t);
-}
-opened_from size image only (opened.Refused files) at = λ db held. let (valid, now) = only db held in
+opened_from size image names only (opened.Trees store) at = (
+  λ db c held is. record {
+    info = ∥∥₁_elim held (rows_set _ _) (λ h. (at.0 db c (only db h).1 is).info);
+    tables = λ t. ∥∥₁_elim held (rows_set _ _) (λ h. (at.0 db c (only db h).1 is).tables t);
+  },
+  (size, names, at.1),
+)
+opened_from size image names only (opened.Refused files) at = λ db held. let (valid, now) = only db held in
     holds_database size _ db valid (at db now)
 
 -- files whose length of a page was probed are opened as the two files
@@ -109,7 +116,11 @@ module _ {D : Type 0} {g : Ghosts D} (start probed now : Files D)
       ∙ same_image (reads_then log later_log) (reads_then db later_db) in
       let only = holds_plain (image_of g start) found (by_log first)
       (by_file first) size is (subst (IsPlain (bytes_of size)) (same_image log db) (plain last)) in
-      opened_from (bytes_of size) (image_of g start) only it (subst₂ (λ n i. IsOpeningAt n i it) sized seen at)
+      let names : NamesSize (image_of g start) (bytes_of size) = (
+        λ kept. named found size _ is (by_log first kept),
+        λ ignored. named found size _ is (by_file first ignored),
+      ) in
+      opened_from (bytes_of size) (image_of g start) names only it (subst₂ (λ n i. IsOpeningAt n i it) sized seen at)
 
   pub opened_or : (result : Result (Opened D g) Error)
       → IfOk result (λ it. IsHonestOpening it → IsTrue (state_of fresh).is_clean)

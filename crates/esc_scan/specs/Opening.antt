@@ -1,5 +1,6 @@
 -- What the two files of a store read as by its trees.
-use Rattle.std.specs.Prelude.{◌≡◌, ℕ, ◌+◌, ◌<◌, pos, List, [], length, slice_index_or, IsTrue}
+use Rattle.std.specs.Prelude.{◌≡◌, ℕ, ◌+◌, ◌<◌, true, pos, List, [], length, slice_index_or}
+use Rattle.std.specs.Prelude.{IsTrue}
 use Rattle.sqlite_disk.specs.declared.Disk.{Ghosts}
 use Rattle.sqlite_pages.specs.PageMap.{PageMap}
 use Rattle.sqlite_wal.specs.Recovery.{Image}
@@ -12,9 +13,10 @@ use Rattle.sqlite_trees.specs.View.{IsClean}
 use Rattle.sqlite_store.specs.declared.catalog.Wanted.{Wanted}
 use Rattle.sqlite_store.specs.declared.store.open.Unopened.{Unopened}
 use Rattle.sqlite_store.specs.FileStore.{view, IsReady}
+use Rattle.sqlite_store.specs.Listing.{file_trees, IsOurs}
 use Rattle.sqlite_store.specs.Unopened.{state_of, image, Shows}
 use Rattle.sqlite.specs.Opening.{HoldsAt}
-use Rattle.sqlite.specs.Files.{HoldsDatabase, image_of}
+use Rattle.sqlite.specs.Files.{HoldsDatabase, NamesSize, image_of}
 use Rattle.esc_sql.specs.Schema.{info_table}
 use Rattle.esc_sql.specs.StoreTable.{StoreTable, schema_table}
 use Rattle.esc_sql.specs.Content.{Content, HoldsRows, AreStoreTrees}
@@ -31,6 +33,25 @@ pub record HasTables (ours : List Wanted) : Type 0 where
 abbrev pub ReadsStoreAt : ℕ → Image → Trees → Type 0
 ReadsStoreAt size image trees =
     (db : Trees) (c : Content) → HoldsAt size image db → AreStoreTrees db c → HoldsRows trees c
+
+-- the trees are what the files recover to in pages of this length, by this list of tables and
+-- indexes, which is the one that the files keep
+pub record AreTreesBy (size : ℕ) (image : Image) (wanted : List Wanted) (trees : Trees)
+    : Type 0 where
+  pub pages : PageMap
+  pub found : Recovers size image pages
+  pub ours : ∥ IsOurs size true wanted pages ∥₁
+  pub reads : trees ≡ file_trees size wanted pages
+
+-- the same by a list with the nine tables of a store
+abbrev pub AreTreesAt : ℕ → Image → Trees → Type 0
+AreTreesAt size image trees =
+    (wanted : List Wanted) × HasTables wanted × AreTreesBy size image wanted trees
+
+-- the same in pages of the length that the files name: whatever the files hold, these trees are
+-- what they read as
+abbrev pub AreTreesOf : Image → Trees → Type 0
+AreTreesOf image trees = (size : ℕ) × NamesSize image size × AreTreesAt size image trees
 
 -- sixteen rows with the rowids from 1 to 16
 abbrev pub AreNumbered : List Row → Type 0
@@ -76,12 +97,15 @@ module _ {D : Type 0} {g : Ghosts D} where
   IsOfUse (opened.Trees store) = IsReady store
   IsOfUse (opened.Refused files) = IsTrue (g.is_usable files.log) × IsTrue (g.is_usable files.db)
 
-  -- the trees are those of the store that the files held, or the files hold what they held
+  -- the trees are what the files read as, and those of the store that the files held, if they held
+  -- one; or the files hold what they held
   abbrev pub IsOpeningOf : Image → Opened D g → Type 0
-  IsOpeningOf image (opened.Trees store) = ReadsStore image (view store).trees
+  IsOpeningOf image (opened.Trees store) =
+      ReadsStore image (view store).trees × AreTreesOf image (view store).trees
   IsOpeningOf image (opened.Refused files) = IsHeldBy image (image_of g files)
 
   -- the same, where the database has pages of this length
   abbrev pub IsOpeningAt : ℕ → Image → Opened D g → Type 0
-  IsOpeningAt size image (opened.Trees store) = ReadsStoreAt size image (view store).trees
+  IsOpeningAt size image (opened.Trees store) =
+      ReadsStoreAt size image (view store).trees × AreTreesAt size image (view store).trees
   IsOpeningAt size image (opened.Refused files) = IsHeldAt size image (image_of g files)

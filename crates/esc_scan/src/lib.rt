@@ -41,6 +41,10 @@
 //! - A read has one clause, `read`: `IsScan S.Store old new Says result`. Where the call succeeds
 //!   and the disk has answered truly, `Says` holds of the content and the result, and nothing but
 //!   cursors has moved. In every case nothing is committed, and a crash leaves nothing new.
+//! - `open_trees` gives what the files read as, whatever they hold (`AreTreesOf`): the trees of the
+//!   pages that they recover to, by the tables and indexes that they list. Where the files hold a
+//!   store, its rows are in the trees (`ReadsStore`). Where they are given back, they hold what they
+//!   held (`IsHeldBy`).
 //! - A scan's clauses speak of the rows that its cursor has left (`left_of`): all of the tree's at
 //!   the start, and at each step all but the first of those before.
 #![tactic(auto)]

@@ -49,6 +49,8 @@ impl<S: Store> StoreReader<S> {
         ensures stands { IfOk result (λ reader. IsHonestReader S.Store reader
             → (k : StoreState) → AreReadAs (S.Store.view trees).trees k
             → ReaderRepresents S.Store reader k) }
+        ensures same { IfOk result (λ reader. IsHonestReader S.Store reader
+            → (S.Store.view (trees_of reader)).trees ≡ (S.Store.view trees).trees) }
         ensures version { IfOk result (λ reader. IsHonestReader S.Store reader
             → AreOfVersion (S.Store.view trees).trees) }
         ensures never { IfErr result (λ e. e.0 ≡ StoreFault.NotAStore → AreHonest S.Store e.1

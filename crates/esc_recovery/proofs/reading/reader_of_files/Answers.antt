@@ -11,4 +11,4 @@ returns-in_ok-reader_over-in-Trees-clause-opened g c = λ honest.
     let reads = subst (λ it. IsHonestOpening it → IsOpeningOf image it)
     c.in-Trees.is c.in_ok-trees.ensures.opened (reader.ensures.honest honest) in
     reader_from over_files image _ reader.field-0 reads (reader.ensures.reflects honest)
-    (reader.ensures.version honest)
+    (reader.ensures.version honest) (reader.ensures.same honest)

@@ -4,7 +4,7 @@ use Rattle.sqlite_trees.proofs.Doubt.{clean_of}
 use Rattle.sqlite_store.specs.Unopened.{state_of, image}
 use Rattle.sqlite.specs.Opening.{HoldsAt}
 use Rattle.esc_scan.specs.Opening.{IsHeldAt}
-use Rattle.esc_scan.proofs.CloseLemmas.{closed_clean, closed_image, held_after, still_held}
+use Rattle.esc_scan.proofs.CloseLemmas.{closed_clean, closed_image, held_after, still_held, trees_before}
 use Rattle.esc_scan.proofs.opening.listed_trees.Goals as goal
 
 pub returns-then-not-branch-clause-honest : goal.returns-then-not-branch-clause-honest
@@ -29,13 +29,16 @@ pub returns-in-Ok-clause-honest : goal.returns-in-Ok-clause-honest
 returns-in-Ok-clause-honest g c now = c.list_tables.ensures.honest (c.in-Ok.ensures.honest (clean_of _ now))
 
 pub returns-in-Ok-clause-opened : goal.returns-in-Ok-clause-opened
-returns-in-Ok-clause-opened g c now db content held is =
+returns-in-Ok-clause-opened g c now =
     let old = c.args.files in
     let mid = c.list_tables.new.files in
     let clean = clean_of _ now in
     let was = c.in_ok-list_tables.ensures.same (c.in-Ok.ensures.honest clean) in
-    let there = still_held (state_of old).page_size (image old) (image mid) was.pages was.found was.again db held in
-    c.in-Ok.ensures.reads clean db content (subst (λ n. HoldsAt n (image mid) db) (sym was.size) there) is
+    let there = still_held (state_of old).page_size (image old) (image mid) was.pages was.found was.again in (
+      λ db content held is. c.in-Ok.ensures.reads clean db content
+      (subst (λ n. HoldsAt n (image mid) db) (sym was.size) (there db held)) is,
+      trees_before old mid _ was (c.in-Ok.ensures.found clean),
+    )
 
 pub returns-then-may_be_used-clause-of_use : goal.returns-then-may_be_used-clause-of_use
 returns-then-may_be_used-clause-of_use g c = and_parts _ _ (sym c.may_be_used.ensures ∙ c.if-may_be_used.true)

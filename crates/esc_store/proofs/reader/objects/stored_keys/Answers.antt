@@ -6,6 +6,7 @@ use Rattle.esc_store.proofs.reader.objects.stored_keys.Goals as goal
 
 pub returns : goal.returns
 returns g c = record {
-  read = scanned g.S.Store Objects numbered_key c.read_all.result (λ all. all.items) c.args.trees.now c.read_all.new.store
-      key_of_object c.read_all.ensures.reads c.read_all.ensures.only c.read_all.ensures.quiet;
+  read = scanned g.S.Store Objects numbered_key c.read_all.result (λ all. all.items) c.args.trees.now
+      c.read_all.new.store key_of_object c.read_all.ensures.reads c.read_all.ensures.only
+      c.read_all.ensures.quiet;
 }
