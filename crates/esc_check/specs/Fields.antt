@@ -33,6 +33,15 @@ field_target IdnTableId = Idn
 field_target ContactId = Contact
 field_target HostName = Host
 
+-- whether links lead to objects of a kind
+abbrev pub is_target : Kind → Bool
+is_target Registrar = true
+is_target Contact = true
+is_target Host = true
+is_target Domain = false
+is_target Idn = true
+is_target Nndn = false
+
 -- the fields of a parent row that link
 abbrev pub parent_fields : Kind → List LinkField
 parent_fields Registrar = []

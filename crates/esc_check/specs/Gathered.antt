@@ -1,6 +1,6 @@
 -- What a walk over the objects gathers, with repeats, as lists. The crate's own functions return
 -- these to one another; `Findings` alone says what `verify` returns.
-use Rattle.std.specs.Prelude.{◌≡◌, ℕ, ℤ, int_lt, ◌==◌, Bool, true, false, not, ◌&&◌}
+use Rattle.std.specs.Prelude.{◌≡◌, ◌+◌, ℕ, ℤ, int_lt, ◌==◌, Bool, true, false, not, ◌&&◌}
 use Rattle.std.specs.Prelude.{if◌then◌else◌}
 use Rattle.std.specs.Prelude.{List, [], ◌∷◌, ◌++◌, map, filter, count_by, Option, Some, None}
 use Rattle.std.specs.Prelude.{is_some, codes}
@@ -16,9 +16,10 @@ use Rattle.esc_tables.specs.ObjectValue.{RowValue, ObjectValue}
 use Rattle.esc_apply.specs.ObjectStreams.{Entry}
 use Rattle.esc_check.specs.declared.field.LinkField.{LinkField}
 use Rattle.esc_check.specs.declared.walk.Gathering.{Gathering}
+use Rattle.esc_check.specs.Counted.{number_of}
 use Rattle.esc_check.specs.Export.{is_of_table}
-use Rattle.esc_check.specs.Fields.{cell, field_name, parent_fields, is_domain, child_field}
-use Rattle.esc_check.specs.Fields.{status_table, created, expires}
+use Rattle.esc_check.specs.Fields.{cell, field_name, parent_fields, is_domain, is_target}
+use Rattle.esc_check.specs.Fields.{child_field, status_table, created, expires}
 use Rattle.esc_check.specs.FindingValue.{FindingValue}
 use Rattle.esc_check.specs.Findings.{missing_target, miscounted, unknown_status, mixed_status, late}
 use Rattle.esc_check.specs.Findings.{early, malformed}
@@ -64,10 +65,13 @@ link_findings present links = map missing_target (filter (λ l. not (present l.t
 abbrev pub count_of_kind : List KeyName → Kind → ℕ
 count_of_kind keys kind = count_by (λ q. is_kind q.kind kind) keys
 
+-- the finding V2 of a declared number, if any, where so many objects are of each kind
+abbrev pub number_findings : (Kind → ℕ) → Kind × ℕ → List FindingValue
+number_findings count d = if count d.0 == d.1 then [] else miscounted d.0 d.1 (count d.0) ∷ []
+
 -- the finding V2 of a declared number, if any, where these are the keys of the tables
 abbrev pub count_findings : List KeyName → Kind × ℕ → List FindingValue
-count_findings keys d = if count_of_kind keys d.0 == d.1 then [] else miscounted d.0 d.1
-    (count_of_kind keys d.0) ∷ []
+count_findings keys d = number_findings (count_of_kind keys) d
 
 -- the status in a row, if the row is of the table and its status isn't empty
 abbrev pub row_status : List ℕ → RowValue → List (List ℕ)
@@ -155,17 +159,23 @@ abbrev pub object_findings : (KeyName → Bool) → ℤ → List ℕ → Entry �
 object_findings present w shown e = link_findings present (links_of e.0 e.1)
     ++ own_findings w shown e.0 e.1
 
+-- those of these keys to which a link may lead
+abbrev pub targets : List KeyName → List KeyName
+targets keys = filter (λ q. is_target q.kind) keys
+
 -- the links of these entries
 abbrev pub all_links : List Entry → List LinkValue
 all_links es = flat_map (λ e. links_of e.0 e.1) es
 
 -- what a walk has gathered, together with the entries that are left, makes up what the whole has:
--- what is found of each object by itself, the keys, and the links that wait; a link that was
--- dropped leads to a key that was met
+-- what is found of each object by itself, the keys to which a link may lead, how many are of each
+-- kind, and the links that wait; a link that was dropped leads to a key that was met
 pub record Leads (w : ℤ) (shown : List ℕ) (g : Gathering) (left whole : List Entry) : Type 0 where
   pub found : g.found.items ++ flat_map (λ e. own_findings w shown e.0 e.1) left
       ≡ flat_map (λ e. own_findings w shown e.0 e.1) whole
-  pub met : g.met.keys ++ keys_of left ≡ keys_of whole
+  pub met : g.met.keys ++ targets (keys_of left) ≡ targets (keys_of whole)
+  pub came : (kind : Kind) → number_of g.came kind + count_of_kind (keys_of left) kind
+      ≡ count_of_kind (keys_of whole) kind
   pub waiting : (present : KeyName → Bool)
       → ((q : KeyName) → sorted.contains key_cmp g.met q ≡ true → present q ≡ true)
       → link_findings present g.waiting.items ++ link_findings present (all_links left)

@@ -1,3 +1,4 @@
+pub mod Counted
 pub mod Export
 pub mod ExportFaults
 pub mod Fields

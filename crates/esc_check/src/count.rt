@@ -5,16 +5,18 @@ ghost use Rattle.std.specs.Prelude.{string_bytes};
 ghost use Rattle.std.specs.List.{flat_map};
 ghost use Rattle.std.specs.Fmt.{decimal};
 ghost use Rattle.std.specs.Map.{keys_of};
+ghost use Rattle.esc_check.specs.Counted.{number_of};
 ghost use Rattle.esc_check.specs.Findings.{miscounted};
-ghost use Rattle.esc_check.specs.Gathered.{count_of_kind, count_findings};
+ghost use Rattle.esc_check.specs.Gathered.{count_of_kind, count_findings, number_findings};
 
+use crate::came::Came;
 use crate::finding::Finding;
 use crate::rule::Rule;
 use esc_bundle::NoMemory;
 use esc_envelope::Kind;
 use esc_tables::{Key, Object};
 use std::alloc::Global;
-use std::collections::{BTreeMap, BTreeSet};
+use std::collections::BTreeMap;
 
 // How many objects are of a kind.
 fn count_of(tables: &BTreeMap<Key, Object>, kind: Kind) -> u64
@@ -27,13 +29,6 @@ fn decimal_text(alloc: Global, number: u64) -> Result<String, NoMemory>
     ensures { IfOk result (λ text. string_bytes text ≡ decimal number) }
 {
     Ok(format!(in alloc; "{number}")?)
-}
-
-// How many of these keys are of a kind.
-fn count_among(met: &BTreeSet<Key>, kind: Kind) -> u64
-    ensures { result ≡ count_of_kind met.now.keys kind }
-{
-    met.iter().filter(|key| key.kind == kind).count() as u64
 }
 
 // Adds the finding V2 of a declared number, if the number found is another one.
@@ -61,18 +56,18 @@ fn check_count(
     Ok(())
 }
 
-/// Adds the findings V2 of the declared numbers, if these are the keys of all objects.
-pub fn check_met(
+/// Adds the findings V2 of the declared numbers, if so many objects came.
+pub fn check_came(
     alloc: Global,
     found: &mut Vec<Finding>,
-    met: &BTreeSet<Key>,
+    came: &Came,
     counts: &BTreeMap<Kind, u64>,
 ) -> Result<(), NoMemory>
     ensures { OnOk result (found.new.items ≡ found.old.items
-        ++ flat_map (count_findings met.now.keys) counts.now.entries) }
+        ++ flat_map (number_findings (number_of came.now)) counts.now.entries) }
 {
     for (kind, declared) in counts.iter() {
-        check_count(alloc, found, *kind, *declared, count_among(met, *kind))?;
+        check_count(alloc, found, *kind, *declared, came.of(*kind))?;
     }
     Ok(())
 }

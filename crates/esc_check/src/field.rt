@@ -1,8 +1,8 @@
 //! The fields that are verified.
 
-ghost use Rattle.std.specs.Prelude.{◌≡◌};
-ghost use Rattle.esc_check.specs.Fields.{field_name, field_target, parent_fields, is_domain};
-ghost use Rattle.esc_check.specs.Fields.{child_field, cell, has_created, created, expires};
+ghost use Rattle.std.specs.Prelude.{◌≡◌, true};
+ghost use Rattle.esc_check.specs.Fields.{field_name, field_target, parent_fields, is_target};
+ghost use Rattle.esc_check.specs.Fields.{child_field, cell, is_domain, has_created, created, expires};
 
 use esc_envelope::Kind;
 use esc_tables::{Key, Object, Row};
@@ -34,7 +34,8 @@ impl LinkField {
 
     /// The kind of the objects that the field names.
     pub fn target(self) -> Kind
-        ensures { result ≡ field_target self }
+        ensures kind { result ≡ field_target self }
+        ensures known { is_target result ≡ true }
     {
         match self {
             LinkField::ClId => Kind::Registrar,
@@ -43,6 +44,16 @@ impl LinkField {
             LinkField::HostName => Kind::Host,
         }
     }
+}
+
+/// Whether links lead to objects of a kind.
+pub fn is_target(kind: Kind) -> bool
+    ensures { result ≡ is_target kind }
+{
+    matches!(
+        kind,
+        Kind::Registrar | Kind::Contact | Kind::Host | Kind::Idn
+    )
 }
 
 /// The fields of a parent row that link.

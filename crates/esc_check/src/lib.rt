@@ -57,13 +57,15 @@
 //! object at a time. Child rows that are grouped by table, as those of a deposit are, are counted
 //! once for each table.
 //!
-//! `write_export` allocates for the lines of one object. `verify_from` allocates for what is found, for the keys,
-//! and for the links that lead to what did not come before them. Registrars come first, then
-//! contacts, hosts and domains, so these are the links to IDN tables and those that lead to
-//! nothing. A link is looked up among the keys as it comes, and if it leads to none of them, once
-//! more at the end.
+//! `write_export` allocates for the lines of one object. `verify_from` allocates for what is found,
+//! for the keys to which links may lead (no link leads to a domain or an NNDN), and for the links
+//! that lead to what did not come before them. Registrars come first, then contacts, hosts and
+//! domains, so these are the links to IDN tables and those that lead to nothing. A link is looked
+//! up among the keys as it comes, and if it leads to none of them, once more at the end. Of each
+//! kind the objects are counted as they come.
 #![tactic(auto)]
 
+mod came;
 mod count;
 mod date;
 mod distinct;

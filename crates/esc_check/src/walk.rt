@@ -1,19 +1,25 @@
 //! Verification of objects that come one at a time.
 
-ghost use Rattle.std.specs.Prelude.{◌↔◌, ℕ, ℤ, [], ◌∷◌, List, IfOk, IfErr, OnOk, string_bytes};
+ghost use Rattle.std.specs.Prelude.{◌≡◌, ◌↔◌, ℕ, ℤ, [], ◌∷◌, List, IfOk, IfErr, OnOk};
+ghost use Rattle.std.specs.Prelude.{if◌then◌else◌, string_bytes};
+ghost use Rattle.std.specs.BTreeSet.{insert_key};
 ghost use Rattle.std.specs.List.{Contains};
 ghost use Rattle.std.specs.List.Sorted.{IsStrictlySortedBy};
 ghost use Rattle.esc_envelope.specs.Watermark.{printed};
 ghost use Rattle.esc_apply.specs.ObjectStreams.{Entry, InOrder};
+ghost use Rattle.esc_tables.specs.KeyName.{key_cmp};
+ghost use Rattle.esc_check.specs.Fields.{is_target};
 ghost use Rattle.esc_check.specs.FindingValue.{FindingValue, listing_cmp};
 ghost use Rattle.esc_check.specs.Findings.{IsFinding};
 ghost use Rattle.esc_check.specs.Gathered.{Leads};
 ghost use Rattle.esc_check.specs.ObjectReports.{IfSource, OfSource};
 ghost use Rattle.esc_check.specs.TableMap.{content_of_entries};
 
-use crate::count::check_met;
+use crate::came::Came;
+use crate::count::check_came;
 use crate::date::{Limit, limit_at};
 use crate::distinct::{listed, settle};
+use crate::field::is_target;
 use crate::finding::Finding;
 use crate::link::{Link, add_all_missing, add_links, unmet};
 use crate::stream::StreamFault;
@@ -30,8 +36,11 @@ use std::collections::{BTreeMap, BTreeSet};
 pub struct Gathering {
     /// The findings of each object by itself (V3 to V7).
     pub found: Vec<Finding>,
-    /// The keys of the objects so far.
+    /// The keys of the objects so far to which a link may lead. The others need not be kept: of a
+    /// registry's objects most are domains, and no link leads to a domain.
     pub met: BTreeSet<Key>,
+    /// How many objects of each kind came so far.
+    pub came: Came,
     /// The links to objects that had not come when the links did: they may still come.
     pub waiting: Vec<Link>,
 }
@@ -43,8 +52,20 @@ fn start(alloc: Global) -> Gathering
     Gathering {
         found: Vec::new(alloc),
         met: BTreeSet::new(alloc),
+        came: Came::none(),
         waiting: Vec::new(alloc),
     }
+}
+
+// Keeps a key, if a link may lead to it.
+fn meet(met: &mut BTreeSet<Key>, key: Key) -> Result<(), NoMemory>
+    ensures { OnOk result (met.new.keys
+        ≡ (if is_target key.kind then insert_key key_cmp met.old.keys key else met.old.keys)) }
+{
+    if is_target(key.kind) {
+        met.insert(key)?;
+    }
+    Ok(())
 }
 
 // Takes in the next object. Nearly all links lead to objects of an earlier kind, which have come
@@ -65,7 +86,8 @@ fn take_in(
     let mut links = Vec::new(alloc);
     add_links(alloc, &mut links, &key, object)?;
     gathering.waiting.append(&mut unmet(&gathering.met, links))?;
-    gathering.met.insert(key)?;
+    gathering.came.add(&key)?;
+    meet(&mut gathering.met, key)?;
     Ok(())
 }
 
@@ -84,10 +106,11 @@ fn finish(
     let Gathering {
         mut found,
         met,
+        came,
         waiting,
     } = gathering;
     add_all_missing(alloc, &mut found, &unmet(&met, waiting))?;
-    check_met(alloc, &mut found, &met, counts)?;
+    check_came(alloc, &mut found, &came, counts)?;
     Ok(listed(settle(found)))
 }
 
@@ -112,8 +135,8 @@ fn gather<O: Objects>(
 }
 
 /// What `verify` returns for the tables of a registry, from their objects as they come one at a
-/// time. It allocates for the findings, for the keys, and for the links to objects that had not
-/// come when the links did. At `Err` the source failed, or it is out of memory.
+/// time. It allocates for the findings, for the keys to which links may lead, and for the links to
+/// objects that had not come when the links did. At `Err` the source failed, or it is out of memory.
 pub fn verify_from<O: Objects>(
     alloc: Global,
     objects: &mut O,

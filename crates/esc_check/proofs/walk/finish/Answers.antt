@@ -1,9 +1,10 @@
 use Rattle.std.proofs.Common.{List, ◌++◌, map, sym, ap, subst, ◌∙◌}
 use Rattle.std.specs.Prelude.{◌↔◌}
 use Rattle.std.specs.List.{Contains, flat_map}
+use Rattle.esc_check.specs.Counted.{number_of}
 use Rattle.esc_check.specs.FindingValue.{FindingValue}
 use Rattle.esc_check.specs.Findings.{IsFinding, missing_target}
-use Rattle.esc_check.specs.Gathered.{count_findings}
+use Rattle.esc_check.specs.Gathered.{number_findings}
 use Rattle.esc_check.specs.LinkValue.{LinkValue}
 use Rattle.esc_check.specs.TableMap.{content_of_entries}
 use Rattle.esc_check.proofs.ListingLaws.{in_order}
@@ -16,10 +17,10 @@ returns-clause-each c = λ es w ordered leads.
     let counts = c.args.counts.now.entries in
     let missing = c.in_ok-add_all_missing.ensures ∙ ap (λ (ls : List LinkValue). g.found.items
     ++ map missing_target ls) (c.deref.ensures.value ∙ c.unmet.ensures) in
-    let all = c.in_ok-check_met.ensures
-    ∙ ap (λ (l : List FindingValue). l ++ flat_map (count_findings g.met.keys) counts) missing in
+    let all = c.in_ok-check_came.ensures
+    ∙ ap (λ (l : List FindingValue). l ++ flat_map (number_findings (number_of g.came)) counts) missing in
     let are = walked_found w g es counts
-    c.check_met.new.found.items c.settle.result.items ordered leads all c.settle.ensures.same in
+    c.check_came.new.found.items c.settle.result.items ordered leads all c.settle.ensures.same in
     let strict = in_order es w counts c.settle.result.items ordered are c.settle.ensures.ordered in
     λ f. subst (λ (l : List FindingValue). Contains l f ↔ IsFinding (content_of_entries es) w counts f)
     (sym (c.listed.ensures.same strict)) (are f)

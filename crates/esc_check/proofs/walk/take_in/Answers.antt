@@ -15,5 +15,5 @@ returns c = λ left whole ordered leads.
     (λ (l : LinkValue). not (sorted.contains key_cmp met l.to)) ls) links in
     leads_more c.args.limit.now.moment (string_bytes c.args.limit.now.text)
     c.args.gathering.now _ c.args.key
-    c.args.object.now left whole ordered leads c.in_ok-check_own.ensures c.in_ok-insert.ensures.keys
+    c.args.object.now left whole ordered leads c.in_ok-check_own.ensures c.in_ok-meet.ensures c.in_ok-add.ensures
     (c.in_ok-append.ensures.items ∙ ap (λ (ls : List LinkValue). c.args.gathering.now.waiting.items ++ ls) kept)
