@@ -1,6 +1,7 @@
 -- How a cursor moves, and what has been read on its way.
 use Rattle.std.proofs.Common.{◌≡◌, ℕ, List, [], ◌∷◌, ◌++◌, Option, Some, None, refl, sym, ap}
-use Rattle.std.proofs.Common.{◌∙◌}
+use Rattle.std.proofs.Common.{◌∙◌, Bool, filter, subst, append-nil}
+use Rattle.std.proofs.lemmas.List.Elements.{filter-append}
 use Rattle.std.proofs.lemmas.List.{append_assoc}
 use Rattle.sqlite_value.specs.Order.{Row}
 use Rattle.sqlite_value.specs.declared.keys.Order.{Order}
@@ -8,7 +9,7 @@ use Rattle.sqlite_trees.specs.Tree.{from_key, sought}
 use Rattle.sqlite_trees.specs.declared.store.Direction.TheVariants.{Forward}
 use Rattle.sqlite_trees.specs.View.{View, with_cursor}
 use Rattle.esc_sql.specs.Reading.{AreRead}
-use Rattle.esc_scan.specs.Scanning.{left_of, OnlyCursors, ReadsNext, ReadsFirst}
+use Rattle.esc_scan.specs.Scanning.{left_of, OnlyCursors, ReadsNext, ReadsFirst, AreReadIf}
 
 -- from no key on, each row comes
 from_all : (o : Order) (rows : List Row) → from_key o [] rows ≡ rows
@@ -53,6 +54,33 @@ read_more IsRead rows old new vs v h next = record {
   whole = append_assoc h.given (next.0 ∷ []) (left_of new) ∙ ap (λ l. h.given ++ l) (sym next.1) ∙ h.whole;
   read = one_more IsRead h.given vs next.0 v h.read next.2;
 }
+
+-- a scan of these rows has read these values that pass, of those rows that it has given
+abbrev pub HasReadIf : {V : Type 0} → (Row → V → Type 0) → (V → Bool) → List Row → View → List V → Type 0
+HasReadIf {V} IsRead passes rows now found =
+    (all : List V) × HasRead IsRead rows now all × (found ≡ filter passes all)
+
+-- one more row was read
+pub read_more_if : {V : Type 0} (IsRead : Row → V → Type 0) (passes : V → Bool)
+    (rows : List Row) (old new : View) (found more : List V) (v : V) → HasReadIf IsRead passes rows old found
+    → more ≡ found ++ filter passes (v ∷ [])
+    → ReadsNext IsRead old new (Some v) → HasReadIf IsRead passes rows new more
+read_more_if IsRead passes rows old new found more v h grown next = (
+  h.0 ++ v ∷ [],
+  read_more IsRead rows old new h.0 v h.1 next,
+  grown ∙ ap (λ l. l ++ filter passes (v ∷ [])) h.2 ∙ sym (filter-append passes h.0 (v ∷ [])),
+)
+
+-- no row is left
+pub read_all_if : {V : Type 0} (IsRead : Row → V → Type 0) (passes : V → Bool)
+    (rows : List Row) (old new : View) (found : List V) → HasReadIf IsRead passes rows old found
+    → ReadsNext IsRead old new None → AreReadIf IsRead passes rows found
+read_all_if IsRead passes rows old new found h next = (
+  h.0,
+  subst (λ l. AreRead IsRead l h.0)
+      (sym (append-nil h.1.given) ∙ ap (λ l. h.1.given ++ l) (sym next.0) ∙ h.1.whole) h.1.read,
+  h.2,
+)
 
 -- the first of the rows left
 pub first_read : {V : Type 0} (IsRead : Row → V → Type 0)

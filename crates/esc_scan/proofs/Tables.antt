@@ -1,13 +1,15 @@
 -- All rows of a table, read one by one.
-use Rattle.std.proofs.Common.{◌≡◌, List, [], ◌∷◌, map, Result, IfOk, OnOk, refl, ap₂, subst, ◌∙◌}
+use Rattle.std.proofs.Common.{◌≡◌, List, [], ◌∷◌, map, filter, Bool, Result, IfOk, OnOk}
+use Rattle.std.proofs.Common.{refl, sym, ap, ap₂, subst, ◌∙◌}
 use Rattle.std.proofs.lemmas.List.{map-id}
 use Rattle.std.proofs.lemmas.Result.{IfOk-weaker}
+use Rattle.sqlite_keyed.proofs.ListLemmas.{filter-map}
 use Rattle.sqlite_trees.specs.View.{IsClean, IsQuiet}
 use Rattle.sqlite_trees.specs.declared.store.Store.{Ghosts}
 use Rattle.esc_sql.specs.Reading.{AreRead}
 use Rattle.esc_sql.specs.StoreTable.{StoreTable, RowOf, tree_of, stored_row}
 use Rattle.esc_sql.specs.Content.{Content, HoldsRows, rows_of}
-use Rattle.esc_scan.specs.Scanning.{OnlyCursors, ReadsRow, IsScan}
+use Rattle.esc_scan.specs.Scanning.{OnlyCursors, ReadsRow, AreReadIf, IsScan}
 
 reads_rows : (t : StoreTable) {V E : Type 0} (shown : V → E)
     (told : RowOf t → E) (rs : List (RowOf t)) (vs : List V)
@@ -51,3 +53,24 @@ module _ {S : Type 0} (g : Ghosts S) (t : StoreTable) {V X F : Type 0} (shown : 
             → HoldsRows (g.view old).trees c → map shown (items all) ≡ rows_of c t)
             (λ all says c shows. says c shows ∙ map-id (rows_of c t)) (scan.said clean);
       }
+
+module _ {S : Type 0} (g : Ghosts S) (t : StoreTable) {V E X F : Type 0} (shown : V → E)
+    (passes : E → Bool) (result : Result X F) (items : X → List V) (old new : S) where
+  -- what is told of each row that passes
+  pub scanned_if : (told : RowOf t → E) → IfOk result (λ found. IsClean (g.view new)
+      → AreReadIf (ReadsRow t shown told) (λ v. passes (shown v))
+      ((g.view old).trees (tree_of t)) (items found))
+      → OnOk result (IsClean (g.view new) → OnlyCursors (g.view old) (g.view new))
+      → IsQuiet g.view g.faults g.recovers g.is_shielded old new
+      → IsScan g old new (λ c found. map shown (items found) ≡ filter passes (map told (rows_of c t))) result
+  scanned_if told reads only quiet = record {
+    quiet = quiet;
+    only = λ clean. IfOk-weaker result _ _ (λ _ h. h clean) only;
+    said = λ clean. IfOk-weaker result _ (λ found. (c : Content)
+        → HoldsRows (g.view old).trees c → map shown (items found) ≡ filter passes (map told (rows_of c t)))
+        (λ found read c shows.
+        let r = read clean in
+        let all = reads_rows t shown told (rows_of c t) r.0 (subst (λ rows. AreRead
+        (ReadsRow t shown told) rows r.0) (shows.tables t) r.1) in
+        ap (map shown) r.2 ∙ sym (filter-map passes shown r.0) ∙ ap (filter passes) all) reads;
+  }

@@ -155,11 +155,6 @@ still_some : (o : Option ObjectValue)
 still_some None has = refl
 still_some (Some x) has = has
 
--- where no kind is named, all keys are wanted
-pub all_wanted : (keys : List TableKey) → keys ≡ filter (λ it. is_key_wanted None (numbered_key it)) keys
-all_wanted [] = refl
-all_wanted (k ∷ keys) = ap (λ l. k ∷ l) (all_wanted keys)
-
 module _ (db : Database) (s : State)
     (c : Content) (kind : Option Kind) (holds : HoldsContent db c) (registry : IsRegistry c s) where
   abbrev wanted : ObjectRow → Bool
@@ -186,17 +181,13 @@ module _ (db : Database) (s : State)
       (ap is_some (registry.objects n q.text ∙ record_here s.content q)
       ∙ still_some (s.content q) (registry.recorded q)) refl
 
-  module _ (found keys sorted : List TableKey)
-      (says : map numbered_key found ≡ map key_of_object c.objects)
-      (are : keys ≡ filter (λ it. is_key_wanted kind (numbered_key it)) found) where
+  module _ (keys sorted : List TableKey)
+      (says : map numbered_key keys ≡ filter (is_key_wanted kind) (map key_of_object c.objects)) where
     names : map name_of keys ≡ map row_name rows
     names =
         let name : ℤ × ℕ × List ℕ → Name = λ p. (p.1, p.2) in
         sym (map-map name numbered_key keys)
-        ∙ ap (map name) (ap (map numbered_key) are
-        ∙ sym (filter-map (is_key_wanted kind) numbered_key found)
-        ∙ ap (filter (is_key_wanted kind)) says
-        ∙ filter-map (is_key_wanted kind) key_of_object c.objects)
+        ∙ ap (map name) (says ∙ filter-map (is_key_wanted kind) key_of_object c.objects)
         ∙ map-map name key_of_object rows
 
     alone : IsAscending (λ a b. is_eq (by_name a b) ≡ false) keys

@@ -19,9 +19,9 @@ use crate::fault::StoreFault;
 use crate::reader::StoreReader;
 use esc_envelope::Kind;
 use esc_record::no_record_begins_another;
-use esc_scan::cursor::read_all;
+use esc_scan::cursor::read_chosen;
 use esc_scan::object::{OBJECT_TREE, find_object};
-use esc_scan::rows::{FromEntry, ScanError, value_at};
+use esc_scan::rows::{Choice, FromEntry, ScanError, value_at};
 use esc_sql::object::StoredObject;
 use esc_tables::{Key, Object};
 use sqlite_trees::store::{Shape, Store};
@@ -56,6 +56,23 @@ impl FromEntry for TableKey {
     }
 }
 
+/// Keys of one kind, or (`None`) all.
+#[derive(Drop)]
+struct OfKind {
+    kind: Option<Kind>,
+}
+
+impl Choice<TableKey> for OfKind {
+    ghost is_chosen = { λ it key. is_key_wanted it.kind (numbered_key key) };
+
+    fn keeps(&self, value: &TableKey) -> bool {
+        match self.kind {
+            Some(kind) => kind_number(value.key.kind) == kind_number(kind),
+            None => true,
+        }
+    }
+}
+
 impl<S: Store> StoreReader<S> {
     /// The keys of the objects of one kind or (`None`) of all, in their order. Each object is read,
     /// one at a time, and no record is kept. `S1`, `S2`.
@@ -68,8 +85,7 @@ impl<S: Store> StoreReader<S> {
             (map key_at keys.items)) }
         ensures cause { IfErr result IsFailure }
     {
-        let stored = stored_keys(alloc, &mut self.trees)?;
-        let mut keys = wanted_keys(kind, stored);
+        let mut keys = stored_keys(alloc, &mut self.trees, kind)?;
         keys.sort_unstable();
         Ok(keys)
     }
@@ -103,22 +119,16 @@ fn read_key(kind: u32, text: Vec<u8>) -> Result<Key, ScanError>
     }
 }
 
-// The keys of all objects, in the order of rowids.
-fn stored_keys<S: Store>(alloc: Global, trees: &mut S) -> Result<Vec<TableKey>, ScanError>
-    ensures read { IsScan S.Store trees.old trees.new
-        (λ c keys. map numbered_key keys.items ≡ map key_of_object c.objects) result }
+// The keys of one kind or (`None`) of all, in the order of rowids. No other key is kept.
+fn stored_keys<S: Store>(
+    alloc: Global,
+    trees: &mut S,
+    kind: Option<Kind>,
+) -> Result<Vec<TableKey>, ScanError>
+    ensures read { IsScan S.Store trees.old trees.new (λ c keys. map numbered_key keys.items
+        ≡ filter (is_key_wanted kind) (map key_of_object c.objects)) result }
 {
-    read_all(alloc, trees, OBJECT_TREE)
-}
-
-// Those of these keys that are of one kind, or all.
-fn wanted_keys(kind: Option<Kind>, mut keys: Vec<TableKey>) -> Vec<TableKey>
-    ensures { result.items ≡ filter (λ it. is_key_wanted kind (numbered_key it)) keys.items }
-{
-    if let Some(kind) = kind {
-        keys.retain(|it| kind_number(it.key.kind) == kind_number(kind));
-    }
-    keys
+    read_chosen(alloc, trees, OBJECT_TREE, &OfKind { kind })
 }
 
 // The object of this key in a row. `S1` where there is no row, or it is of another key, or it is no

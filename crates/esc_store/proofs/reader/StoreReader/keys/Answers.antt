@@ -7,11 +7,10 @@ use Rattle.esc_store.proofs.reader.StoreReader.keys.Goals as goal
 
 pub returns-clause-keys : goal.returns-clause-keys
 returns-clause-keys g c = λ honest k stands.
-    let told = told_of c.args.self.now c.in_ok-stored.ensures.read honest k stands in
+    let told = told_of c.args.self.now c.in_ok-keys.ensures.read honest k stands in
     keys_read told.database k.registry told.content c.args.kind
-    told.holds told.registry c.in_ok-stored.stored.items c.wanted_keys-keys.result.items _ told.says
-    c.wanted_keys-keys.ensures c.sort_unstable.ensures.permutation
+    told.holds told.registry c.in_ok-keys.keys.items _ told.says c.sort_unstable.ensures.permutation
     (sorted_by_key (λ (a b : TableKey). int_cmp a.rowid b.rowid) _ c.sort_unstable.ensures.sorted)
 
 pub returns-clause-same : goal.returns-clause-same
-returns-clause-same g c = read_only refl c.in_ok-stored.ensures.read
+returns-clause-same g c = read_only refl c.in_ok-keys.ensures.read
