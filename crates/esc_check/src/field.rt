@@ -1,8 +1,9 @@
 //! The fields that are verified.
 
 ghost use Rattle.std.specs.Prelude.{◌≡◌, true};
-ghost use Rattle.esc_check.specs.Fields.{field_name, field_target, parent_fields, is_target};
-ghost use Rattle.esc_check.specs.Fields.{child_field, cell, is_domain, has_created, created, expires};
+ghost use Rattle.esc_check.specs.Fields.{field_name, field_target, is_target, parent_fields};
+ghost use Rattle.esc_check.specs.Fields.{is_domain, child_field, cell, has_created, created};
+ghost use Rattle.esc_check.specs.Fields.{expires};
 
 use esc_envelope::Kind;
 use esc_tables::{Key, Object, Row};

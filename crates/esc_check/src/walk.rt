@@ -136,7 +136,8 @@ fn gather<O: Objects>(
 
 /// What `verify` returns for the tables of a registry, from their objects as they come one at a
 /// time. It allocates for the findings, for the keys to which links may lead, and for the links to
-/// objects that had not come when the links did. At `Err` the source failed, or it is out of memory.
+/// objects that had not come when the links did. At `Err` the source failed, or it is out of
+/// memory.
 pub fn verify_from<O: Objects>(
     alloc: Global,
     objects: &mut O,

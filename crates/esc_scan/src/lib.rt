@@ -11,8 +11,8 @@
 //! In: a store of trees of any kind (`S: Store`). Out: `esc_sql`'s rows as Rust values (`Receipt`,
 //! `Listed`, `ChainStep`, `StoredObject`), or a part of a row where the rest isn't asked for
 //! (`HeldIndex`, `ParkedSize`, `ObjectKind`, `ReceiptNumber`); and `read_all` and `read_chosen`,
-//! for values of the caller's own, all or those of a `Choice`. A failure is a `ScanError`: the store's, out of memory among them, or a row that is
-//! none of its table.
+//! for values of the caller's own, all or those of a `Choice`. A failure is a `ScanError`: the
+//! store's, out of memory among them, or a row that is none of its table.
 //!
 //! | Module | What it has |
 //! |---|---|

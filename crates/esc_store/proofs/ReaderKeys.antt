@@ -3,7 +3,7 @@ use Rattle.esc_store.proofs.Common.{◌≡◌, ℕ, ℤ, ◌≤◌, Bool, true, 
 use Rattle.esc_store.proofs.Common.{length, filter, map, find, Option, None, Some, refl, sym, ap, subst}
 use Rattle.esc_store.proofs.Common.{◌∙◌, arith, inl, inr, cases_Bool, same_Some, option_map, is_some}
 use Rattle.esc_store.proofs.Common.{IsSome, IfSome, IsSorted, int_eq}
-use Rattle.esc_store.proofs.Common.{Contains, IsAscending, slice_cmp, Less, option_and_then, kind_rank}
+use Rattle.esc_store.proofs.Common.{IsAscending, Less, option_and_then, kind_rank}
 use Rattle.esc_store.proofs.Common.{Kind, KeyName, key_cmp, key_eq, keys_alike, same_key, ObjectValue}
 use Rattle.esc_store.proofs.Common.{record_of, State, Database, HoldsContent, Content, ObjectRow}
 use Rattle.esc_store.proofs.Common.{ObjectEntry}
@@ -19,7 +19,6 @@ use Rattle.std.proofs.lemmas.Cmp.{nat_list_eq_equiv, on_total}
 use Rattle.std.proofs.lemmas.List.Sorted.{IsPermutation-map, list_any-IsPermutation}
 use Rattle.std.proofs.lemmas.Map.Views.{Contains-from_any, list_any-from_Contains}
 use Rattle.sqlite_keyed.specs.Keyed.{get_by}
-use Rattle.sqlite_keyed.specs.Lists.{sort_by}
 use Rattle.sqlite_keyed.proofs.ListLemmas.{map-map, filter-map, all_map, ascending-map}
 use Rattle.sqlite_keyed.proofs.ListLemmas.{ascending_from_map, ascending_weaker, ascending-filter}
 use Rattle.sqlite_keyed.proofs.SortLemmas.{sorted_is-sort_by}

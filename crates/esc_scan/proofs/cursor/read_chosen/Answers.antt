@@ -18,8 +18,8 @@ loop-preserved g c =
     record {
       same = next.same_reference ∙ c.loop.invariant.same;
       live = next.live;
-      read = λ clean. read_more_if is_read chosen (start.trees c.args.tree)
-          old new c.loop.found.items c.add_chosen.new.all.items c.in-Some.value (c.loop.invariant.read (clean_before clean))
+      read = λ clean. read_more_if is_read chosen (start.trees c.args.tree) old new
+          c.loop.found.items c.add_chosen.new.all.items c.in-Some.value (c.loop.invariant.read (clean_before clean))
           c.in_ok-add_chosen-in-Some.ensures (subst (ReadsNext is_read old new) c.in-Some.is (next.reads clean));
       only = λ clean. only_then start old new (c.loop.invariant.only (clean_before clean)) (next.only clean);
       quiet = quiet_then c.loop.invariant.quiet next.quiet;
