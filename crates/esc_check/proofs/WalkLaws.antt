@@ -29,7 +29,7 @@ use Rattle.esc_check.specs.declared.field.LinkField.{LinkField}
 use Rattle.esc_check.specs.declared.field.LinkField.TheVariants.{ClId, Registrant, IdnTableId}
 use Rattle.esc_check.specs.declared.field.LinkField.TheVariants.{ContactId, HostName}
 use Rattle.esc_check.specs.declared.walk.Gathering.{Gathering}
-use Rattle.esc_check.specs.Counted.{number_of}
+use Rattle.esc_check.specs.Counted.{came_of}
 use Rattle.esc_check.specs.Fields.{cell, field_name, field_target, is_target, parent_fields, child_field}
 use Rattle.esc_check.specs.FindingValue.{FindingValue}
 use Rattle.esc_check.specs.Findings.{IsFinding, missing_target}
@@ -110,8 +110,8 @@ pub leads_more : (w : ℤ) (shown : List ℕ) (g h : Gathering) (k : KeyName)
     (o : ObjectValue) (left whole : List Entry) → InOrder whole → Leads w shown g ((k, o) ∷ left) whole
     → h.found.items ≡ g.found.items ++ own_findings w shown k o → h.met.keys
     ≡ (if is_target k.kind then insert_key key_cmp g.met.keys k else g.met.keys)
-    → ((kind : Kind) → number_of h.came kind
-    ≡ (if is_kind k.kind kind then number_of g.came kind + 1 else number_of g.came kind))
+    → ((kind : Kind) → came_of h.came kind
+    ≡ (if is_kind k.kind kind then came_of g.came kind + 1 else came_of g.came kind))
     → h.waiting.items ≡ g.waiting.items ++ filter (λ l. not (sorted.contains key_cmp g.met l.to))
     (links_of k o) → Leads w shown h left whole
 leads_more w shown g h k o left whole ordered leads found met came waiting =
@@ -289,7 +289,7 @@ none_left n all e = omega arith
 pub gathered_all : (w : ℤ) (g : Gathering) (es : List Entry) (counts : List (Kind × ℕ))
     → Leads w (printed w) g [] es
     → (g.found.items ++ map missing_target (filter (λ l. not (sorted.contains key_cmp g.met l.to))
-    g.waiting.items)) ++ flat_map (number_findings (number_of g.came)) counts ≡ walked es w counts
+    g.waiting.items)) ++ flat_map (number_findings (came_of g.came)) counts ≡ walked es w counts
 gathered_all w g es counts leads =
     let keys : g.met.keys ≡ targets (keys_of es) = sym (append-nil _) ∙ leads.met in
     let own = sym (append-nil _) ∙ leads.found in
@@ -298,7 +298,7 @@ gathered_all w g es counts leads =
     ∙ sym (is_some-lookup (key_eq q) es) in
     let links = sym (append-nil _) ∙ leads.waiting (sorted.contains key_cmp g.met) (λ q has. has)
     ∙ of_objects (sorted.contains key_cmp g.met) (is_present es) met es in
-    let came : (kind : Kind) → number_of g.came kind ≡ count_of_kind (keys_of es) kind =
+    let came : (kind : Kind) → came_of g.came kind ≡ count_of_kind (keys_of es) kind =
     λ kind. none_left _ _ (leads.came kind) in
     λ i. (own i ++ links i) ++ flat_map (number_findings (λ kind. came kind i)) counts
 
@@ -307,7 +307,7 @@ pub walked_found : (w : ℤ) (g : Gathering) (es : List Entry)
     (counts : List (Kind × ℕ)) (found v : List FindingValue) → InOrder es → Leads w (printed w) g [] es
     → found ≡ (g.found.items
     ++ map missing_target (filter (λ l. not (sorted.contains key_cmp g.met l.to)) g.waiting.items))
-    ++ flat_map (number_findings (number_of g.came)) counts
+    ++ flat_map (number_findings (came_of g.came)) counts
     → ((f : FindingValue) → Contains v f ↔ Contains found f)
     → (f : FindingValue) → Contains v f ↔ IsFinding (content_of_entries es) w counts f
 walked_found w g es counts found v ordered leads is same f =

@@ -6,10 +6,10 @@ use Rattle.esc_envelope.specs.declared.kind.Kind.TheVariants.{Nndn}
 use Rattle.esc_check.specs.declared.came.Came.{Came}
 
 -- how many objects of a kind came
-abbrev pub number_of : Came → Kind → ℕ
-number_of c Registrar = c.registrars
-number_of c Contact = c.contacts
-number_of c Host = c.hosts
-number_of c Domain = c.domains
-number_of c Idn = c.idns
-number_of c Nndn = c.nndns
+abbrev pub came_of : Came → Kind → ℕ
+came_of c Registrar = c.registrars
+came_of c Contact = c.contacts
+came_of c Host = c.hosts
+came_of c Domain = c.domains
+came_of c Idn = c.idns
+came_of c Nndn = c.nndns

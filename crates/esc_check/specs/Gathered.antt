@@ -16,7 +16,7 @@ use Rattle.esc_tables.specs.ObjectValue.{RowValue, ObjectValue}
 use Rattle.esc_apply.specs.ObjectStreams.{Entry}
 use Rattle.esc_check.specs.declared.field.LinkField.{LinkField}
 use Rattle.esc_check.specs.declared.walk.Gathering.{Gathering}
-use Rattle.esc_check.specs.Counted.{number_of}
+use Rattle.esc_check.specs.Counted.{came_of}
 use Rattle.esc_check.specs.Export.{is_of_table}
 use Rattle.esc_check.specs.Fields.{cell, field_name, parent_fields, is_domain, is_target}
 use Rattle.esc_check.specs.Fields.{child_field, status_table, created, expires}
@@ -174,7 +174,7 @@ pub record Leads (w : ℤ) (shown : List ℕ) (g : Gathering) (left whole : List
   pub found : g.found.items ++ flat_map (λ e. own_findings w shown e.0 e.1) left
       ≡ flat_map (λ e. own_findings w shown e.0 e.1) whole
   pub met : g.met.keys ++ targets (keys_of left) ≡ targets (keys_of whole)
-  pub came : (kind : Kind) → number_of g.came kind + count_of_kind (keys_of left) kind
+  pub came : (kind : Kind) → came_of g.came kind + count_of_kind (keys_of left) kind
       ≡ count_of_kind (keys_of whole) kind
   pub waiting : (present : KeyName → Bool)
       → ((q : KeyName) → sorted.contains key_cmp g.met q ≡ true → present q ≡ true)

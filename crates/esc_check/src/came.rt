@@ -3,7 +3,7 @@
 ghost use Rattle.std.specs.Prelude.{◌≡◌, ◌+◌, OnOk, IfOk, if◌then◌else◌};
 ghost use Rattle.esc_envelope.specs.declared.kind.Kind.{Kind as kind_value};
 ghost use Rattle.esc_envelope.specs.Kinds.{is_kind};
-ghost use Rattle.esc_check.specs.Counted.{number_of};
+ghost use Rattle.esc_check.specs.Counted.{came_of};
 
 use esc_bundle::NoMemory;
 use esc_envelope::Kind;
@@ -30,7 +30,7 @@ fn one_more(count: u64) -> Result<u64, NoMemory>
 impl Came {
     /// None of any kind.
     pub fn none() -> Came
-        ensures { (kind : kind_value) → number_of result kind ≡ 0 }
+        ensures { (kind : kind_value) → came_of result kind ≡ 0 }
     {
         Came {
             registrars: 0,
@@ -44,7 +44,7 @@ impl Came {
 
     /// How many objects of a kind came.
     pub fn of(&self, kind: Kind) -> u64
-        ensures { result ≡ number_of self.now kind }
+        ensures { result ≡ came_of self.now kind }
     {
         match kind {
             Kind::Registrar => self.registrars,
@@ -58,8 +58,8 @@ impl Came {
 
     /// Counts the object with this key. Out of memory where there are as many as a `u64` can count.
     pub fn add(&mut self, key: &Key) -> Result<(), NoMemory>
-        ensures { OnOk result ((k : kind_value) → number_of self.new k
-            ≡ (if is_kind key.now.kind k then number_of self.old k + 1 else number_of self.old k)) }
+        ensures { OnOk result ((k : kind_value) → came_of self.new k
+            ≡ (if is_kind key.now.kind k then came_of self.old k + 1 else came_of self.old k)) }
     {
         match key.kind {
             Kind::Registrar => self.registrars = one_more(self.registrars)?,

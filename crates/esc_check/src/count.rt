@@ -5,7 +5,7 @@ ghost use Rattle.std.specs.Prelude.{string_bytes};
 ghost use Rattle.std.specs.List.{flat_map};
 ghost use Rattle.std.specs.Fmt.{decimal};
 ghost use Rattle.std.specs.Map.{keys_of};
-ghost use Rattle.esc_check.specs.Counted.{number_of};
+ghost use Rattle.esc_check.specs.Counted.{came_of};
 ghost use Rattle.esc_check.specs.Findings.{miscounted};
 ghost use Rattle.esc_check.specs.Gathered.{count_of_kind, count_findings, number_findings};
 
@@ -64,7 +64,7 @@ pub fn check_came(
     counts: &BTreeMap<Kind, u64>,
 ) -> Result<(), NoMemory>
     ensures { OnOk result (found.new.items ≡ found.old.items
-        ++ flat_map (number_findings (number_of came.now)) counts.now.entries) }
+        ++ flat_map (number_findings (came_of came.now)) counts.now.entries) }
 {
     for (kind, declared) in counts.iter() {
         check_count(alloc, found, *kind, *declared, came.of(*kind))?;

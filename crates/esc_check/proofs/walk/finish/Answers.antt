@@ -1,7 +1,7 @@
 use Rattle.std.proofs.Common.{List, ◌++◌, map, sym, ap, subst, ◌∙◌}
 use Rattle.std.specs.Prelude.{◌↔◌}
 use Rattle.std.specs.List.{Contains, flat_map}
-use Rattle.esc_check.specs.Counted.{number_of}
+use Rattle.esc_check.specs.Counted.{came_of}
 use Rattle.esc_check.specs.FindingValue.{FindingValue}
 use Rattle.esc_check.specs.Findings.{IsFinding, missing_target}
 use Rattle.esc_check.specs.Gathered.{number_findings}
@@ -18,7 +18,7 @@ returns-clause-each c = λ es w ordered leads.
     let missing = c.in_ok-add_all_missing.ensures ∙ ap (λ (ls : List LinkValue). g.found.items
     ++ map missing_target ls) (c.deref.ensures.value ∙ c.unmet.ensures) in
     let all = c.in_ok-check_came.ensures
-    ∙ ap (λ (l : List FindingValue). l ++ flat_map (number_findings (number_of g.came)) counts) missing in
+    ∙ ap (λ (l : List FindingValue). l ++ flat_map (number_findings (came_of g.came)) counts) missing in
     let are = walked_found w g es counts
     c.check_came.new.found.items c.settle.result.items ordered leads all c.settle.ensures.same in
     let strict = in_order es w counts c.settle.result.items ordered are c.settle.ensures.ordered in
