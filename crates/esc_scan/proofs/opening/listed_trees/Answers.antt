@@ -36,7 +36,7 @@ returns-in-Ok-clause-opened g c now =
     let was = c.in_ok-list_tables.ensures.same (c.in-Ok.ensures.honest clean) in
     let there = still_held (state_of old).page_size (image old) (image mid) was.pages was.found was.again in (
       λ db content held is. c.in-Ok.ensures.reads clean db content
-      (subst (λ n. HoldsAt n (image mid) db) (sym was.size) (there db held)) is,
+          (subst (λ n. HoldsAt n (image mid) db) (sym was.size) (there db held)) is,
       trees_before old mid _ was (c.in-Ok.ensures.found clean),
     )
 
