@@ -26,7 +26,8 @@ fn is_stranger(alloc: Global, registrars: &BTreeSet<Key>, text: &str) -> Result<
 
 // Whether a row names a registrar that is not there.
 fn names_stranger(alloc: Global, registrars: &BTreeSet<Key>, row: &Row) -> Result<bool, NoMemory>
-    ensures { IfOk result (λ b. b ≡ names_stranger (sorted.contains key_cmp registrars.now) row.now) }
+    ensures { IfOk result
+        (λ b. b ≡ names_stranger (sorted.contains key_cmp registrars.now) row.now) }
 {
     let created = is_stranger(alloc, registrars, cell(row, "crRr"))?;
     let updated = is_stranger(alloc, registrars, cell(row, "upRr"))?;
@@ -53,7 +54,8 @@ pub(crate) fn has_stranger(
     registrars: &BTreeSet<Key>,
     object: &Object,
 ) -> Result<bool, NoMemory>
-    ensures { IfOk result (λ b. b ≡ has_stranger (sorted.contains key_cmp registrars.now) object.now) }
+    ensures { IfOk result
+        (λ b. b ≡ has_stranger (sorted.contains key_cmp registrars.now) object.now) }
 {
     let is_parent = names_stranger(alloc, registrars, &object.parent)?;
     let is_child = have_stranger(alloc, registrars, &object.children)?;

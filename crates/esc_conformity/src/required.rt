@@ -3,8 +3,8 @@
 ghost use Rattle.std.specs.Prelude.{◌≡◌};
 ghost use Rattle.std.specs.List.{list_any};
 ghost use Rattle.esc_conformity.specs.Required.{lacks, is_void, lacks_field, lacks_sponsor};
-ghost use Rattle.esc_conformity.specs.Required.{has_status_of, lacks_status, has_postal, lacks_postal};
-ghost use Rattle.esc_conformity.specs.Required.{lacks_required};
+ghost use Rattle.esc_conformity.specs.Required.{has_status_of, lacks_status, has_postal};
+ghost use Rattle.esc_conformity.specs.Required.{lacks_postal, lacks_required};
 
 use crate::cell::cell;
 use esc_envelope::Kind;
