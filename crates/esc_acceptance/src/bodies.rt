@@ -22,7 +22,10 @@ pub fn is_as_listed(row: Option<&MRow>, body: Option<&[u8]>) -> bool
 }
 
 /// The deposit of a body, if the body is there and is one.
-pub fn deposit_of_body(alloc: Global, body: Option<&[u8]>) -> Result<Option<Deposit>, NoMemory>
+pub(crate) fn deposit_of_body(
+    alloc: Global,
+    body: Option<&[u8]>,
+) -> Result<Option<Deposit>, NoMemory>
     ensures { IfOk result (λ deposit. option_to_list deposit
         ≡ deposits_in (option_map (λ b. b.now) body.entry)) }
 {

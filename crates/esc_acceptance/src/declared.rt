@@ -5,6 +5,7 @@ use esc_bundle::{Fault, NoMemory};
 use esc_envelope::{Envelope, Table};
 use esc_tables::read_bundled_envelope;
 use std::alloc::Global;
+use std::mem;
 
 /// What the envelopes of a chain's deposits say.
 #[derive(Drop)]
@@ -24,22 +25,33 @@ impl Declared {
         }
     }
 
-    /// Adds what the envelope of one more body says, if it has one.
-    pub(crate) fn add(&mut self, alloc: Global, body: &[u8]) -> Result<(), NoMemory> {
+    /// Adds what the envelope of the body before these says, if it has one.
+    pub(crate) fn add_earlier(&mut self, alloc: Global, body: &[u8]) -> Result<(), NoMemory> {
         match read_bundled_envelope(alloc, body) {
-            Ok(envelope) => {
-                self.add_tables(envelope)?;
-                self.notes.append(&mut notes_of_body(alloc, body)?)?;
-                Ok(())
+            Ok(Envelope { contents, .. }) => {
+                self.add_earlier_tables(alloc, contents)?;
+                self.add_earlier_notes(notes_of_body(alloc, body)?)
             }
             Err(Fault::Refused(_)) => Ok(()),
             Err(Fault::NoMemory) => Err(NoMemory),
         }
     }
 
-    fn add_tables(&mut self, envelope: Envelope) -> Result<(), NoMemory> {
-        let Envelope { contents, .. } = envelope;
-        for table in contents {
+    fn add_earlier_notes(&mut self, mut notes: Vec<String>) -> Result<(), NoMemory> {
+        notes.append(&mut self.notes)?;
+        self.notes = notes;
+        Ok(())
+    }
+
+    // They stand before the others, as in the chain.
+    fn add_earlier_tables(&mut self, alloc: Global, tables: Vec<Table>) -> Result<(), NoMemory> {
+        let later = mem::replace(&mut self.tables, Vec::new(alloc));
+        self.add_tables(tables)?;
+        self.add_tables(later)
+    }
+
+    fn add_tables(&mut self, tables: Vec<Table>) -> Result<(), NoMemory> {
+        for table in tables {
             if !self.declares(&table) {
                 self.tables.push(table)?;
             }

@@ -12,12 +12,12 @@
 //! What is seen is found by `gaps_of`, which has the line of each listed place, by `is_latest`, which
 //! compares a chain with the latest one, by `is_as_listed`, which compares a body with its row, by
 //! [`Tlds`], by `survey_from`, which goes over all objects as they come, and by [`ChainFacts`], which
-//! takes one body of the chain after the other.
-//! (`esc_conformity` has the objects that fail a test by themselves.) Nothing here knows of a store.
+//! takes one body of the chain after the other, the last first. (`esc_conformity` has the objects that
+//! fail a test by themselves.) Nothing here knows of a store.
 //!
 //! ```text
 //! let mut facts = ChainFacts::new(alloc);
-//! facts.add(alloc, Some(&body))?;                                // each body of the chain
+//! let deposit = facts.add_earlier(alloc, Some(&body))?;          // each body, the last first
 //!
 //! let report = report_of(alloc, &seen, is_strict)?;
 //! // ok tld: example
@@ -35,8 +35,8 @@
 //! and dates, which objects have them, and what looks like one of them under another name;
 //! `survey_from` returns just the fields that some object lacks (`IsCoverageOf`).
 //!
-//! `specs/Chains.antt` says what the bodies of a chain say: at each `add` whether all of them are
-//! deposits, and how many orphans these have. `specs/Listed.antt` says when a body is as listed.
+//! `specs/Chains.antt` says what the bodies of a chain say: at each `add_earlier` whether all of them
+//! are deposits, and how many orphans these have. `specs/Listed.antt` says when a body is as listed.
 //! `gaps_of` and `is_latest` go by `esc_chain`. `specs/Tlds.antt` has the TLDs that bodies name. Which
 //! notes there are is tested.
 #![tactic(auto)]
@@ -61,7 +61,7 @@ mod tlds;
 mod words;
 
 pub use acceptance::{is_accepted, passes, status_of};
-pub use bodies::{deposit_of_body, is_as_listed};
+pub use bodies::is_as_listed;
 pub use chain::ChainFacts;
 pub use coverage::Coverage;
 pub use declared::Declared;

@@ -1,6 +1,6 @@
 -- Tables that are compared with what bodies say, the last body first.
 use Rattle.std.proofs.Common.{◌≡◌, ℕ, ◌+◌, ◌-◌, ◌<◌, ◌≤◌, ◌&&◌, List, [], ◌∷◌, ◌++◌, map, get_or, drop, length}
-use Rattle.std.proofs.Common.{Option, refl, sym, ap, subst, ◌∙◌, arith}
+use Rattle.std.proofs.Common.{true, Option, refl, sym, ap, subst, ◌∙◌, arith}
 use Rattle.std.specs.List.{list_all, flat_map}
 use Rattle.std.proofs.lemmas.List.{drop_all, drop_more}
 use Rattle.std.specs.Map.{lookup}
@@ -11,31 +11,33 @@ use Rattle.esc_apply.specs.Registry.{ObjectsByKey}
 use Rattle.esc_apply.specs.Tables.{mentioned, says}
 use Rattle.esc_acceptance.specs.Chains.{deposits_in, is_one}
 use Rattle.esc_inspection.specs.declared.comparison.Comparison.{Comparison}
-use Rattle.esc_inspection.specs.Compared.{AreTablesOf, AreTablesOfBodies, Marks}
+use Rattle.esc_inspection.specs.Compared.{AreTablesOfBodies, Marks}
 use Rattle.esc_inspection.specs.Compared.{AreComparedWith, AreComparedWithBodies}
-use Rattle.esc_inspection.proofs.ComparedDeposits.{deposit_before}
+use Rattle.esc_inspection.proofs.ComparedDeposits.{deposit_before, all_compared}
 
 -- no body yet
 pub no_bodies : (es : List Entry) (now : Comparison) → AreComparedWith [] es now → AreComparedWithBodies [] es now
-no_bodies es now are = record { read = refl; compared = are }
+no_bodies es now are = record { read = λ same. refl; compared = λ same. are }
 
--- the body before the others, which is a deposit
+-- the body before the others, which is a deposit, where nothing differed yet
 pub body_before : (es : List Entry) (b : Option (List ℕ)) (bodies : List (Option (List ℕ))) (d : DepositValue)
-    (old new : Comparison) → d ∷ [] ≡ deposits_in b → Marks es (mentioned d) (λ q. says q d) old new
+    (old new : Comparison) → old.is_same ≡ true → d ∷ [] ≡ deposits_in b
+    → Marks es (mentioned d) (λ q. says q d) old new
     → AreComparedWithBodies bodies es old → AreComparedWithBodies (b ∷ bodies) es new
-body_before es b bodies d old new is marks had = record {
-  read = ap (λ (ds : List DepositValue). is_one ds && list_all (λ x. is_one (deposits_in x)) bodies) (sym is) ∙ had.read;
-  compared = subst (λ (ds : List DepositValue). AreComparedWith (ds ++ flat_map deposits_in bodies) es new) is
-      (deposit_before es (flat_map deposits_in bodies) d old new marks had.compared);
+body_before es b bodies d old new was is marks had = record {
+  read = λ same. ap (λ (ds : List DepositValue). is_one ds && list_all (λ x. is_one (deposits_in x)) bodies) (sym is)
+      ∙ had.read was;
+  compared = λ same. subst (λ (ds : List DepositValue). AreComparedWith (ds ++ flat_map deposits_in bodies) es new) is
+      (deposit_before es (flat_map deposits_in bodies) d old new marks (had.compared was));
 }
 
 -- all bodies
 pub bodies_make : (es : List Entry) (bodies : List (Option (List ℕ))) (now : Comparison)
-    → ((c : List DepositValue) (xs : List Entry) → AreComparedWith c xs now → AreTablesOf c xs)
+    → now.is_same ≡ true → list_all (λ b. b) now.seen.items ≡ true
     → AreComparedWithBodies bodies es now → AreTablesOfBodies bodies es
-bodies_make es bodies now complete are = record {
-  read = are.read;
-  tables = complete (flat_map deposits_in bodies) es are.compared;
+bodies_make es bodies now same all are = record {
+  read = are.read same;
+  tables = all_compared (flat_map deposits_in bodies) es now same all (are.compared same);
 }
 
 -- at first the bodies of no row

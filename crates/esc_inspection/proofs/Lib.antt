@@ -1,9 +1,9 @@
+pub mod ChainRows
 pub mod Cleared
 pub mod ComparedBodies
 pub mod ComparedDeposits
 pub mod ComparedParts
 pub mod GreatestPlace
-pub mod KeptRows
 pub mod LastPlace
 pub mod Listed
 pub mod Marking

@@ -43,8 +43,10 @@ Marks es keys given old new = (marked : KeyName → Bool) (said : KeyName → Op
 abbrev pub AreComparedWith : List DepositValue → List Entry → Comparison → Type 0
 AreComparedWith c es = AreMarked es (λ q. list_any (mentions q) c) (tables c)
 
--- each of these bodies is a deposit, and the entries are compared with the deposits
+-- where nothing differs, each of these bodies is a deposit, and the entries are compared with the
+-- deposits
 pub record AreComparedWithBodies (bodies : List (Option (List ℕ))) (es : List Entry)
     (comparison : Comparison) : Type 0 where
-  pub read : list_all (λ b. is_one (deposits_in b)) bodies ≡ true
-  pub compared : AreComparedWith (flat_map deposits_in bodies) es comparison
+  pub read : comparison.is_same ≡ true → list_all (λ b. is_one (deposits_in b)) bodies ≡ true
+  pub compared : comparison.is_same ≡ true
+      → AreComparedWith (flat_map deposits_in bodies) es comparison

@@ -36,7 +36,7 @@ seen_in f = record {
   moment = f.books.moment;
   clock = f.clock;
   end = f.totals.end;
-  is_latest = f.kept.is_latest;
+  is_latest = f.kept_chain.is_latest;
   gaps = f.listing.gaps.items;
   parked = length f.parked.items;
   early = early_count f.books.receipts.items;
@@ -61,9 +61,9 @@ module _ (e : List EventValue) where
     pub lines : AreLinesFor e f.listing.held.items f.listing.gaps.items
     pub parked : AreParkedOf e f.parked.items
     pub spoiled : AreSpoiledAmong e f.listing.held.items f.bodies.spoiled.items
-    pub rows : IsChainOf e f.kept.rows.items
+    pub rows : IsChainOf e f.kept_chain.rows.items
     pub chain : AreChainFactsOf e f.chain
-    pub rebuilt : IsRebuiltFrom e f.kept.rows.items f.is_rebuilt
+    pub rebuilt : IsRebuiltFrom e f.kept_chain.rows.items f.is_rebuilt
     pub contents : AreContentsOf e (only_name (map string_bytes f.bodies.tlds.names.items))
         f.contents.lacking.items f.contents.flaws
 
@@ -71,6 +71,6 @@ module _ (e : List EventValue) where
   pub record AreFactsAfter (f : StoreFacts) : Type 0 where
     pub moment : f.books.moment ≡ last_moment e
     pub receipts : f.books.receipts.items ≡ replies_of e
-    pub latest : f.kept.is_latest ≡ true → IsLatestChainAt (union e)
-        (set.from_list f.listing.held.items) f.books.moment f.kept.rows.items
+    pub latest : f.kept_chain.is_latest ≡ true → IsLatestChainAt (union e)
+        (set.from_list f.listing.held.items) f.books.moment f.kept_chain.rows.items
     pub kept : WhereApart e (AreKeptFacts f)

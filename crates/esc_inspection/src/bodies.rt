@@ -1,13 +1,12 @@
-//! The bodies of a store: whether they are as listed, and what those of the chain say.
+//! The bodies of a store: whether they are as listed, and which TLDs they name.
 
-ghost use Rattle.std.specs.Prelude.{◌≡◌, ◌++◌, ◌∷◌, [], ℕ, List, Option, map, cond, OnOk, IfErr};
+ghost use Rattle.std.specs.Prelude.{◌≡◌, ◌++◌, ◌∷◌, [], ℕ, List, cond, OnOk, IfErr};
 ghost use Rattle.esc_events.specs.Apart.{WhereApart};
 ghost use Rattle.esc_store.specs.Faults.{IsFailure};
 ghost use Rattle.esc_desk.specs.Reading.{IsReadOf, OkForEvents};
-ghost use Rattle.esc_acceptance.specs.Chains.{AreFactsOf};
-ghost use Rattle.esc_inspection.specs.Parts.{AreSpoiledAmong, body_at};
+ghost use Rattle.esc_inspection.specs.Parts.{AreSpoiledAmong};
 
-use esc_acceptance::{ChainFacts, Tlds, is_as_listed};
+use esc_acceptance::{Tlds, is_as_listed};
 use esc_bundle::NoMemory;
 use esc_desk::{Reads, StoreFault};
 use esc_handover::Progress;
@@ -91,43 +90,5 @@ fn read_held<R: Reads>(
     let listed = reader.manifest().rows().get(row);
     let is_listed = is_as_listed(listed, body.as_deref());
     bodies.add(alloc, row, body.as_deref(), is_listed)?;
-    Ok(())
-}
-
-/// Reads what the deposits of these rows of a chain say, one body at a time.
-pub(crate) fn read_chain<R: Reads>(
-    alloc: Global,
-    reader: &mut R,
-    rows: &[usize],
-    progress: &mut Progress<'_>,
-) -> Result<ChainFacts, StoreFault>
-    ensures read { IsReadOf R.follows R.reflects reader.old reader.new result }
-    ensures facts { OkForEvents R.is_honest R.reflects reader.old reader.new result
-        (λ e facts. WhereApart e (AreFactsOf (map (body_at e) rows.now) facts)) }
-    ensures cause { IfErr result IsFailure }
-{
-    let mut facts = ChainFacts::new(alloc);
-    for (count, row) in rows.iter().enumerate() {
-        progress.tell_read("tables", count as u64, "bodies");
-        read_row(alloc, reader, *row, &mut facts)?;
-    }
-    Ok(facts)
-}
-
-// Reads the body of a row of the chain, and adds what it says.
-fn read_row<R: Reads>(
-    alloc: Global,
-    reader: &mut R,
-    row: usize,
-    facts: &mut ChainFacts,
-) -> Result<(), StoreFault>
-    ensures read { IsReadOf R.follows R.reflects reader.old reader.new result }
-    ensures facts { OkForEvents R.is_honest R.reflects reader.old reader.new result
-        (λ e done. WhereApart e ((bodies : List (Option (List ℕ))) → AreFactsOf bodies facts.old
-        → AreFactsOf (bodies ++ body_at e row ∷ []) facts.new)) }
-    ensures cause { IfErr result IsFailure }
-{
-    let body = reader.body_of(alloc, row)?;
-    facts.add(alloc, body.as_deref())?;
     Ok(())
 }

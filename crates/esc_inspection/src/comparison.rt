@@ -1,14 +1,14 @@
 //! Tables, compared key by key with what deposits say, the last deposit first.
 
-ghost use Rattle.std.specs.Prelude.{◌≡◌, ◌∷◌, [], true, false, List, length, Option, Some, None};
+ghost use Rattle.std.specs.Prelude.{◌≡◌, ◌∷◌, [], ℕ, true, List, length, Option, Some, None};
 ghost use Rattle.std.specs.Prelude.{IfOk, OnOk, option_map, slice_get};
 ghost use Rattle.std.specs.List.{list_all};
 ghost use Rattle.std.specs.Map.{lookup};
 ghost use Rattle.esc_tables.specs.KeyName.{KeyName, key_eq};
-ghost use Rattle.esc_tables.specs.DepositValue.{DepositValue};
 ghost use Rattle.esc_apply.specs.ObjectStreams.{Entry, InOrder};
 ghost use Rattle.esc_desk.specs.Lookups.{IsFoundAmong};
-ghost use Rattle.esc_inspection.specs.Compared.{AreTablesOf, AreComparedWith, Marks};
+ghost use Rattle.esc_inspection.specs.Compared.{AreTablesOfBodies, AreComparedWith};
+ghost use Rattle.esc_inspection.specs.Compared.{AreComparedWithBodies, Marks};
 
 use esc_acceptance::is_same_object;
 use esc_bundle::NoMemory;
@@ -92,11 +92,11 @@ impl Comparison {
         Ok(())
     }
 
-    /// Whether the tables are those of the deposits: nothing differs, and each object was
+    /// Whether the tables are those that the bodies make: nothing differs, and each object was
     /// mentioned.
     pub fn is_complete(&self) -> bool
-        ensures { result ≡ true → (c : List DepositValue) (es : List Entry)
-            → AreComparedWith c es self.now → AreTablesOf c es }
+        ensures { result ≡ true → (bodies : List (Option (List ℕ))) (es : List Entry)
+            → AreComparedWithBodies bodies es self.now → AreTablesOfBodies bodies es }
     {
         self.is_same && are_all(&self.seen)
     }

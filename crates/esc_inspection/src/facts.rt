@@ -6,7 +6,7 @@ ghost use Rattle.esc_inspection.specs.Inspected.{seen_in, early_count};
 use crate::bodies::Bodies;
 use crate::books::Books;
 use crate::ending::Ending;
-use crate::kept::Kept;
+use crate::kept_chain::KeptChain;
 use crate::listing::Listing;
 use crate::surveying::Contents;
 use crate::totals::Totals;
@@ -25,7 +25,7 @@ pub struct StoreFacts {
     pub listing: Listing,
     /// The bodies that no row lists.
     pub parked: Vec<ParkedBody>,
-    pub kept: Kept,
+    pub kept_chain: KeptChain,
     pub bodies: Bodies,
     /// What the deposits of the chain say.
     pub chain: ChainFacts,
@@ -46,7 +46,7 @@ impl StoreFacts {
             moment: self.books.moment,
             clock: self.clock,
             end: self.totals.end,
-            is_latest: self.kept.is_latest,
+            is_latest: self.kept_chain.is_latest,
             gaps: &self.listing.gaps,
             parked: self.parked.len(),
             early: early_in(&self.books.receipts),

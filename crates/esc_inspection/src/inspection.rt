@@ -8,14 +8,14 @@ ghost use Rattle.esc_acceptance.specs.Lines.{IsTextOf};
 ghost use Rattle.esc_inspection.specs.Answers.{IsAnswerAfter, Shows};
 ghost use Rattle.esc_inspection.specs.Inspected.{AreFactsAfter, seen_in};
 
-use crate::bodies::{read_bodies, read_chain};
+use crate::bodies::read_bodies;
 use crate::books::read_books;
+use crate::chain_bodies::read_chain;
 use crate::ending::read_ending;
 use crate::facts::StoreFacts;
 use crate::form::Form;
-use crate::kept::read_kept;
+use crate::kept_chain::read_kept_chain;
 use crate::listing::read_listing;
-use crate::rebuilt::is_rebuilt;
 use crate::surveying::read_contents;
 use crate::totals::read_totals;
 use esc_acceptance::{Report, Seen, report_of};
@@ -41,13 +41,13 @@ pub fn inspect<R: Lookup>(
 {
     let books = read_books(alloc, reader)?;
     let totals = read_totals(alloc, reader)?;
-    let ending = read_ending(alloc, reader, progress)?;
     let listing = read_listing(alloc, reader, books.moment)?;
     let parked = reader.parked(alloc)?;
-    let kept = read_kept(alloc, reader, &listing.held, books.moment)?;
+    let kept_chain = read_kept_chain(alloc, reader, &listing.held, books.moment)?;
     let bodies = read_bodies(alloc, reader, &listing.held, progress)?;
-    let chain = read_chain(alloc, reader, &kept.rows, progress)?;
-    let is_rebuilt = is_rebuilt(alloc, reader, &kept.rows, progress)?;
+    let chain = read_chain(alloc, reader, &kept_chain.rows, progress)?;
+    // The findings come after the chain, whose index is gone by then.
+    let ending = read_ending(alloc, reader, progress)?;
     let contents = read_contents(alloc, reader, bodies.tlds.only(), progress)?;
     Ok(StoreFacts {
         clock,
@@ -56,10 +56,10 @@ pub fn inspect<R: Lookup>(
         ending,
         listing,
         parked,
-        kept,
+        kept_chain,
         bodies,
-        chain,
-        is_rebuilt,
+        chain: chain.facts,
+        is_rebuilt: chain.is_rebuilt,
         contents,
     })
 }

@@ -17,7 +17,9 @@
 //! answer.status                                       // 0 exactly where the registry is accepted
 //! ```
 //!
-//! In memory are the keys of the tables, and one body at a time, with its deposit.
+//! The bodies of the chain are read last first, and each is parsed once: what it says is compared with
+//! the tables where no later body says it already. In memory are the keys of the tables, and one body
+//! at a time, with its deposit.
 //!
 //! # What the contracts mean
 //!
@@ -41,12 +43,13 @@
 
 mod bodies;
 mod books;
+mod chain_bodies;
 mod comparison;
 mod ending;
 mod facts;
 mod form;
 mod inspection;
-mod kept;
+mod kept_chain;
 mod laws;
 mod listing;
 mod rebuilt;
@@ -59,7 +62,7 @@ pub use ending::Ending;
 pub use facts::StoreFacts;
 pub use form::Form;
 pub use inspection::{acceptance, answer_of, inspect};
-pub use kept::Kept;
+pub use kept_chain::KeptChain;
 pub use laws::status_zero_is_all_clear;
 pub use listing::Listing;
 pub use surveying::Contents;

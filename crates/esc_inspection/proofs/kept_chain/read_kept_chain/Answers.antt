@@ -1,5 +1,5 @@
-use Rattle.esc_inspection.proofs.KeptRows.{chain_rows}
-use Rattle.esc_inspection.proofs.kept.read_kept.Goals as goal
+use Rattle.esc_inspection.proofs.ChainRows.{chain_rows}
+use Rattle.esc_inspection.proofs.kept_chain.read_kept_chain.Goals as goal
 
 pub returns-in-Some-clause-rows : goal.returns-in-Some-clause-rows
 returns-in-Some-clause-rows g c = λ honest e h apart.

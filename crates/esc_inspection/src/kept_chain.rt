@@ -18,7 +18,7 @@ use std::alloc::Global;
 
 /// The chain that is kept.
 #[derive(Drop)]
-pub struct Kept {
+pub struct KeptChain {
     /// Its rows, from the first to the last, as indices from 0.
     pub rows: Vec<usize>,
     /// Whether it is the latest chain of the held rows.
@@ -39,12 +39,12 @@ fn rows_of(alloc: Global, steps: &[Step]) -> Result<Vec<usize>, NoMemory>
 /// Reads the chain that is kept, and compares it with the latest one of these held rows, up to a
 /// moment. It is compared as it was read, whether the disk is honest or not.
 #[tactic(auto, using(crate::proofs::Reading::reads_stay))]
-pub(crate) fn read_kept<R: Reads>(
+pub(crate) fn read_kept_chain<R: Reads>(
     alloc: Global,
     reader: &mut R,
     held: &[usize],
     moment: Option<i64>,
-) -> Result<Kept, StoreFault>
+) -> Result<KeptChain, StoreFault>
     ensures read { IsReadOf R.follows R.reflects reader.old reader.new result }
     ensures rows { OkForEvents R.is_honest R.reflects reader.old reader.new result
         (λ e kept. WhereApart e (IsChainOf e kept.rows.items)) }
@@ -57,7 +57,7 @@ pub(crate) fn read_kept<R: Reads>(
     let rows = rows_of(alloc, &steps)?;
     let found = is_latest(alloc, reader.manifest(), held, moment, &rows)?;
     match found {
-        Some(is_latest) => Ok(Kept { rows, is_latest }),
+        Some(is_latest) => Ok(KeptChain { rows, is_latest }),
         None => Err(StoreFault::Failed(Cause::Contradiction)),
     }
 }
