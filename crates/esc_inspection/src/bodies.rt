@@ -9,7 +9,7 @@ ghost use Rattle.esc_inspection.specs.Parts.{AreSpoiledAmong};
 use esc_acceptance::{Tlds, is_as_listed};
 use esc_bundle::NoMemory;
 use esc_desk::{Reads, StoreFault};
-use esc_handover::Progress;
+use esc_progress::Progress;
 use std::alloc::Global;
 
 /// What the held bodies say.
@@ -66,8 +66,9 @@ pub(crate) fn read_bodies<R: Reads>(
     ensures cause { IfErr result IsFailure }
 {
     let mut bodies = Bodies::new(alloc);
+    progress.begin("bodies", "bodies", Some(held.len() as u64));
     for (count, row) in held.iter().enumerate() {
-        progress.tell_read("bodies", count as u64, "bodies");
+        progress.tell_read(count as u64);
         read_held(alloc, reader, *row, &mut bodies)?;
     }
     Ok(bodies)

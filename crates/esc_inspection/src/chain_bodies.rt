@@ -16,7 +16,7 @@ use crate::rebuilt::compare_deposit;
 use esc_acceptance::ChainFacts;
 use esc_apply::tables_are_listed;
 use esc_desk::{KeyIndex, Lookup, Reads, StoreFault};
-use esc_handover::Progress;
+use esc_progress::Progress;
 use std::alloc::Global;
 
 /// What the bodies of a chain say, and whether the tables are those that they make.
@@ -76,8 +76,9 @@ fn read_rows<R: Lookup>(
     let facts = ChainFacts::new(alloc);
     let comparison = Comparison::new(alloc, index.count())?;
     let mut bodies = LastBodies { facts, comparison };
+    progress.begin("tables", "bodies", Some(rows.len() as u64));
     for count in 0..rows.len() {
-        progress.tell_read("tables", count as u64, "bodies");
+        progress.tell_read(count as u64);
         let row = rows[rows.len() - 1 - count];
         read_row(alloc, reader, index, row, &mut bodies)?;
     }

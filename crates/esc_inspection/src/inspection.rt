@@ -22,7 +22,8 @@ use esc_acceptance::{Report, Seen, report_of};
 use esc_bundle::NoMemory;
 use esc_cli::DONE;
 use esc_desk::{Lookup, Reads, StoreFault};
-use esc_handover::{Answer, Progress, page_of};
+use esc_handover::{Answer, page_of};
+use esc_progress::Progress;
 use std::alloc::Global;
 
 /// Inspects a store that a reader reads, at a time that a clock says, if one does. It tells how far

@@ -15,7 +15,8 @@ use esc_acceptance::{Coverage, Guide, Surveyed};
 use esc_apply::tables_are_listed;
 use esc_conformity::{Flaws, Registry};
 use esc_desk::{Cause, Reads, StoreFault, Walk, tables_are_of_events};
-use esc_handover::{Progress, read_flaws, read_survey};
+use esc_handover::{read_flaws, read_survey};
+use esc_progress::Progress;
 use esc_reports::walk_fault;
 use std::alloc::Global;
 
@@ -70,6 +71,7 @@ fn surveyed<R: Reads>(
 {
     let place = reader.start_walk(alloc, None)?;
     let mut walk = Walk::new(reader, place);
+    progress.begin("fields", "objects", walk.left());
     match read_survey(alloc, &mut walk, progress) {
         Ok(surveyed) if !walk.has_failed() => Ok(surveyed),
         Ok(_) => Err(StoreFault::Failed(Cause::WalkEnded)),
@@ -93,6 +95,7 @@ fn flaws_by<R: Reads>(
 {
     let place = reader.start_walk(alloc, None)?;
     let mut walk = Walk::new(reader, place);
+    progress.begin("rules", "objects", walk.left());
     match read_flaws(alloc, &mut walk, registry, progress) {
         Ok(flaws) if !walk.has_failed() => Ok(flaws),
         Ok(_) => Err(StoreFault::Failed(Cause::WalkEnded)),
