@@ -24,7 +24,8 @@ pub body_before : (es : List Entry) (b : Option (List ℕ)) (bodies : List (Opti
     (old new : Comparison) → d ∷ [] ≡ deposits_in b → Marks es (mentioned d) (λ q. says q d) old new
     → AreComparedWithBodies bodies es old → AreComparedWithBodies (b ∷ bodies) es new
 body_before es b bodies d old new is marks had = record {
-  read = ap (λ (ds : List DepositValue). is_one ds && list_all (λ x. is_one (deposits_in x)) bodies) (sym is) ∙ had.read;
+  read = ap (λ (ds : List DepositValue). is_one ds && list_all (λ x. is_one (deposits_in x)) bodies) (sym is)
+      ∙ had.read;
   compared = subst (λ (ds : List DepositValue). AreComparedWith (ds ++ flat_map deposits_in bodies) es new) is
       (deposit_before es (flat_map deposits_in bodies) d old new marks had.compared);
 }

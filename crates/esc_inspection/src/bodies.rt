@@ -1,11 +1,13 @@
 //! The bodies of a store: whether they are as listed, and what those of the chain say.
 
-ghost use Rattle.std.specs.Prelude.{◌≡◌, ◌++◌, ◌∷◌, [], ℕ, List, Option, map, cond, OnOk, IfErr};
+ghost use Rattle.std.specs.Prelude.{◌≡◌, ◌++◌, ◌∷◌, [], ℕ, List, map, cond, string_bytes};
+ghost use Rattle.std.specs.Prelude.{Option, option_map, OnOk, IfErr};
 ghost use Rattle.esc_events.specs.Apart.{WhereApart};
 ghost use Rattle.esc_store.specs.Faults.{IsFailure};
 ghost use Rattle.esc_desk.specs.Reading.{IsReadOf, OkForEvents};
 ghost use Rattle.esc_acceptance.specs.Chains.{AreFactsOf};
-ghost use Rattle.esc_inspection.specs.Parts.{AreSpoiledAmong, body_at};
+ghost use Rattle.esc_acceptance.specs.Tlds.{with_tld_of};
+ghost use Rattle.esc_inspection.specs.Parts.{AreSpoiledAmong, AreTldsOf, body_at};
 
 use esc_acceptance::{ChainFacts, Tlds, is_as_listed};
 use esc_bundle::NoMemory;
@@ -24,7 +26,8 @@ pub struct Bodies {
 
 impl Bodies {
     fn new(alloc: Global) -> Bodies
-        ensures { result.spoiled.items ≡ [] }
+        ensures spoiled { result.spoiled.items ≡ [] }
+        ensures tlds { result.tlds.names.items ≡ [] }
     {
         Bodies {
             spoiled: Vec::new(alloc),
@@ -41,8 +44,11 @@ impl Bodies {
         body: Option<&[u8]>,
         is_listed: bool,
     ) -> Result<(), NoMemory>
-        ensures { OnOk result (self.new.spoiled.items
+        ensures spoiled { OnOk result (self.new.spoiled.items
             ≡ cond is_listed self.old.spoiled.items (self.old.spoiled.items ++ row ∷ [])) }
+        ensures tlds { OnOk result (map string_bytes self.new.tlds.names.items
+            ≡ with_tld_of (option_map (λ b. b.now) body.entry)
+            (map string_bytes self.old.tlds.names.items)) }
     {
         if let Some(body) = body {
             self.tlds.add(alloc, body)?;
@@ -64,6 +70,8 @@ pub(crate) fn read_bodies<R: Reads>(
     ensures read { IsReadOf R.follows R.reflects reader.old reader.new result }
     ensures spoiled { OkForEvents R.is_honest R.reflects reader.old reader.new result
         (λ e bodies. WhereApart e (AreSpoiledAmong e held.now bodies.spoiled.items)) }
+    ensures tlds { OkForEvents R.is_honest R.reflects reader.old reader.new result
+        (λ e bodies. WhereApart e (AreTldsOf e held.now bodies.tlds)) }
     ensures cause { IfErr result IsFailure }
 {
     let mut bodies = Bodies::new(alloc);
@@ -85,6 +93,9 @@ fn read_held<R: Reads>(
     ensures spoiled { OkForEvents R.is_honest R.reflects reader.old reader.new result
         (λ e done. WhereApart e ((rows : List ℕ) → AreSpoiledAmong e rows bodies.old.spoiled.items
         → AreSpoiledAmong e (rows ++ row ∷ []) bodies.new.spoiled.items)) }
+    ensures tlds { OkForEvents R.is_honest R.reflects reader.old reader.new result
+        (λ e done. WhereApart e ((rows : List ℕ) → AreTldsOf e rows bodies.old.tlds
+        → AreTldsOf e (rows ++ row ∷ []) bodies.new.tlds)) }
     ensures cause { IfErr result IsFailure }
 {
     let body = reader.body_of(alloc, row)?;
