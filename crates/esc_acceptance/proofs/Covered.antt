@@ -1,10 +1,10 @@
 -- The fields that one object more has, and lacks.
-use Rattle.std.proofs.Common.{◌≡◌, Bool, true, false, cond, not, ◌&&◌, List, [], ◌∷◌, ◌++◌, filter, inl, inr}
-use Rattle.std.proofs.Common.{refl, sym, ap, subst, ◌∙◌, lit<}
+use Rattle.std.proofs.Common.{◌≡◌, Bool, true, false, cond, ◌&&◌, List, [], ◌∷◌, ◌++◌, filter, inl, inr}
+use Rattle.std.proofs.Common.{refl, sym, ap, subst, ◌∙◌, lit<, Decides}
 use Rattle.std.specs.List.{Contains, list_all}
-use Rattle.std.proofs.lemmas.List.Elements.{Contains-append_cases, Contains-append_left, Contains-append_right}
 use Rattle.std.proofs.lemmas.List.Elements.{All-contains, filter_passes}
 use Rattle.std.proofs.lemmas.List.Folds.{list_all-append}
+use denote.Enum.Bare.{sameb, same_true, true_same}
 use Rattle.esc_apply.specs.ObjectStreams.{Entry}
 use Rattle.esc_bundle.specs.ElementLaws.{nothing_in, first_in, later, first_or_later}
 use Rattle.esc_acceptance.specs.declared.coverage.Coverage.{Coverage}
@@ -17,6 +17,7 @@ use Rattle.esc_acceptance.specs.declared.guide.Guide.TheVariants.{DomainRegistra
 use Rattle.esc_acceptance.specs.declared.guide.Guide.TheVariants.{DomainCreation, DomainExpiry}
 use Rattle.esc_acceptance.specs.declared.guide.Guide.TheVariants.{DomainContact, DomainHost}
 use Rattle.esc_acceptance.specs.declared.guide.Guide.TheVariants.{DomainStatus, NndnTable}
+use Rattle.esc_acceptance.specs.contracts.guide.Guide.{the_type}
 use Rattle.esc_acceptance.specs.Guides.{guides, has_guide, IsCoverageOf}
 
 -- each guide is one of all
@@ -89,36 +90,18 @@ had_by_more g es e = list_all-append (has_guide g) es (e ∷ [])
 
 -- one object more was taken in
 pub covered_more : (es : List Entry) (e : Entry) (old new : Coverage) → IsCoverageOf es old
-    → new.lacking.items ≡ old.lacking.items ++ filter (λ g. not (has_guide g e)) old.common.items
     → new.common.items ≡ filter (λ g. has_guide g e) old.common.items
     → IsCoverageOf (es ++ e ∷ []) new
-covered_more es e old new had lacking common = record {
+covered_more es e old new had common = record {
   common = common ∙ ap (filter (λ g. has_guide g e)) had.common
       ∙ chosen_by_both (λ g. list_all (has_guide g) es) (λ g. has_guide g e)
       (λ g. list_all (has_guide g) (es ++ e ∷ [])) (λ g. had_by_more g es e) guides;
-  lacking = λ g. (
-    λ there. had_by_more g es e ∙ elim (Contains-append_cases old.lacking.items
-        (filter (λ g. not (has_guide g e)) old.common.items) g
-        (subst (λ l. Contains l g) lacking there)) [
-          | inl before ↦ ap (λ b. b && has_guide g e) ((had.lacking g).0 before)
-          | inr now ↦ lacked (list_all (has_guide g) es) (has_guide g e)
-              (passes_it (λ g. not (has_guide g e)) old.common.items g now)
-        ],
-    λ lacks. subst (λ l. Contains l g) (sym lacking)
-        (by g (list_all (has_guide g) es) refl (sym (had_by_more g es e) ∙ lacks)),
-  );
 }
-  where
-    lacked : (a b : Bool) → not b ≡ true → (a && b) ≡ false
-    lacked true true h = sym h
-    lacked true false h = refl
-    lacked false b h = refl
 
-    by : (g : Guide) (b : Bool) → list_all (has_guide g) es ≡ b → (list_all (has_guide g) es && has_guide g e) ≡ false
-        → Contains (old.lacking.items ++ filter (λ g. not (has_guide g e)) old.common.items) g
-    by g false before lacks = Contains-append_left _ _ g ((had.lacking g).1 before)
-    by g true before lacks = Contains-append_right old.lacking.items _ g
-        (is_chosen (λ g. not (has_guide g e)) old.common.items g
-        (subst (λ l. Contains l g) (sym had.common)
-        (is_chosen (λ g. list_all (has_guide g) es) guides g (every_guide g) before))
-        (ap not (sym (ap (λ b. b && has_guide g e) before) ∙ lacks)))
+-- two guides are compared by which they are
+pub guides_decide : (a b : Guide) → Decides (sameb the_type a b) (a ≡ b)
+guides_decide a b = (same_true the_type tt a b, true_same the_type a b)
+
+-- a guide is among those that are chosen of all exactly where it passes the test
+pub chosen_decides : (p : Guide → Bool) (g : Guide) → Decides (p g) (Contains (filter p guides) g)
+chosen_decides p g = (is_chosen p guides g (every_guide g), passes_it p guides g)

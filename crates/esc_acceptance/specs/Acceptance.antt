@@ -12,6 +12,7 @@ use Rattle.esc_envelope.specs.Place.{rank}
 use Rattle.esc_chain.specs.declared.gap.GapLine.{GapLine}
 use Rattle.esc_chain.specs.declared.gap.State.{State}
 use Rattle.esc_chain.specs.declared.gap.State.TheVariants as state
+use Rattle.esc_check.specs.FindingValue.{FindingValue}
 use Rattle.esc_conformity.specs.declared.rule.Rule.{Rule}
 use Rattle.esc_conformity.specs.declared.rule.Rule.TheVariants.{Registrars, Nndns, Roids}
 use Rattle.esc_conformity.specs.declared.rule.Rule.TheVariants.{Required, Outside, Digests}
@@ -26,11 +27,11 @@ use Rattle.esc_acceptance.specs.Guides.{guides, is_wanted, is_guide_declared, is
 
 -- what was seen of a store: how many TLDs the held deposits name; the moment that is set, what time
 -- it is, the chain's end, whether the chain is the latest one, the line of each listed place; how
--- many bodies are parked, how many arrivals are early ones without a body, how many findings there
--- are, and which objects break each rule; the objects and the declared numbers by kind, the tables
--- that the chain's deposits declare, which guides some object lacks, how many orphans the deposits
--- have, how many held bodies aren't what their rows list, whether those of the chain are deposits,
--- and whether the tables are what they make; and the notes in them
+-- many bodies are parked, how many arrivals are early ones without a body, the findings, and which
+-- objects break each rule; the objects and the declared numbers by kind, the tables that the chain's
+-- deposits declare, which guides some object lacks, how many orphans the deposits have, how many
+-- held bodies aren't what their rows list, whether those of the chain are deposits, and whether the
+-- tables are what they make; and the notes in them
 pub record SeenValue : Type 0 where
   pub tlds : ℕ
   pub moment : Option ℤ
@@ -40,7 +41,7 @@ pub record SeenValue : Type 0 where
   pub gaps : List GapLine
   pub parked : ℕ
   pub early : ℕ
-  pub findings : ℕ
+  pub findings : List FindingValue
   pub flaws : Flaws
   pub objects : List (Kind × ℕ)
   pub counts : List (Kind × ℕ)
@@ -113,7 +114,7 @@ passes test.Gaps s = list_all (λ g. not (is_passed s.end g)) s.gaps
 passes test.Moment s = not (is_some s.moment)
 passes test.Parked s = s.parked == 0
 passes test.Early s = s.early == 0
-passes test.Findings s = s.findings == 0
+passes test.Findings s = length s.findings == 0
 passes (test.Conforms rule) s = length (keys_by s.flaws rule) == 0
 passes test.Orphans s = s.orphans == 0
 passes test.Counts s = list_all (is_counted s.counts) kinds

@@ -1,9 +1,9 @@
 -- The fields by which links, statuses and dates go, and how a declared table has them (RFC 9022,
 -- RFC 5731 to 5733, and this project's profile).
-use Rattle.std.specs.Prelude.{◌≡◌, ◌↔◌, ℕ, List, [], ◌∷◌, map, filter, take, drop, length, Bool, true, false}
-use Rattle.std.specs.Prelude.{not, ◌&&◌, ◌||◌, ◌==◌, nat_lt, codes, if◌then◌else◌}
-use Rattle.std.specs.Prelude.{is_some}
-use Rattle.std.specs.List.{Contains, list_any, list_all}
+use Rattle.std.specs.Prelude.{◌≡◌, ℕ, List, [], ◌∷◌, map, filter, take, drop, length}
+use Rattle.std.specs.Prelude.{Bool, true, false, not, ◌&&◌, ◌||◌, ◌==◌, nat_lt, codes}
+use Rattle.std.specs.Prelude.{if◌then◌else◌, is_some}
+use Rattle.std.specs.List.{list_any, list_all}
 use Rattle.std.specs.Map.{lookup}
 use Rattle.std.specs.Str.{bytes_eq}
 use Rattle.std.specs.Char.{to_ascii_lowercase}
@@ -139,14 +139,13 @@ has_guide g e = not (is_kind e.0.kind (guide_kind g))
     else list_all (λ r. not (bytes_eq r.table (child_name g)) || has_cell (guide_field_name g) r)
     e.1.children)
 
--- these are the guides that some of these objects lacks
-abbrev pub AreLackingIn : List Entry → List Guide → Type 0
-AreLackingIn es gs = (g : Guide) → Contains gs g ↔ (list_all (has_guide g) es ≡ false)
+-- the guides that some of these objects lacks
+abbrev pub lacking_guides : List Entry → List Guide
+lacking_guides es = filter (λ g. not (list_all (has_guide g) es)) guides
 
--- it is kept which guides each of these objects has, and which some of them lacks
+-- it is kept which guides each of these objects has
 pub record IsCoverageOf (es : List Entry) (c : Coverage) : Type 0 where
   pub common : c.common.items ≡ filter (λ g. list_all (has_guide g) es) guides
-  pub lacking : AreLackingIn es c.lacking.items
 
 -- whether there are objects of a kind
 abbrev pub has_objects : List (Kind × ℕ) → Kind → Bool

@@ -14,11 +14,14 @@ abbrev pub with_tld : Option (List ℕ) → List (List ℕ) → List (List ℕ)
 with_tld None names = names
 with_tld (Some tld) names = if is_name_among tld names then names else names ++ tld ∷ []
 
+-- these names, and the one that a body names, if it is there and does
+abbrev pub with_tld_of : Option (List ℕ) → List (List ℕ) → List (List ℕ)
+with_tld_of body names = with_tld (option_and_then body_tld body) names
+
 -- these names, and those that bodies name which are there: each once, in the order of the bodies
 abbrev pub with_tlds : List (Option (List ℕ)) → List (List ℕ) → List (List ℕ)
 with_tlds [] names = names
-with_tlds (body ∷ bodies) names
-    = with_tlds bodies (with_tld (option_and_then body_tld body) names)
+with_tlds (body ∷ bodies) names = with_tlds bodies (with_tld_of body names)
 
 -- the name among these, where there is one alone
 abbrev pub only_name : List (List ℕ) → Option (List ℕ)

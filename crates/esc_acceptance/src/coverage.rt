@@ -1,8 +1,9 @@
 //! Which fields the objects of a registry have.
 
-ghost use Rattle.std.specs.Prelude.{◌≡◌, [], ◌∷◌, ◌++◌, List, not, filter, IfOk, OnOk};
+ghost use Rattle.std.specs.Prelude.{◌≡◌, [], ◌∷◌, ◌++◌, List, IfOk};
+ghost use Rattle.std.specs.List.{list_all};
 ghost use Rattle.esc_apply.specs.ObjectStreams.{Entry};
-ghost use Rattle.esc_acceptance.specs.Guides.{has_guide, guides, IsCoverageOf};
+ghost use Rattle.esc_acceptance.specs.Guides.{has_guide, lacking_guides, IsCoverageOf};
 
 use crate::guide::Guide;
 use crate::guides::{all_guides, has_guide};
@@ -15,34 +16,6 @@ use std::alloc::Global;
 pub struct Coverage {
     /// Those that each object has that is of the kind for it.
     pub common: Vec<Guide>,
-    /// Those that one lacks.
-    pub lacking: Vec<Guide>,
-}
-
-// Adds those of some fields that an object lacks.
-fn add_lacking(
-    lacking: &mut Vec<Guide>,
-    guides: &[Guide],
-    key: &Key,
-    object: &Object,
-) -> Result<(), NoMemory>
-    ensures { OnOk result (lacking.new.items ≡ lacking.old.items
-        ++ filter (λ g. not (has_guide g (key.now, object.now))) guides.now) }
-{
-    for guide in guides {
-        if has_guide(*guide, key, object) {
-            continue;
-        }
-        lacking.push(*guide)?;
-    }
-    Ok(())
-}
-
-// Keeps those that an object has.
-fn keep_common(common: &mut Vec<Guide>, key: &Key, object: &Object)
-    ensures { common.new.items ≡ filter (λ g. has_guide g (key.now, object.now)) common.old.items }
-{
-    common.retain(|guide| has_guide(*guide, key, object));
 }
 
 impl Coverage {
@@ -52,17 +25,37 @@ impl Coverage {
     {
         Ok(Coverage {
             common: Vec::from_slice(alloc, &all_guides())?,
-            lacking: Vec::new(alloc),
         })
     }
 
-    /// Takes in one more object. `NoMemory` out of memory.
-    pub fn add(&mut self, key: &Key, object: &Object) -> Result<(), NoMemory>
-        ensures { OnOk result ((es : List Entry) → IsCoverageOf es self.old
-            → IsCoverageOf (es ++ (key.now, object.now) ∷ []) self.new) }
+    /// Takes in one more object.
+    pub fn add(&mut self, key: &Key, object: &Object)
+        ensures { (es : List Entry) → IsCoverageOf es self.old
+            → IsCoverageOf (es ++ (key.now, object.now) ∷ []) self.new }
     {
-        add_lacking(&mut self.lacking, &self.common, key, object)?;
-        keep_common(&mut self.common, key, object);
-        Ok(())
+        self.common.retain(|guide| has_guide(*guide, key, object));
+    }
+
+    /// The fields that some object lacks, of the kind that has them.
+    pub fn lacking(&self, alloc: Global) -> Result<Vec<Guide>, NoMemory>
+        ensures { IfOk result (λ lacking. (es : List Entry) → IsCoverageOf es self.now
+            → lacking.items ≡ lacking_guides es) }
+    {
+        let mut lacking = Vec::new(alloc);
+        for guide in all_guides() {
+            if self.is_common(guide) {
+                continue;
+            }
+            lacking.push(guide)?;
+        }
+        Ok(lacking)
+    }
+
+    // Whether each object has a field, if it is of the kind for it.
+    fn is_common(&self, guide: Guide) -> bool
+        ensures { (es : List Entry) → IsCoverageOf es self.now
+            → result ≡ list_all (has_guide guide) es }
+    {
+        self.common.contains(&guide)
     }
 }

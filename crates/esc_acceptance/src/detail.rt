@@ -2,7 +2,7 @@
 
 use crate::acceptance::{has_disguise, is_by, is_counted, is_outdated, is_passed, is_past};
 use crate::guide::Guide;
-use crate::guides::{is_among_guides, is_declared, is_wanted};
+use crate::guides::{is_declared, is_wanted};
 use crate::seen::Seen;
 use crate::test::Test;
 use crate::words::{moment_words, one_line, place_words};
@@ -268,7 +268,7 @@ fn push_guide(text: &mut String, guide: Guide) -> Result<(), NoMemory> {
 
 // Whether a field is in a declared table, and in each object that has to have it.
 fn is_there(seen: &Seen<'_>, guide: Guide) -> bool {
-    is_declared(seen.tables, guide) && !is_among_guides(seen.lacking, guide)
+    is_declared(seen.tables, guide) && !seen.lacking.contains(&guide)
 }
 
 fn fields_detail(alloc: Global, seen: &Seen<'_>) -> Result<String, NoMemory> {

@@ -8,8 +8,8 @@ ghost use Rattle.esc_acceptance.specs.Guides.{guides, is_of_parents, is_its_tabl
 ghost use Rattle.esc_acceptance.specs.Guides.{is_guide_declared, has_objects, is_wanted};
 ghost use Rattle.esc_acceptance.specs.Guides.{has_cell, has_guide};
 ghost use Rattle.esc_acceptance.specs.Guides.{is_name_sign, folds_to, looks_like, is_disguised};
-ghost use Rattle.esc_acceptance.specs.Guides.{is_disguised_table, has_disguised_field, has_disguise};
-ghost use Rattle.esc_acceptance.specs.Guides.{stands_for_its_table, is_disguise};
+ghost use Rattle.esc_acceptance.specs.Guides.{is_disguised_table, has_disguised_field};
+ghost use Rattle.esc_acceptance.specs.Guides.{has_disguise, stands_for_its_table, is_disguise};
 
 use crate::guide::Guide;
 use esc_envelope::{Kind, Table};
@@ -87,11 +87,6 @@ pub(crate) fn has_guide(guide: Guide, key: &Key, object: &Object) -> bool
     } else {
         have_cells(&object.children, guide.child_name(), guide.field_name())
     }
-}
-
-/// Whether a field is among these.
-pub(crate) fn is_among_guides(guides: &[Guide], guide: Guide) -> bool {
-    guides.contains(&guide)
 }
 
 fn has_objects(objects: &[(Kind, u64)], kind: Kind) -> bool

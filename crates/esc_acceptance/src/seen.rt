@@ -65,7 +65,7 @@ impl<'a> Model for Seen<'a> {
       gaps = s.gaps.now;
       parked = s.parked;
       early = s.early;
-      findings = length s.findings.now;
+      findings = s.findings.now;
       flaws = s.flaws.now;
       objects = s.objects.now;
       counts = s.counts.now;

@@ -37,7 +37,7 @@ pub fn survey_from<O: Objects>(
     let mut coverage = Coverage::new(alloc)?;
     while let Some((key, object)) = objects.next().map_err(StreamFault::Source)? {
         survey.add(alloc, &key, &object)?;
-        coverage.add(&key, &object)?;
+        coverage.add(&key, &object);
     }
     Ok(Surveyed { survey, coverage })
 }

@@ -78,4 +78,5 @@ pub record AreSeriesOf (id : List ℕ) (watermark : ℤ) (es : List Entry) (bodi
 -- bodies are taken one after another, each by a step of this kind, from a beginning to an end
 abbrev pub TakesAll : {S : Type 0} → (S → List ℕ → S → Type 0) → S → List (List ℕ) → S → Type 0
 TakesAll Takes a [] b = a ≡ b
-TakesAll {S} Takes a (body ∷ bodies) b = (next : S) × Takes a body next × TakesAll Takes next bodies b
+TakesAll {S} Takes a (body ∷ bodies) b =
+    (next : S) × Takes a body next × TakesAll Takes next bodies b

@@ -60,7 +60,8 @@ fn put_part<E, B: Bundles>(
     ensures { OnOk result ((body : List ℕ) × B.takes bundles.old body bundles.new
         × (reading body ≡ Ok (part_with part.entry.series.id.now part.entry.series.watermark
         part.entry.series.length part.entry.number
-        (if suc part.entry.number == part.entry.series.length then counts.now else []) objects.now))) }
+        (if suc part.entry.number == part.entry.series.length then counts.now else [])
+        objects.now))) }
 {
     let body = match part_bundle(alloc, part, declared(part, counts), objects) {
         Ok(body) => body,

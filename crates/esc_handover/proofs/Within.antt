@@ -32,7 +32,8 @@ part_of_part a b c p q =
       v ++ y,
       q.2
           ∙ ap (λ (t : List ℕ). x ++ t ++ y) p.2
-          ∙ ap (λ (t : List ℕ). t ++ y) (sym (append_assoc x (u ++ a) v) ∙ ap (λ (t : List ℕ). t ++ v) (sym (append_assoc x u a)))
+          ∙ ap (λ (t : List ℕ). t ++ y)
+          (sym (append_assoc x (u ++ a) v) ∙ ap (λ (t : List ℕ). t ++ v) (sym (append_assoc x u a)))
           ∙ append_assoc (x ++ u ++ a) v y,
     )
 

@@ -23,7 +23,8 @@ IsPiece piece text = (before after : List ℕ) × (text ≡ before ++ piece ++ a
 
 -- one piece of a page is in another one, unless memory was refused
 abbrev pub IsWithin : Option (List ℕ) → Option (List ℕ) → Type 0
-IsWithin piece whole = IfSome whole (λ text. (part : List ℕ) × (piece ≡ Some part) × IsPiece part text)
+IsWithin piece whole =
+    IfSome whole (λ text. (part : List ℕ) × (piece ≡ Some part) × IsPiece part text)
 
 -- ---- the objects of each kind
 

@@ -17,4 +17,5 @@ HasTitle title page = (style body : List ℕ) × (page ≡ page_text title style
 
 -- a page has a title that begins so
 abbrev pub TellsVerdict : Bool → List ℕ → Type 0
-TellsVerdict accepted page = (title : List ℕ) × BeginsWithVerdict accepted title × HasTitle title page
+TellsVerdict accepted page =
+    (title : List ℕ) × BeginsWithVerdict accepted title × HasTitle title page

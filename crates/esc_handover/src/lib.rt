@@ -28,18 +28,18 @@
 //! `page_of` gives a page whose body is markup of a fixed list of elements around escaped texts
 //! (`IsHtmlPage` of `esc_html`): it loads nothing and runs nothing. Its title begins with whether
 //! the registry may be taken over (`specs/Titles.antt`). It has the name of each kind next to how
-//! many objects there are and how many are declared, and its findings have the heading of each rule
-//! that is broken, with their number (`specs/PageParts.antt`). `specs/Picture.antt` says where a
+//! many objects there are and how many are declared, and the heading of each rule that is broken,
+//! with the number of its findings (`specs/PageParts.antt`). `specs/Picture.antt` says where a
 //! moment stands on the time axis, that a later one stands no further left
 //! (`moments_stand_in_order`), and that each place is in one group of marks or rows (`groups_of`).
 //! What else a page shows has no contract, and is tested.
 //!
 //! Of what touches files, a store or standard error it is proved that no call is unsafe and that
 //! each ends: no contract can say what a file holds or what is printed, so that is tested on the
-//! built program. So it is with `files`, `registry_bundle`, `series_folder`, `stop` and
-//! `table_folder`, with `read_layouts`, and with what is below `page` but for `axis`, `findings`,
-//! `group`, `objects`, `part` and `share`. The other calls that read are exact: what is told on the
-//! way changes nothing.
+//! built program. So it is with `files`, `series_folder`, `stop` and `table_folder`, with
+//! `registry_bundle` but for `check_object_count`, with `read_layouts`, and with what is below `page`
+//! but for `axis`, `findings`, `group`, `objects`, `part` and `share`. The other calls that read are
+//! exact: what is told on the way changes nothing.
 #![tactic(auto)]
 
 mod answer;

@@ -4,7 +4,9 @@ ghost use Rattle.std.specs.Prelude.{ℕ, List, Some, IfOk};
 ghost use Rattle.esc_envelope.specs.declared.kind.Kind.{Kind};
 ghost use Rattle.esc_html.specs.Markup.{IsHtmlPage};
 ghost use Rattle.esc_acceptance.specs.Acceptance.{is_accepted};
-ghost use Rattle.esc_handover.specs.PageParts.{IsPiece, IsWithin, HasKind, TellsKinds};
+ghost use Rattle.esc_check.specs.declared.rule.Rule.{Rule};
+ghost use Rattle.esc_handover.specs.PageParts.{IsPiece, IsWithin};
+ghost use Rattle.esc_handover.specs.PageParts.{HasKind, TellsKinds, HasRule, TellsRules};
 ghost use Rattle.esc_handover.specs.Titles.{HasTitle, TellsVerdict};
 
 mod axis;
@@ -38,8 +40,8 @@ use std::alloc::Global;
 
 /// A page of HTML that shows what was seen of a store, with its receipts in order and its parked
 /// bodies. Its title begins with whether the registry may be taken over. Of each kind it says how
-/// many objects there are, and how many are declared. It loads nothing and runs nothing, and each
-/// text of a deposit is escaped.
+/// many objects there are, and how many are declared; and of each rule that is broken, how many
+/// findings there are. It loads nothing and runs nothing, and each text of a deposit is escaped.
 pub fn page_of(
     alloc: Global,
     seen: &Seen<'_>,
@@ -50,6 +52,7 @@ pub fn page_of(
     ensures verdict { IfOk result (λ page. TellsVerdict (is_accepted seen.now) page.items) }
     ensures kinds { IfOk result
         (λ page. TellsKinds seen.now.objects seen.now.counts page.items) }
+    ensures rules { IfOk result (λ page. TellsRules seen.now.findings page.items) }
 {
     let title = title_of(alloc, seen)?;
     let body = body_of(alloc, seen, title.as_str(), receipts, parked)?;
@@ -63,8 +66,9 @@ fn body_of(
     receipts: &[Reply],
     parked: &[ParkedBody],
 ) -> Result<Html, NoMemory>
-    ensures { IfOk result
+    ensures kinds { IfOk result
         (λ body. (k : Kind) → HasKind seen.now.objects seen.now.counts body k) }
+    ensures rules { IfOk result (λ body. (rule : Rule) → HasRule seen.now.findings body rule) }
 {
     let lines = lines_of(alloc, seen)?;
     let before = tests_section(alloc, &lines)
@@ -79,7 +83,8 @@ fn body_of(
 
 // The sections of the objects and of the findings.
 fn numbers(alloc: Global, seen: &Seen<'_>) -> Html
-    ensures { (k : Kind) → HasKind seen.now.objects seen.now.counts result k }
+    ensures kinds { (k : Kind) → HasKind seen.now.objects seen.now.counts result k }
+    ensures rules { (rule : Rule) → HasRule seen.now.findings result rule }
 {
     objects_section(alloc, seen.objects, seen.counts).add(findings_section(alloc, seen.findings))
 }

@@ -104,7 +104,8 @@ unmarked_is_absent marked q (e ∷ es) all unmarked =
     parts : (marked e.0 ≡ true) × (list_all (λ b. b) (map (λ (x : Entry). marked x.0) es) ≡ true)
     parts = and_parts (marked e.0) (list_all (λ b. b) (map (λ (x : Entry). marked x.0) es)) all
 
-    by_test : lookup (key_eq q) es ≡ None → (t : Bool) → key_eq q e.0 ≡ t → cond t (Some e.1) (lookup (key_eq q) es) ≡ None
+    by_test : lookup (key_eq q) es ≡ None → (t : Bool) → key_eq q e.0 ≡ t
+        → cond t (Some e.1) (lookup (key_eq q) es) ≡ None
     by_test rest true is = absurd (true≢false (sym parts.0 ∙ ap marked (sym (one_key q e.0 is)) ∙ unmarked))
     by_test rest false is = rest
 

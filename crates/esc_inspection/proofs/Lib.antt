@@ -7,6 +7,7 @@ pub mod GreatestPlace
 pub mod LastPlace
 pub mod Listed
 pub mod Marking
+pub mod NamedTlds
 pub mod NewestRows
 pub mod NoOrphans
 pub mod Reading

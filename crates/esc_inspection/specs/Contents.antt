@@ -1,7 +1,6 @@
 -- What is asked of all objects of the tables of a store that reflects a list of events.
 use Rattle.std.specs.Prelude.{◌≡◌, ℕ, List, Option}
-use Rattle.esc_apply.specs.ObjectStreams.{Entry, InOrder}
-use Rattle.esc_events.specs.Apart.{WhereApart}
+use Rattle.esc_apply.specs.ObjectStreams.{Entry}
 use Rattle.esc_events.specs.Events.{EventValue}
 use Rattle.esc_events.specs.LatestTables.{AreEntries}
 use Rattle.esc_conformity.specs.declared.found.Flaws.{Flaws}
@@ -9,11 +8,7 @@ use Rattle.esc_conformity.specs.declared.rule.Rule.{Rule}
 use Rattle.esc_conformity.specs.Flaws.{flaws}
 use Rattle.esc_conformity.specs.Found.{keys_by}
 use Rattle.esc_acceptance.specs.declared.guide.Guide.{Guide}
-use Rattle.esc_acceptance.specs.Guides.{AreLackingIn}
-
--- this holds of the objects of the latest chain's tables, in the order of keys
-abbrev pub HoldsOfTables : List EventValue → (List Entry → Type 0) → Type 0
-HoldsOfTables e P = WhereApart e ((es : List Entry) → AreEntries e es → InOrder es → P es)
+use Rattle.esc_acceptance.specs.Guides.{lacking_guides}
 
 -- these are the guides that some object of the latest chain's tables lacks, and the keys of those
 -- that break each rule, in a registry of this TLD, if that is known
@@ -21,5 +16,5 @@ pub record AreContentsOf (e : List EventValue) (tld : Option (List ℕ)) (lackin
     (found : Flaws) : Type 0 where
   pub entries : List Entry
   pub tables : AreEntries e entries
-  pub are_lacking : AreLackingIn entries lacking
+  pub are_lacking : lacking ≡ lacking_guides entries
   pub flawed : (rule : Rule) → keys_by found rule ≡ flaws rule tld entries

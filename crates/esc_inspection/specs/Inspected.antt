@@ -15,7 +15,7 @@ use Rattle.esc_acceptance.specs.Tlds.{only_name}
 use Rattle.esc_inspection.specs.declared.facts.StoreFacts.{StoreFacts}
 use Rattle.esc_inspection.specs.Contents.{AreContentsOf}
 use Rattle.esc_inspection.specs.Parts.{AreTotalsOf, AreEndingOf, AreLinesFor, AreSpoiledAmong}
-use Rattle.esc_inspection.specs.Parts.{AreChainFactsOf, IsRebuiltFrom}
+use Rattle.esc_inspection.specs.Parts.{AreTldsOf, AreChainFactsOf, IsRebuiltFrom}
 
 -- the verdict that version 1 gave for a body that no row listed
 abbrev pub is_early : Verdict → Bool
@@ -40,7 +40,7 @@ seen_in f = record {
   gaps = f.listing.gaps.items;
   parked = length f.parked.items;
   early = early_count f.books.receipts.items;
-  findings = length f.ending.findings.items;
+  findings = f.ending.findings.items;
   flaws = f.contents.flaws;
   objects = f.totals.objects.items;
   counts = f.ending.counts.items;
@@ -61,6 +61,7 @@ module _ (e : List EventValue) where
     pub lines : AreLinesFor e f.listing.held.items f.listing.gaps.items
     pub parked : AreParkedOf e f.parked.items
     pub spoiled : AreSpoiledAmong e f.listing.held.items f.bodies.spoiled.items
+    pub tlds : AreTldsOf e f.listing.held.items f.bodies.tlds
     pub rows : IsChainOf e f.kept_chain.rows.items
     pub chain : AreChainFactsOf e f.chain
     pub rebuilt : IsRebuiltFrom e f.kept_chain.rows.items f.is_rebuilt

@@ -1,6 +1,6 @@
 -- What is seen of a store that reflects a list of events, part by part.
 use Rattle.std.specs.Prelude.{◌≡◌, ◌↔◌, ℕ, List, [], map, Option, option_map, Some, None}
-use Rattle.std.specs.Prelude.{slice_get, Bool, true}
+use Rattle.std.specs.Prelude.{slice_get, Bool, true, string_bytes}
 use Rattle.std.specs.FinSet as set
 use Rattle.std.specs.List.{Contains}
 use Rattle.sha2.specs.Sha256.{sha256}
@@ -20,8 +20,10 @@ use Rattle.esc_desk.specs.declared.status.End.{End}
 use Rattle.esc_desk.specs.Reads.{last, IsEndOfChain}
 use Rattle.esc_reports.specs.Reports.{AreFindings}
 use Rattle.esc_acceptance.specs.declared.chain.ChainFacts.{ChainFacts}
+use Rattle.esc_acceptance.specs.declared.tlds.Tlds.{Tlds}
 use Rattle.esc_acceptance.specs.Chains.{AreFactsOf}
 use Rattle.esc_acceptance.specs.Listed.{IsAsListed}
+use Rattle.esc_acceptance.specs.Tlds.{with_tlds}
 use Rattle.esc_inspection.specs.Compared.{AreTablesOfBodies}
 
 -- how many objects of each kind the end of a chain declares; without a chain nothing is declared
@@ -64,6 +66,11 @@ module _ (e : List EventValue) where
   abbrev pub AreSpoiledAmong : List ℕ → List ℕ → Type 0
   AreSpoiledAmong rows spoiled = (row : ℕ)
       → Contains spoiled row ↔ (Contains rows row × IsSpoiled row)
+
+  -- these are the TLDs that the bodies of these rows name, each once
+  abbrev pub AreTldsOf : List ℕ → Tlds → Type 0
+  AreTldsOf rows tlds
+      = map string_bytes tlds.names.items ≡ with_tlds (map body_at rows) []
 
   -- what the bodies of the latest chain say, from the first to the last
   pub record AreChainFactsOf (facts : ChainFacts) : Type 0 where

@@ -1,10 +1,12 @@
 //! The bodies of a store: whether they are as listed, and which TLDs they name.
 
-ghost use Rattle.std.specs.Prelude.{◌≡◌, ◌++◌, ◌∷◌, [], ℕ, List, cond, OnOk, IfErr};
+ghost use Rattle.std.specs.Prelude.{◌≡◌, ◌++◌, ◌∷◌, [], ℕ, List, map, cond, string_bytes};
+ghost use Rattle.std.specs.Prelude.{option_map, OnOk, IfErr};
 ghost use Rattle.esc_events.specs.Apart.{WhereApart};
 ghost use Rattle.esc_store.specs.Faults.{IsFailure};
 ghost use Rattle.esc_desk.specs.Reading.{IsReadOf, OkForEvents};
-ghost use Rattle.esc_inspection.specs.Parts.{AreSpoiledAmong};
+ghost use Rattle.esc_acceptance.specs.Tlds.{with_tld_of};
+ghost use Rattle.esc_inspection.specs.Parts.{AreSpoiledAmong, AreTldsOf};
 
 use esc_acceptance::{Tlds, is_as_listed};
 use esc_bundle::NoMemory;
@@ -23,7 +25,8 @@ pub struct Bodies {
 
 impl Bodies {
     fn new(alloc: Global) -> Bodies
-        ensures { result.spoiled.items ≡ [] }
+        ensures spoiled { result.spoiled.items ≡ [] }
+        ensures tlds { result.tlds.names.items ≡ [] }
     {
         Bodies {
             spoiled: Vec::new(alloc),
@@ -40,8 +43,11 @@ impl Bodies {
         body: Option<&[u8]>,
         is_listed: bool,
     ) -> Result<(), NoMemory>
-        ensures { OnOk result (self.new.spoiled.items
+        ensures spoiled { OnOk result (self.new.spoiled.items
             ≡ cond is_listed self.old.spoiled.items (self.old.spoiled.items ++ row ∷ [])) }
+        ensures tlds { OnOk result (map string_bytes self.new.tlds.names.items
+            ≡ with_tld_of (option_map (λ b. b.now) body.entry)
+            (map string_bytes self.old.tlds.names.items)) }
     {
         if let Some(body) = body {
             self.tlds.add(alloc, body)?;
@@ -63,6 +69,8 @@ pub(crate) fn read_bodies<R: Reads>(
     ensures read { IsReadOf R.follows R.reflects reader.old reader.new result }
     ensures spoiled { OkForEvents R.is_honest R.reflects reader.old reader.new result
         (λ e bodies. WhereApart e (AreSpoiledAmong e held.now bodies.spoiled.items)) }
+    ensures tlds { OkForEvents R.is_honest R.reflects reader.old reader.new result
+        (λ e bodies. WhereApart e (AreTldsOf e held.now bodies.tlds)) }
     ensures cause { IfErr result IsFailure }
 {
     let mut bodies = Bodies::new(alloc);
@@ -85,6 +93,9 @@ fn read_held<R: Reads>(
     ensures spoiled { OkForEvents R.is_honest R.reflects reader.old reader.new result
         (λ e done. WhereApart e ((rows : List ℕ) → AreSpoiledAmong e rows bodies.old.spoiled.items
         → AreSpoiledAmong e (rows ++ row ∷ []) bodies.new.spoiled.items)) }
+    ensures tlds { OkForEvents R.is_honest R.reflects reader.old reader.new result
+        (λ e done. WhereApart e ((rows : List ℕ) → AreTldsOf e rows bodies.old.tlds
+        → AreTldsOf e (rows ++ row ∷ []) bodies.new.tlds)) }
     ensures cause { IfErr result IsFailure }
 {
     let body = reader.body_of(alloc, row)?;

@@ -26,7 +26,8 @@
 //! The premises are those of each read: the store reflects a list of events, and the disk gave back
 //! what was written. `specs/Parts.antt`, `specs/Contents.antt` and `specs/Inspected.antt` say what is
 //! seen, by these events (`AreFactsAfter`), and `specs/Answers.antt` that this is what is shown
-//! (`IsAnswerAfter`): a line for each test, `ok` exactly where it passes, and the status.
+//! (`IsAnswerAfter`): a line for each test, `ok` exactly where it passes, and the status; or a page
+//! with the verdict, the numbers of each kind, and those of each rule that is broken.
 //!
 //! [`status_zero_is_all_clear`] is a law, and what an operator believes: where the status is 0, the
 //! tables, and so the exports, are those of the greatest listed deposit's chain, each deposit of it
@@ -37,8 +38,8 @@
 //! the bodies. Whether the disk is honest or not, the chain that was read is the latest one of the
 //! rows that are held, where it is said so (`latest` of `AreFactsAfter`). That the other two tests
 //! find a disk that isn't honest is said by the calls that compare, `is_as_listed` of
-//! `esc_acceptance` and those of `comparison` (`specs/Compared.antt`), and it is tested. Which TLDs,
-//! notes and declared tables there are has no contract.
+//! `esc_acceptance` and those of `comparison` (`specs/Compared.antt`), and it is tested. Which notes
+//! and declared tables there are has no contract.
 #![tactic(auto)]
 
 mod bodies;

@@ -9,9 +9,10 @@ ghost use Rattle.esc_conformity.specs.Flaws.{flaws};
 ghost use Rattle.esc_conformity.specs.Found.{keys_by};
 ghost use Rattle.esc_conformity.specs.Surveys.{IsSurveyOf};
 ghost use Rattle.esc_acceptance.specs.Guides.{IsCoverageOf};
-ghost use Rattle.esc_inspection.specs.Contents.{HoldsOfTables, AreContentsOf};
+ghost use Rattle.esc_desk.specs.Lookups.{ForTables};
+ghost use Rattle.esc_inspection.specs.Contents.{AreContentsOf};
 
-use esc_acceptance::{Coverage, Guide, Surveyed};
+use esc_acceptance::{Guide, Surveyed};
 use esc_apply::tables_are_listed;
 use esc_conformity::{Flaws, Registry};
 use esc_desk::{Cause, Reads, StoreFault, Walk, tables_are_of_events};
@@ -40,8 +41,8 @@ pub(crate) fn read_contents<R: Reads>(
 ) -> Result<Contents, StoreFault>
     ensures read { IsReadOf R.follows R.reflects reader.old reader.new result }
     ensures contents { OkForEvents R.is_honest R.reflects reader.old reader.new result
-        (λ e contents. WhereApart e
-        (AreContentsOf e (option_map (λ t. t.now) tld.entry) contents.lacking.items contents.flaws)) }
+        (λ e contents. WhereApart e (AreContentsOf e (option_map (λ t. t.now) tld.entry)
+        contents.lacking.items contents.flaws)) }
     ensures cause { IfErr result IsFailure }
 {
     tables_are_listed();
@@ -52,7 +53,7 @@ pub(crate) fn read_contents<R: Reads>(
         tld,
     };
     let flaws = flaws_by(alloc, reader, &registry, progress)?;
-    let Coverage { lacking, .. } = coverage;
+    let lacking = coverage.lacking(alloc)?;
     Ok(Contents { lacking, flaws })
 }
 
@@ -65,7 +66,7 @@ fn surveyed<R: Reads>(
 ) -> Result<Surveyed, StoreFault>
     ensures read { IsReadOf R.follows R.reflects reader.old reader.new result }
     ensures all { OkForEvents R.is_honest R.reflects reader.old reader.new result
-        (λ e surveyed. HoldsOfTables e
+        (λ e surveyed. ForTables e
         (λ es. IsSurveyOf es surveyed.survey × IsCoverageOf es surveyed.coverage)) }
     ensures cause { IfErr result IsFailure }
 {
@@ -88,7 +89,7 @@ fn flaws_by<R: Reads>(
 ) -> Result<Flaws, StoreFault>
     ensures read { IsReadOf R.follows R.reflects reader.old reader.new result }
     ensures each { OkForEvents R.is_honest R.reflects reader.old reader.new result
-        (λ e found. HoldsOfTables e (λ es. IsSurveyOf es registry.now.survey.now
+        (λ e found. ForTables e (λ es. IsSurveyOf es registry.now.survey.now
         → (rule : Rule) → keys_by found rule
         ≡ flaws rule (option_map (λ t. t.now) registry.now.tld) es)) }
     ensures cause { IfErr result IsFailure }

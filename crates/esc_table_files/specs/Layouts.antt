@@ -1,10 +1,10 @@
 -- The tables of a registry as CSV files: which there are, their columns and their texts (this
 -- project's profile of RFC 9022's CSV model).
-use Rattle.std.specs.Prelude.{◌≡◌, ℕ, not, if◌then◌else◌, List, [], ◌∷◌, map, filter, Option, Some}
-use Rattle.std.specs.Prelude.{None, codes}
+use Rattle.std.specs.Prelude.{◌≡◌, ℕ, nat_lt, Bool, not, ◌&&◌, if◌then◌else◌, Option, Some, None}
+use Rattle.std.specs.Prelude.{List, [], ◌∷◌, map, filter, take, length, codes}
 use Rattle.std.specs.Option.{unwrap_or}
 use Rattle.std.specs.List.{flat_map}
-use Rattle.std.specs.Str.{bytes_eq}
+use Rattle.std.specs.Str.{bytes_eq, str_eq_ignore_ascii_case}
 use Rattle.esc_envelope.specs.declared.kind.Kind.{Kind}
 use Rattle.esc_envelope.specs.Kinds.{kind_name, is_kind}
 use Rattle.esc_tables.specs.KeyName.{KeyName}
@@ -14,6 +14,7 @@ use Rattle.esc_csv.specs.Lines.{Line, text_of}
 use Rattle.esc_csv.specs.Records.{records_of}
 use Rattle.esc_check.specs.Export.{is_of_table}
 use Rattle.esc_check.specs.Fields.{cell}
+use Rattle.esc_table_files.specs.Apart.{are_apart}
 
 -- the name of a table: the kind of its objects, and the name of their child rows that it has; none
 -- where it has the parent rows
@@ -87,9 +88,25 @@ columns_of es t = each_once (flat_map (entry_fields t) es)
 abbrev pub layout_of : List Entry → TableNameValue → LayoutValue
 layout_of es t = record { table = t; columns = columns_of es t }
 
+-- the heading of a table: the names of its columns
+abbrev pub heading_line : LayoutValue → Line
+heading_line l = codes "key" ∷ l.columns
+
 -- the tables of a kind with their columns
 abbrev pub kind_layouts : Kind → List Entry → List LayoutValue
 kind_layouts kind es = map (layout_of es) (table_names kind es)
+
+-- ---- which tables a database can have
+
+-- whether a name is one of SQLite's own tables
+abbrev pub is_own_name : List ℕ → Bool
+is_own_name name = str_eq_ignore_ascii_case (take 7 name) (codes "sqlite_")
+
+-- whether a table can be one of an SQLite database: its name is not one of SQLite's own, and it has
+-- at most 2,000 columns, no two of which have one name but for case
+abbrev pub is_for_database : LayoutValue → Bool
+is_for_database l = not (is_own_name (called l.table))
+    && (not (nat_lt 2000 (length (heading_line l))) && are_apart (heading_line l))
 
 -- ---- the text of a table
 
@@ -101,10 +118,6 @@ row_line columns k r = k.text ∷ map (λ f. cell f r) columns
 -- the lines of an object's rows in a table
 abbrev pub entry_lines : LayoutValue → Entry → List Line
 entry_lines l e = map (row_line l.columns e.0) (entry_rows l.table e)
-
--- the heading of a table: the names of its columns
-abbrev pub heading_line : LayoutValue → Line
-heading_line l = codes "key" ∷ l.columns
 
 -- the lines of a table: its heading, and its rows by their objects' keys
 abbrev pub table_lines : LayoutValue → List Entry → List Line

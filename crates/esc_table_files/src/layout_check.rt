@@ -1,5 +1,8 @@
 //! Which tables can be files, and tables of a database.
 
+ghost use Rattle.std.specs.Prelude.{◌≡◌, ◌∷◌, map, codes, string_bytes, IfOk};
+ghost use Rattle.esc_table_files.specs.Layouts.{is_own_name, is_for_database};
+
 use crate::apart::repeated;
 use crate::layout::Layout;
 use crate::load_check::has_loadable_names;
@@ -79,12 +82,10 @@ pub fn check_database(alloc: Global, layouts: &[&Layout]) -> Result<(), LayoutFa
 
 // Whether a table can be in a database: its name is not one of SQLite's own, and it has not too
 // many columns, nor two of one name but for case.
-fn is_for_database(alloc: Global, layout: &Layout) -> Result<bool, NoMemory> {
-    let mut names = Vec::new(alloc);
-    names.push("key")?;
-    for column in &layout.columns {
-        names.push(column.as_str())?;
-    }
+fn is_for_database(alloc: Global, layout: &Layout) -> Result<bool, NoMemory>
+    ensures { IfOk result (λ b. b ≡ is_for_database layout.now) }
+{
+    let names = column_names(alloc, &layout.columns)?;
     Ok(
         !is_reserved(layout.table.text())
             && names.len() <= MOST_COLUMNS
@@ -92,7 +93,22 @@ fn is_for_database(alloc: Global, layout: &Layout) -> Result<bool, NoMemory> {
     )
 }
 
-fn is_reserved(name: &str) -> bool {
+// The names of a table's columns, that of the key first.
+fn column_names<'a>(alloc: Global, columns: &'a [String]) -> Result<Vec<&'a str>, NoMemory>
+    ensures { IfOk result (λ names. map (λ n. n.now) names.items
+        ≡ codes "key" ∷ map string_bytes columns.now) }
+{
+    let mut names = Vec::new(alloc);
+    names.push("key")?;
+    for column in columns {
+        names.push(column.as_str())?;
+    }
+    Ok(names)
+}
+
+fn is_reserved(name: &str) -> bool
+    ensures { result ≡ is_own_name name.now }
+{
     name.as_bytes()
         .get(..RESERVED.len())
         .is_some_and(|front| front.eq_ignore_ascii_case(RESERVED))

@@ -15,10 +15,6 @@ pub returns-in_err-add-clause-follows : goal.returns-in_err-add-clause-follows
 returns-in_err-add-clause-follows g c =
     g.met.O.Objects.goes_on _ _ _ c.loop-coverage.invariant.follows c.next.ensures.follows
 
-pub returns-in_err-add-2-clause-follows : goal.returns-in_err-add-2-clause-follows
-returns-in_err-add-2-clause-follows g c =
-    g.met.O.Objects.goes_on _ _ _ c.loop-coverage.invariant.follows c.next.ensures.follows
-
 pub loop-coverage-preserved : goal.loop-coverage-preserved
 loop-coverage-preserved g c =
     let objects = g.met.O.Objects in
@@ -37,7 +33,7 @@ loop-coverage-preserved g c =
             is ∙ sym (append_assoc before.0 (e ∷ []) one.0),
             one.2,
             c.in_ok-add.ensures before.0 before.4,
-            c.in_ok-add-2.ensures before.0 before.5,
+            c.add-in-Some.ensures before.0 before.5,
           );
     }
 

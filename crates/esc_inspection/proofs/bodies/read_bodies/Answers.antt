@@ -1,6 +1,6 @@
-use Rattle.std.proofs.Common.{ℕ, List, [], take, subst, sym}
+use Rattle.std.proofs.Common.{ℕ, List, [], take, map, ap, subst, sym, string_bytes}
 use Rattle.std.proofs.lemmas.List.{take_more, take_all}
-use Rattle.esc_inspection.specs.Parts.{AreSpoiledAmong}
+use Rattle.esc_inspection.specs.Parts.{AreSpoiledAmong, AreTldsOf}
 use Rattle.esc_inspection.proofs.Spoiled.{no_rows}
 use Rattle.esc_inspection.proofs.bodies.read_bodies.Goals as goal
 
@@ -8,7 +8,8 @@ pub loop-count-init : goal.loop-count-init
 loop-count-init g c = record {
   follows = g.met.R.Reads.stays _;
   reflects = λ e h. h;
-  spoiled = λ honest e h apart. subst (AreSpoiledAmong e []) (sym c.new-bodies.ensures) (no_rows e);
+  spoiled = λ honest e h apart. subst (AreSpoiledAmong e []) (sym c.new-bodies.ensures.spoiled) (no_rows e);
+  tlds = λ honest e h apart. ap (map string_bytes) c.new-bodies.ensures.tlds;
 }
 
 pub loop-count-preserved : goal.loop-count-preserved
@@ -25,7 +26,19 @@ loop-count-preserved g c =
           (c.in_ok-read_held.ensures.spoiled honest e (now.reflects e h) apart
           (take c.loop-count.count c.args.held.now)
           (now.spoiled (reads.was_honest _ _ read.follows honest) e h apart));
+      tlds = λ honest e h apart.
+          subst (λ (rows : List ℕ). AreTldsOf e rows c.read_held.new.bodies.tlds)
+          (sym (take_more c.args.held.now c.loop-count.count 0 c.loop-count-test.true))
+          (c.in_ok-read_held.ensures.tlds honest e (now.reflects e h) apart
+          (take c.loop-count.count c.args.held.now)
+          (now.tlds (reads.was_honest _ _ read.follows honest) e h apart));
     }
+
+pub returns-clause-tlds : goal.returns-clause-tlds
+returns-clause-tlds g c = λ honest e h apart.
+    subst (λ (rows : List ℕ). AreTldsOf e rows c.loop-count.bodies.tlds)
+    (take_all c.loop-count.count c.args.held.now c.loop-count-test.false)
+    (c.loop-count.invariant.tlds honest e h apart)
 
 pub returns-clause-spoiled : goal.returns-clause-spoiled
 returns-clause-spoiled g c = λ honest e h apart.

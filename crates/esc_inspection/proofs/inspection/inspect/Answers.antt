@@ -4,7 +4,7 @@ use Rattle.esc_acceptance.specs.Chains.{AreFactsOf}
 use Rattle.esc_chain.specs.Chain.{IsLatestChainAt}
 use Rattle.esc_events.specs.Events.{union}
 use Rattle.esc_inspection.specs.Contents.{AreContentsOf}
-use Rattle.esc_inspection.specs.Parts.{AreSpoiledAmong, IsRebuiltFrom, body_at}
+use Rattle.esc_inspection.specs.Parts.{AreSpoiledAmong, AreTldsOf, IsRebuiltFrom, body_at}
 use Rattle.esc_inspection.proofs.Reading.{read_made, read_then}
 use Rattle.esc_inspection.proofs.inspection.inspect.Goals as goal
 
@@ -43,6 +43,8 @@ returns-clause-facts g c = λ clean e serves.
         parked = c.in_ok-parked.ensures.bodies honest4 e serves3;
         spoiled = subst (λ (rows : List ℕ). AreSpoiledAmong e rows c.in_ok-bodies.bodies.spoiled.items)
             c.deref-2.ensures.value (c.in_ok-bodies.ensures.spoiled honest6 e serves5 apart);
+        tlds = subst (λ (rows : List ℕ). AreTldsOf e rows c.in_ok-bodies.bodies.tlds)
+            c.deref-2.ensures.value (c.in_ok-bodies.ensures.tlds honest6 e serves5 apart);
         rows = rows apart;
         chain = record {
           chain = c.in_ok-kept_chain.kept_chain.rows.items;

@@ -20,4 +20,5 @@ returns-clause-compared g c = λ honest e h.
     (then.compared honest e (first.read.reflects e h))
 
 pub returns-clause-read : goal.returns-clause-read
-returns-clause-read g c = read_then g.met.R.Reads.goes_on c.in_ok-compare_contents.ensures.read c.compare_deletes.ensures.read
+returns-clause-read g c =
+    read_then g.met.R.Reads.goes_on c.in_ok-compare_contents.ensures.read c.compare_deletes.ensures.read

@@ -8,4 +8,5 @@ pub returns : goal.returns
 returns c =
     within_both c.args.inside c.add-whole.result c.element.result
     (within_second c.leaf.result c.args.inside c.add-whole.result c.add-whole.ensures)
-    (within_element tag.Section ((attribute.Id, c.args.id.now) ∷ []) c.new.result c.add-whole.result c.element.result c.element.ensures)
+    (within_element tag.Section ((attribute.Id, c.args.id.now) ∷ []) c.new.result c.add-whole.result
+    c.element.result c.element.ensures)
