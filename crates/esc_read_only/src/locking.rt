@@ -28,7 +28,9 @@ pub(crate) fn open_locked(rt: &HostRuntime, path: &str) -> Result<File, OpenErro
     }
 }
 
-// Whether a file may not be written, or lies where nothing is.
+// Whether a file is refused to writers alone, so that it may still be read: this user may not write
+// it (EACCES), nobody may change it (EPERM), or its file system is mounted to be read alone
+// (EROFS). A lock of another process refuses no opening. Any other error would meet a reader too.
 fn is_denied(error: &io::Error) -> bool {
     matches!(
         error.kind(),
@@ -52,6 +54,9 @@ fn locked(
     if !is_named || !found.is_file() || found.nlink() != 1 {
         return Err(OpenError::Io(ErrorKind::Unsupported.into()));
     }
+    // Where another process has a lock in the way, the answer is EAGAIN, which is `WouldBlock`, or
+    // EACCES, which `try_lock_range` makes the same. Any other error, such as ENOLCK of a file
+    // system without locks, is the system's.
     if os::try_lock_range(file.as_raw_fd(), kind, LOCK_START, LOCK_BYTES) == 0 {
         return Ok(file);
     }
