@@ -15,8 +15,17 @@ from tests.cases.unchanged import DRAWN
 from tests.cases.unchanged import READERS
 from tests.cases.unchanged import made
 from tests.cases.unchanged import put_stopped
+from tests.cases.whys import DAMAGED
 from tests.cases.whys import LOCK_BYTES
 from tests.cases.whys import LOCK_START
+from tests.cases.whys import NOT_PLAIN
+from tests.cases.whys import Refusal
+from tests.cases.whys import check
+from tests.cases.whys import damage
+from tests.cases.whys import put_journal
+from tests.cases.whys import put_second_name
+from tests.cases.whys import put_store
+from tests.cases.whys import remove_journal
 from tests.cases.zones import store_of
 from tests.support.outputs import prepared
 from tests.support.stage import Failed
@@ -29,6 +38,7 @@ from tests.support.stores import EMPTY_LOG
 from tests.support.stores import ENDS
 from tests.support.stores import READINGS
 from tests.support.stores import contents
+from tests.support.stores import copy
 from tests.support.zone_registries import draw_registry
 
 NOBODY = 65534
@@ -108,6 +118,11 @@ def refused_to_write(stage: Stage) -> Prepare:
         if os.path.exists(stage.at(f'kept/a.db{end}')):
             os.chmod(stage.at(f'kept/a.db{end}'), 0o444)
     os.chmod(stage.at('kept'), 0o555)
+    return by_nobody(stage)
+
+
+def by_nobody(stage: Stage) -> Prepare:
+    """What a child needs to have no more rights than files give: of root, nobody's."""
     if os.geteuid():
         return None
     # Another user may not see the folder that the programs are in.
@@ -188,6 +203,44 @@ CASES = {
     **{f'A store that may not be written, {it}': check_by_rights(it) for it in STORES},
     **{f'A store on a file system to be read alone, {it}': check_by_mount(it) for it in STORES},
 }
+
+
+# What is wrong with a store that may not be written, and what each command that reads it says.
+FLAWS: tuple[tuple[Callable[[Stage], None], str], ...] = (
+    (damage, DAMAGED),
+    (put_second_name, NOT_PLAIN),
+    (put_journal, 'a rollback journal stands beside the file'),
+)
+# A command of each program.
+READS = (('report --store b.db gaps', 'restore'), ('check --store b.db', 'handover'))
+
+
+def test_causes(stage: Stage) -> None:
+    """Of a store that may not be written, --verbose tells readers why it is refused, and not that
+    it may not be written; of one that may not be read either, that."""
+    put_store(stage)
+    prepare = by_nobody(stage)
+    for spoil, cause in FLAWS:
+        with case(spoil.__name__):
+            copy(stage.at('a.db'), stage.at('b.db'))
+            spoil(stage)
+            allow(stage, 0o444)
+            for line, program in READS:
+                check(stage, Refusal(line, 'S1', 'b.db', cause, program), prepare=prepare)
+            check(stage, Refusal('take --store b.db none', 'E1 b.db', 'b.db', 'permission denied'),
+                  prepare=prepare)
+    remove_journal(stage)
+    allow(stage, 0)
+    for line, program in READS:
+        check(stage, Refusal(line, 'E1 b.db', 'b.db', 'permission denied', program),
+              prepare=prepare)
+
+
+def allow(stage: Stage, mode: int) -> None:
+    """Gives the two files of `b.db` these rights."""
+    for end in ENDS:
+        if os.path.exists(stage.at(f'b.db{end}')):
+            os.chmod(stage.at(f'b.db{end}'), mode)
 
 
 def test_locks(stage: Stage) -> None:

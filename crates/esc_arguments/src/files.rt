@@ -8,7 +8,6 @@ use crate::stop::{NO_MEMORY, Stop};
 use esc_cli::{Links, read_front, read_whole};
 use esc_manifest::{Manifest, read_manifest};
 use std::alloc::Global;
-use std::fs::File;
 use std::io::{Error, ErrorKind};
 
 /// The stop for a path that can't be read, listed or written: `E1 PATH`, or `S2` where memory was
@@ -33,13 +32,6 @@ pub fn or_stop<T>(rt: &HostRuntime, path: &str, outcome: Result<T, Error>) -> Re
         Ok(value) => Ok(value),
         Err(error) => Err(stop_at(rt, path, error)),
     }
-}
-
-/// Returns `E1 PATH` if a file can't be opened for reading and writing. Makes no file.
-pub fn check_access(rt: &HostRuntime, path: &str) -> Result<(), Stop> {
-    let opened = File::options().read(true).write(true).open(rt, path);
-    let _file = or_stop(rt, path, opened)?;
-    Ok(())
 }
 
 // The text of a manifest in a plain file, or in one that a link leads to. Of a file that is too

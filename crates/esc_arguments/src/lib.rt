@@ -48,5 +48,5 @@ mod moment;
 mod stop;
 
 pub use command_line::{Command, Invocation, invocation_of, matches_of, print_error};
-pub use files::{check_access, or_stop, read_body};
+pub use files::{or_stop, read_body};
 pub use stop::{NO_MEMORY, REFUSED, Stop, print_stop};

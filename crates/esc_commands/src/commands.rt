@@ -4,13 +4,14 @@ use crate::desk::read_report;
 use crate::ended::Ended;
 use crate::run::Run;
 use esc_arguments::{
-    Command, Invocation, Stop, check_access, invocation_of, matches_of, print_error, print_stop,
+    Command, Invocation, Stop, invocation_of, matches_of, or_stop, print_error, print_stop,
 };
 use esc_cli::{Asked, USAGE};
 use esc_desk::{Desk, Reads};
 use esc_progress::Progress;
 use esc_recovery::{
-    Obstacle, PathFault, close_desk, migrated_desk_at, new_desk_at, open_desk_at, reader_at,
+    Access, Obstacle, PathFault, check_access, close_desk, migrated_desk_at, new_desk_at,
+    open_desk_at, reader_at,
 };
 use esc_reports::{Report, report_links};
 use sqlite::{File, FileStore, Unknown};
@@ -89,7 +90,7 @@ where
     fn read_store(&mut self, path: &str, report: Report) -> Result<Ended, Stop> {
         match reader_at(self.rt, path, Unknown) {
             Ok(mut reader) => self.read_by(&mut reader, report),
-            Err(fault) => Err(stop_of(self.rt, path, fault)),
+            Err(fault) => Err(stop_of(self.rt, path, Access::Read, fault)),
         }
     }
 
@@ -111,7 +112,7 @@ where
         let line = made_line(self.rt.alloc(), command)?;
         match opened(self.rt, path, command) {
             Ok(desk) => self.finish_desk(desk, command, line),
-            Err(fault) => Err(stop_of(self.rt, path, fault)),
+            Err(fault) => Err(stop_of(self.rt, path, Access::Write, fault)),
         }
     }
 
@@ -170,16 +171,15 @@ fn opened(
     }
 }
 
-// Why there is no desk and no reader: `E1` if the system doesn't let the files be read and written,
-// else the store's fault.
-fn stop_of(rt: &HostRuntime, path: &str, fault: PathFault) -> Stop {
+// Why there is no desk or no reader: `E1` if the system doesn't let the file be opened as the
+// command needs it, else the store's fault.
+fn stop_of(rt: &HostRuntime, path: &str, needed: Access, fault: PathFault) -> Stop {
     match fault {
         PathFault::Missing => Stop::Missing,
         PathFault::Store(fault) => Stop::Store(fault),
         PathFault::Unopened(Obstacle::NoFileName) => Stop::Unopened(Obstacle::NoFileName),
-        PathFault::Unopened(obstacle) => match check_access(rt, path) {
-            Ok(()) => Stop::Unopened(obstacle),
-            Err(stop) => stop,
-        },
+        PathFault::Unopened(obstacle) => or_stop(rt, path, check_access(rt, path, needed))
+            .err()
+            .unwrap_or(Stop::Unopened(obstacle)),
     }
 }

@@ -1,18 +1,8 @@
-//! Writes a file in one step, and says why one can't be opened.
+//! Writes a file in one step.
 
 use crate::stop::{Stop, or_stop};
-use esc_store::Obstacle;
 use std::fs::{self, File};
 use std::io::{Error, ErrorKind, Write};
-
-/// Why the store in a file isn't opened, where the system, and not the store, fails: `E1` if it
-/// doesn't let the file be read and written, else `S1` for this obstacle. Makes no file.
-pub fn unopened_stop(rt: &HostRuntime, path: &str, obstacle: Obstacle) -> Stop {
-    let opened = File::options().read(true).write(true).open(rt, path);
-    or_stop(rt, path, opened)
-        .err()
-        .unwrap_or(Stop::Unopened(obstacle))
-}
 
 /// Writes a new file: beside its place first, and from there to its place in one step, so that
 /// there is the whole of it or nothing. `E1` where something is at its place.

@@ -53,7 +53,7 @@ mod stop;
 mod table_folder;
 
 pub use answer::Answer;
-pub use files::{place_file, unopened_stop};
+pub use files::place_file;
 pub use laws::{
     full_bundle_restores_its_tables, moments_stand_in_order, series_restores_its_tables,
 };

@@ -8,7 +8,7 @@ ghost use Rattle.sqlite.specs.State.{HasCleanDisk};
 ghost use Rattle.sqlite.specs.Start.{FindsIn};
 ghost use Rattle.sqlite.specs.Files.{file_state, IsOpened};
 ghost use Rattle.esc_store.specs.Faults.{IsOpenFault};
-ghost use Rattle.esc_recovery.specs.PathFaults.{IsUnopenedOr};
+ghost use Rattle.esc_recovery.specs.PathFaults.{IsOpeningRefusal, IsRefusal, IsUnopenedOr};
 
 use crate::path::PathFault;
 use esc_desk::StoreFault;
@@ -95,7 +95,8 @@ fn check_name(path: &str) -> Result<(), PathFault>
 
 // Why files weren't opened: what the system refused, or a fault of the store.
 fn why_unopened(error: OpenError) -> PathFault
-    ensures { IsUnopenedOr IsOpenFault result }
+    ensures why { IsOpeningRefusal error result }
+    ensures cause { IsUnopenedOr IsOpenFault result }
 {
     match error {
         OpenError::OutOfMemory => PathFault::Store(StoreFault::NoMemory),
@@ -106,7 +107,8 @@ fn why_unopened(error: OpenError) -> PathFault
 }
 
 fn why_refused(error: io::Error) -> PathFault
-    ensures { IsUnopenedOr IsOpenFault result }
+    ensures why { IsRefusal error result }
+    ensures cause { IsUnopenedOr IsOpenFault result }
 {
     if error.kind() == ErrorKind::OutOfMemory {
         PathFault::Store(StoreFault::NoMemory)

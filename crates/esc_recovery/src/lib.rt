@@ -13,6 +13,8 @@
 //! - [`reader_at`] gives a reader of the store of the files at a path, which stay as they are
 //!   (`esc_read_only`). A reader goes over the store's trees, without SQL, once their version was
 //!   tested; another row is tested where it is read. It makes no file.
+//! - [`check_access`] gives the error of the system where it doesn't let a file be opened, to be
+//!   read alone or to be written.
 //! - [`close_desk`] copies what is still in the log into the database, and gives the files.
 //!
 //! Over any connection or disk, for instance one that fails from some call on:
@@ -89,5 +91,7 @@ mod reading;
 pub use esc_store::Obstacle;
 pub use files::{close_desk, desk_of_files, files_of, reopen_desk};
 pub use opening::{migrated_desk, new_desk, open_desk};
-pub use path::{PathFault, is_missing, migrated_desk_at, new_desk_at, open_desk_at};
+pub use path::{
+    Access, PathFault, check_access, is_missing, migrated_desk_at, new_desk_at, open_desk_at,
+};
 pub use reading::reader_at;

@@ -17,8 +17,8 @@ use esc_desk::{Desk, StoreFault};
 use esc_manifest::Manifest;
 use esc_store::Obstacle;
 use sqlite::{Error, ErrorCode, FileFrom, FileStore, Start};
-use std::fs;
-use std::io::ErrorKind;
+use std::fs::{self, File};
+use std::io::{self, ErrorKind};
 
 /// Why there is no desk over the files at a path.
 #[derive(Clone, Copy, Debug, PartialEq, Eq)]
@@ -110,6 +110,31 @@ pub fn migrated_desk_at<S: Start>(
     match migrated_desk(rt.alloc(), connection) {
         Ok(migrated) => Ok(migrated),
         Err((fault, _)) => Err(PathFault::Store(fault)),
+    }
+}
+
+/// What a command has to be let do with a file.
+#[derive(Clone, Copy)]
+pub enum Access {
+    Read,
+    /// To read and to write it.
+    Write,
+}
+
+/// The error of the system where it doesn't let a file be opened for this. Makes no file.
+pub fn check_access(rt: &HostRuntime, path: &str, access: Access) -> Result<(), io::Error> {
+    // A pipe that is opened to be read alone is waited for until somebody writes it.
+    let is_written = matches!(access, Access::Write) || !is_plain(rt, path);
+    match File::options().read(true).write(is_written).open(rt, path) {
+        Ok(_) => Ok(()),
+        Err(error) => Err(error),
+    }
+}
+
+fn is_plain(rt: &HostRuntime, path: &str) -> bool {
+    match fs::metadata(rt, path) {
+        Ok(found) => found.is_file(),
+        Err(_) => false,
     }
 }
 

@@ -4,10 +4,10 @@ use crate::bundle::{Splitting, tables_bundle, write_bundles};
 use crate::tables::{Tabling, write_tables};
 use crate::zone::{Zoning, write_zone};
 use esc_desk::Lookup;
-use esc_handover::{Answer, Stop, unopened_stop};
+use esc_handover::{Answer, Stop, or_stop};
 use esc_inspection::{Form, acceptance};
 use esc_progress::Progress;
-use esc_recovery::{PathFault, reader_at};
+use esc_recovery::{Access, PathFault, check_access, reader_at};
 use sqlite::Unknown;
 use std::alloc::Global;
 
@@ -67,11 +67,14 @@ fn perform<R: Lookup>(
     }
 }
 
-// Why the store isn't opened: its fault, or the system's.
+// Why the store isn't opened: `E1` if the system doesn't let the file be read, else the store's
+// fault.
 fn stop_of(rt: &HostRuntime, path: &str, fault: PathFault) -> Stop {
     match fault {
         PathFault::Missing => Stop::Missing,
         PathFault::Store(fault) => Stop::Store(fault),
-        PathFault::Unopened(obstacle) => unopened_stop(rt, path, obstacle),
+        PathFault::Unopened(obstacle) => or_stop(rt, path, check_access(rt, path, Access::Read))
+            .err()
+            .unwrap_or(Stop::Unopened(obstacle)),
     }
 }
