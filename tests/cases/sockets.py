@@ -182,17 +182,21 @@ CASES = {
 }
 
 
+def ask_for_long(client: socket.socket, port: int) -> None:
+    """Asks for a long response. Neither side of the connection holds much of what isn't taken."""
+    client.setsockopt(socket.SOL_SOCKET, socket.SO_RCVBUF, 1)
+    client.setsockopt(socket.IPPROTO_TCP, socket.TCP_MAXSEG, 536)
+    client.settimeout(SECONDS)
+    client.connect((HOST, port))
+    client.sendall(get('/export/contact'))
+
+
 def responses_beside_idle(port: int) -> list[bytes]:
     """The response to a request, while a client that came before takes nothing of its own; and what
     there is of that in the end."""
     begun = time.monotonic()
     with socket.socket() as idle:
-        # Neither side of such a connection holds much of what isn't taken.
-        idle.setsockopt(socket.SOL_SOCKET, socket.SO_RCVBUF, 1)
-        idle.setsockopt(socket.IPPROTO_TCP, socket.TCP_MAXSEG, 536)
-        idle.settimeout(SECONDS)
-        idle.connect((HOST, port))
-        idle.sendall(get('/export/contact'))
+        ask_for_long(idle, port)
         responses, seconds = response_since(begun, port)
         taken = received(idle)
     check_time(seconds, len(taken))
@@ -203,8 +207,7 @@ def test_client_that_takes_nothing(stage: Stage) -> None:
     """A client that takes nothing of a long response is given up in time, and the next one is
     served."""
     set_up(stage)
-    long = record([('contact', [('id', 'C1'), ('clID', CELL)])])
-    Statements('a.db', insertion('object', (KINDS.index('contact'), b'C1', long))).do(stage)
+    put_long(stage)
     *responses, taken = served(stage, 2, responses_beside_idle, 'write fault\n')
     compare_responses((AROUND,), responses)
     if not taken or len(taken) == len(LONG) or not LONG.startswith(taken):
@@ -212,6 +215,32 @@ def test_client_that_takes_nothing(stage: Stage) -> None:
             f'{len(taken)} bytes that came are no beginning of the response: {taken[:400]!r}')
     # Whoever takes it gets all of it.
     check_responses(stage, [(get('/export/contact'), LONG)])
+
+
+def put_long(stage: Stage) -> None:
+    """An object with a cell that no connection holds."""
+    long = record([('contact', [('id', 'C1'), ('clID', CELL)])])
+    Statements('a.db', insertion('object', (KINDS.index('contact'), b'C1', long))).do(stage)
+
+
+def responses_after_leaving(port: int) -> list[bytes]:
+    """The response to a request, once another client has broken off in the middle of an export; and
+    what that one had taken."""
+    with socket.socket() as client:
+        ask_for_long(client, port)
+        taken = client.recv(100)
+        breaks_off(client)
+    return [*responses_of(port, AROUND[:1]), taken]
+
+
+def test_client_that_leaves(stage: Stage) -> None:
+    """A client that breaks off in a long export is told, and the next one is served."""
+    set_up(stage)
+    put_long(stage)
+    *responses, taken = served(stage, 2, responses_after_leaving, 'write fault\n')
+    compare_responses((AROUND,), responses)
+    if not taken or not LONG.startswith(taken):
+        raise Failed(f'{len(taken)} bytes that came are no beginning of the response: {taken!r}')
 
 
 # The last receipt that there may be, and what is put to a store that has all but this one.

@@ -15,7 +15,11 @@ from typing import NamedTuple
 from tests.support import TOP
 from tests.support.files import read
 from tests.support.files import write
+from tests.support.messages import get
+from tests.support.messages import response
 from tests.support.outputs import prepared
+from tests.support.sockets import response_to
+from tests.support.sockets import serve
 from tests.support.stage import Failed
 from tests.support.stage import Stage
 from tests.support.stage import case
@@ -136,6 +140,23 @@ def test_locked(stage: Stage) -> None:
                               ('report --store a.db gaps', 'restore'),
                               ('check --store a.db', 'handover')):
             check(stage, Refusal(line, 'S1', 'a.db', 'locked by another process', program))
+
+
+# What is asked of a desk whose receipts are changed, and the response.
+ASKED = (('/receipts', response(503, 'S1\n')), ('/moment', response(200, 'latest\n')))
+
+
+def test_served(stage: Stage) -> None:
+    """--verbose says why `serve` answers 503, on a line of its own, and nothing of other answers"""
+    put_store(stage)
+    copy(stage.at('a.db'), stage.at('b.db'))
+    change_receipt(stage)
+    for option, told in (('', ''), ('-v', f'why: serve b.db: {FOREIGN}\n')):
+        child, port = serve(stage, 'b.db', len(ASKED), option)
+        for path, wanted in ASKED:
+            compare(f'{path} {option}', wanted.decode(), response_to(port, get(path)).decode())
+        got = stage.end(child)
+        compare(f'serve {option}', f'0 {told}', f'{got.status} {got.err.decode()}')
 
 
 # ---- files

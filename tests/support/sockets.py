@@ -21,9 +21,9 @@ def free_port() -> int:
         return listener.getsockname()[1]
 
 
-def serving(store: str, port: int, count: int) -> str:
-    """The line of a run that serves so many connections."""
-    return f'serve --store {store} --port {port} --count {count}'
+def serving(store: str, port: int, count: int, option: str = '') -> str:
+    """The line of a run that serves so many connections, with one more option."""
+    return f'serve --store {store} --port {port} --count {count} {option}'.strip()
 
 
 def is_taken(port: int, got: Got) -> bool:
@@ -32,14 +32,14 @@ def is_taken(port: int, got: Got) -> bool:
     return got.status == 3 and not got.out and got.err in (b'', f'E1 {HOST}:{port}\n'.encode())
 
 
-def serve(stage: Stage, store: str, count: int,
+def serve(stage: Stage, store: str, count: int, option: str = '',
           **streams: Given) -> tuple[subprocess.Popen[bytes], int]:
     """A desk that serves so many connections: the run, which has printed that it listens, and its
     port. Cases are played side by side: where another one took the port before the desk listened on
     it, it is another port."""
     for _ in range(PORTS):
         port = free_port()
-        child = stage.begin(serving(store, port, count).split(),
+        child = stage.begin(serving(store, port, count, option).split(),
                             **streams)  # type: ignore[arg-type]
         if next(pieces_of(child.stdout), b'') == f'listening {HOST}:{port}\n'.encode():
             return child, port

@@ -3,7 +3,7 @@
 use crate::input::split;
 use crate::texts::push_bytes;
 use esc_client::{TimeBudget, TimedStream};
-use esc_desk::Desk;
+use esc_desk::{Desk, StoreFault};
 use esc_flaky::{Hands, Manner, OPEN, Peer};
 use esc_http::{ServeFault, serve_one};
 use sqlite::Alter;
@@ -16,11 +16,11 @@ use std::time::Duration;
 // Adds what came of a request, and after how many milliseconds.
 fn push_served(
     text: &mut String,
-    served: Result<(), ServeFault>,
+    served: Result<Option<StoreFault>, ServeFault>,
     clock: &Hands,
 ) -> Result<(), Fail> {
     let word = match served {
-        Ok(()) => "served",
+        Ok(_) => "served",
         Err(fault) => fault.words(),
     };
     let time = clock.time().as_millis();

@@ -7,7 +7,8 @@
 //! What goes in: words, a release manifest and bundles in files, or HTTP requests on a port. What
 //! comes out: a store in a file, which the next command opens again; on standard output counts of
 //! listed rows, the end of the chain, receipts, reports, exports or help; on standard error
-//! refusals, one a line, and with `--verbose` a second line that says why; and the status.
+//! refusals, one a line, and with `--verbose` a second line that says why (of `serve` for each
+//! request that the desk refused); and the status.
 //!
 //! | Module | Does |
 //! |---|---|

@@ -2,10 +2,11 @@
 
 use crate::run::Run;
 use esc_arguments::{Stop, or_stop};
-use esc_cli::DONE;
+use esc_cli::{DONE, Why, print_why};
 use esc_client::{TimeBudget, TimedStream, drain, is_of_connection};
-use esc_desk::Desk;
+use esc_desk::{Desk, StoreFault};
 use esc_http::{ServeFault, serve_one};
+use esc_store::Reason;
 use sqlite::Alter;
 use std::io::{Error, Write};
 use std::net::{Net, TcpListener, TcpStream};
@@ -18,7 +19,8 @@ where
 {
     /// Listens on a port of 127.0.0.1, says so, and serves so many connections one after the other:
     /// one request each. One that fails is reported, and the next is served; a client that was
-    /// waited for too long fails too. Returns the status.
+    /// waited for too long fails too. With `--verbose` it is told why the desk failed, where it did.
+    /// Returns the status.
     pub fn serve_connections<S: Alter>(
         &mut self,
         desk: &mut Desk<S>,
@@ -57,7 +59,12 @@ where
         let mut reader = TimedStream::new(self.rt, stream, TimeBudget::for_request());
         let mut writer = TimedStream::new(self.rt, stream, TimeBudget::for_response());
         match serve_one(self.rt.alloc(), desk, &mut reader, &mut writer) {
-            Ok(()) => drain(self.rt, stream),
+            Ok(refusal) => {
+                drain(self.rt, stream);
+                if let Some(fault) = refusal {
+                    self.print_cause(fault);
+                }
+            }
             Err(fault) => self.print_fault(fault),
         }
     }
@@ -66,5 +73,19 @@ where
         // A failure of standard error is ignored: there is nowhere to report it.
         let _ = self.err.write_all(fault.words().as_bytes());
         let _ = self.err.write_all(b"\n");
+        if let ServeFault::Export(cause) = fault {
+            self.print_cause(cause);
+        }
+    }
+
+    // Prints why the desk failed, if that is asked for.
+    fn print_cause(&mut self, fault: StoreFault) {
+        let why = Why {
+            command: self.asked.command,
+            path: self.asked.store,
+            cause: Reason(fault),
+        };
+        let is_told = self.asked.is_verbose;
+        let _ = print_why(self.rt.alloc(), self.err, is_told, &why);
     }
 }

@@ -9,7 +9,7 @@ use Rattle.sqlite_trees.specs.declared.store.Store.{Ghosts}
 use Rattle.httparse.specs.Grammar.{RequestHead, print_request}
 use Rattle.httparse.proofs.GrammarLemmas.{ReadsRequest-append}
 use Rattle.esc_store.specs.declared.fault.StoreFault.TheVariants.{NoMemory}
-use Rattle.esc_store.specs.StandingLaws.{survives_same, was_clean}
+use Rattle.esc_store.specs.StandingLaws.{survives_same, was_clean, as_before_then}
 use Rattle.esc_events.specs.ArrivalValue.{ArrivalValue}
 use Rattle.esc_events.specs.Events.{EventValue}
 use Rattle.esc_events.specs.Events.EventValue.{arrived}
@@ -26,7 +26,11 @@ use Rattle.esc_request.specs.PieceLaws.{awaited_after}
 use Rattle.esc_http.specs.RequestPlans.{plan_of_head}
 use Rattle.esc_request.specs.Response.{out_of_memory}
 use Rattle.esc_http.specs.Answering.{Request, refused, arrives, wants, request_with_body, Asks}
-use Rattle.esc_http.specs.Answering.{IsAnswered, IsUndecided, IsOrMemory, LeavesStill, LosesArrival}
+use Rattle.esc_http.specs.Answering.{IsAnswered, IsDoneFor, IsUndecided, IsOrMemory, LeavesStill}
+use Rattle.esc_http.specs.Answering.{LosesArrival}
+use Rattle.esc_http.specs.declared.answer.Answer.{Answer}
+use Rattle.esc_http.specs.declared.answer.Answer.TheVariants.{Text}
+use Rattle.esc_http.proofs.FaultLemmas.{answer_is}
 use Rattle.esc_http.specs.Answering.{text_or_memory}
 
 -- the text that was made, or the out-of-memory response
@@ -145,8 +149,16 @@ leaves_still g old new stays e doubtful serves left clean trees may =
       | inr none ↦ absurd none
     ]
 
+-- unchanged, and then unchanged again
+pub unchanged_then : {S : Type 0} (g : Ghosts S) (a b c : Desk S)
+    → IsUnchangedDesk g a b → IsUnchangedDesk g b c → IsUnchangedDesk g a c
+unchanged_then g a b c p q = record {
+  same = as_before_then p.same q.same;
+  serves = λ e served. q.serves e (p.serves e served);
+}
+
 module _ {S : Type 0} (g : Ghosts S) (desk : Desk S) where
-  stays_itself : IsUnchangedDesk g desk desk
+  pub stays_itself : IsUnchangedDesk g desk desk
   stays_itself = record {
     same = record {
       manifest = refl;
@@ -178,6 +190,9 @@ module _ {S : Type 0} (g : Ghosts S) (desk : Desk S) where
   )
 
   -- so it does whatever the input is
-  pub memory_answers_some : (o : Option (List ℕ)) (plan : RequestPlan) → (request : Request) × IfSome
-      o (λ rest. request ≡ request_with_body plan rest) × IsAnswered g desk desk request out_of_memory
-  memory_answers_some o plan = let (request, is) = some_request o plan in (request, is, memory_answers request)
+  pub memory_answers_some : (o : Option (List ℕ)) (plan : RequestPlan) (answer : Answer)
+      → answer ≡ Text None (Some NoMemory) → (request : Request) × IfSome
+      o (λ rest. request ≡ request_with_body plan rest) × IsDoneFor g desk desk request answer
+  memory_answers_some o plan answer is =
+      let (request, same) = some_request o plan in
+      (request, same, answer_is g desk desk request answer None None is (memory_answers request) refl)

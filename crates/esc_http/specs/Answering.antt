@@ -5,7 +5,9 @@ use Rattle.std.specs.Global.{Vec}
 use Rattle.sqlite_trees.specs.declared.store.Store.{Ghosts}
 use Rattle.httparse.specs.Grammar.{RequestHead}
 use Rattle.esc_apply.specs.declared.moves.Work.{Work}
+use Rattle.std.specs.Io.KnownBytes.{Appends}
 use Rattle.esc_store.specs.declared.fault.StoreFault.{StoreFault}
+use Rattle.esc_store.specs.declared.fault.StoreFault.TheVariants.{NoMemory}
 use Rattle.esc_store.specs.Faults.{IsFailure, IsArrivalFault}
 use Rattle.esc_store.specs.ReplyValue.{ReplyValue}
 use Rattle.esc_desk.specs.declared.desk.Desk.{Desk}
@@ -13,9 +15,12 @@ use Rattle.esc_events.specs.ArrivalValue.{ArrivalValue, an_arrival}
 use Rattle.esc_desk.specs.Calls.{ForDeskEvents, ForStoreEvents, ForEventsInDoubt, DeskLeaves}
 use Rattle.esc_desk.specs.Calls.{DeskLeavesTaken, StillReflects, IsUnchangedDesk, Answers, IsCause}
 use Rattle.esc_reports.specs.declared.catalog.Report.{Report}
+use Rattle.esc_reports.specs.declared.catalog.Report.TheVariants.{Export}
 use Rattle.esc_reports.specs.Reports.{IsReport}
 use Rattle.esc_request.specs.declared.refusal.Refusal.{Refusal}
 use Rattle.esc_request.specs.declared.refusal.Refusal.TheVariants.{BadRequest}
+use Rattle.esc_http.specs.declared.answer.Answer.{Answer}
+use Rattle.esc_http.specs.declared.answer.Answer.TheVariants.{Text, Export as Streamed}
 use Rattle.esc_http.specs.declared.request_plan.RequestPlan.{RequestPlan}
 use Rattle.esc_http.specs.declared.request_plan.RequestPlan.TheVariants.{Refuse, Put, Get}
 use Rattle.esc_request.specs.Body.{IsShorter}
@@ -23,7 +28,7 @@ use Rattle.esc_request.specs.Head.{HasHead, HasNoHead, IsUnfinished}
 use Rattle.esc_request.specs.Pieces.{Pieces, ReadsWhile}
 use Rattle.esc_http.specs.RequestPlans.{plan_of_head}
 use Rattle.esc_http.specs.Response.{fault_response, reply_response, report_response}
-use Rattle.esc_request.specs.Response.{out_of_memory, refusal_response}
+use Rattle.esc_request.specs.Response.{out_of_memory, refusal_response, unavailable}
 
 -- ---- requests
 
@@ -79,6 +84,20 @@ text_or_memory (Some text) = text.items
 abbrev pub IsOrMemory : List ℕ → List ℕ → Type 0
 IsOrMemory expected text = (text ≡ expected) ⊎ (text ≡ out_of_memory)
 
+-- the text gives this fault of the desk; where there is none, it is no 503
+abbrev pub TellsFault : Option StoreFault → List ℕ → Type 0
+TellsFault None text = (words : List ℕ) → text ≡ unavailable words → ⊥
+TellsFault (Some fault) text = text ≡ fault_response fault
+
+-- the text that was written gives this fault
+abbrev pub SendsFault : Option (List ℕ) → Option (List ℕ) → Option StoreFault → Type 0
+SendsFault old new fault = (text : List ℕ) × Appends old new text × TellsFault fault text
+
+-- the fault that is told where a text was to give this one: no memory, where there is no text
+abbrev pub told_of : Option (Vec ℕ) → Option StoreFault → Option StoreFault
+told_of None fault = Some NoMemory
+told_of (Some text) fault = fault
+
 -- no report was made, by this fault, which the text gives: the store failed (S1), or memory was
 -- refused (S2)
 pub record GivesFault (text : List ℕ) : Type 0 where
@@ -128,3 +147,10 @@ module _ {S : Type 0} (g : Ghosts S) (old new : Desk S) where
   IsAnswered (arrives a) text = TakesArrival a text ⊎ LosesArrival a text
   IsAnswered (wants report) text = IsUnchangedDesk g old new × LeavesStill
       × (GivesReport report text ⊎ GivesFault text)
+
+  -- this is what is done for the request: a response to it, which gives this fault; or an export,
+  -- which is still to be read
+  abbrev pub IsDoneFor : Request → Answer → Type 0
+  IsDoneFor request (Text text fault) =
+      IsAnswered request (text_or_memory text) × TellsFault fault (text_or_memory text)
+  IsDoneFor request (Streamed kind) = (request ≡ wants (Export kind)) × (new ≡ old)

@@ -1,4 +1,5 @@
 pub mod Answering
+pub mod Exports
 pub mod RequestPlans
 pub mod Response
 pub mod Route

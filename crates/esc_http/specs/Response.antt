@@ -10,8 +10,9 @@ use Rattle.esc_reports.specs.declared.catalog.Report.TheVariants.{Status, Gaps, 
 use Rattle.esc_reports.specs.declared.catalog.Report.TheVariants.{Parked, Moment, Export}
 use Rattle.esc_reports.specs.ReplyText.{reply_text}
 use Rattle.esc_request.specs.Response.{response, unavailable}
-use Rattle.esc_http.specs.declared.serving.ServeFault.{ServeFault}
-use Rattle.esc_http.specs.declared.serving.ServeFault.TheVariants.{Read, Write}
+use Rattle.esc_http.specs.declared.serve_fault.ServeFault.{ServeFault}
+use Rattle.esc_http.specs.declared.serve_fault.ServeFault.TheVariants.{Read, Write}
+use Rattle.esc_http.specs.declared.serve_fault.ServeFault.TheVariants.{Export as cut_export}
 
 -- a fault of the desk; an open store never returns S3
 abbrev pub fault_response : StoreFault → List ℕ
@@ -51,3 +52,4 @@ report_response report text = response (codes "200 OK") (report_media report) []
 abbrev pub serve_fault_text : ServeFault → List ℕ
 serve_fault_text Read = codes "read fault"
 serve_fault_text Write = codes "write fault"
+serve_fault_text (cut_export fault) = codes "export fault"

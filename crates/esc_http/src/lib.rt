@@ -14,7 +14,7 @@
 //! | there is one Content-Length, of digits alone | 400 |
 //! | it is at most 16,777,216 | 413 |
 //! | that many bytes follow the head; else nothing arrived | 400 |
-//! | the desk takes the arrival, or makes the report | 503 with the refusal |
+//! | the desk takes the arrival, or makes the report (of an export a part) | 503 with the refusal |
 //!
 //! The routes are `/arrivals/{number}`, `/status`, `/gaps`, `/links`, `/receipts`, `/parked`,
 //! `/moment` and `/export/{kind}`. The refusal is `S1` or `S2`, and of an arrival also `S4` or
@@ -45,9 +45,15 @@
 //! an arrival what it leaves after `Desk::arrive`, by the reply or the refusal that the text gives;
 //! after another request, what it might leave before. Where a write or a flush failed
 //! (`ServeFault::Write`), a beginning of that text was written, perhaps all of it; where a read
-//! failed (`ServeFault::Read`) nothing was written and the desk is as it was. A clause on what the
-//! store stands for has the premise that the store was honest, as in `esc_desk`; that the text is
-//! the response to a reply, a refusal or a report has none.
+//! failed (`ServeFault::Read`) nothing was written and the desk is as it was. Where the desk failed
+//! while an export was sent (`ServeFault::Export`), a beginning of the text was written, and its
+//! last byte was not (`specs/Exports.antt`, `AppendsPart`), so a client that counts them sees that.
+//! A clause on what the store stands for has the premise that the store was honest, as in
+//! `esc_desk`; that the text is the response to a reply, a refusal or a report has none. Nor has it
+//! that an export has as many bytes as its head says.
+//!
+//! At `Ok(Some(fault))` the text is 503 with that fault of the desk, and at `Ok(None)` it is no 503
+//! (`SendsFault`).
 //!
 //! The contract of [`serve_one`] speaks of readers and writers of std, whose contracts give their
 //! bytes, but not whether a call failed. [`serve_one`] is [`serve`] over these. [`serve`] takes a
@@ -60,15 +66,24 @@
 //!
 //! A body is read into one buffer of its length. Nothing is read that the response doesn't need,
 //! except what comes with the head in one piece. A response begins only when it is whole in memory,
-//! so a fault of the store is never found in the middle of one.
+//! so a fault of the store is never found in the middle of one; but for an export. Of that the
+//! lines of one object are in memory, and at most 65,536 bytes besides. Its objects are read twice:
+//! the first pass counts its bytes, for the head, and the second one sends them. Where it has
+//! another number of them, as over a disk that lies, the response is cut, or 503.
 #![tactic(auto)]
 
 mod answer;
+mod export;
+mod lines;
+mod outbox;
 mod request_plan;
 mod response;
 mod route;
+mod sending;
+mod serve_fault;
 mod serving;
 
 pub use esc_reports::{Report, report};
 pub use esc_request::{ReadFailed, Sink, Source, WriteFailed};
-pub use serving::{ServeFault, serve, serve_one};
+pub use serve_fault::ServeFault;
+pub use serving::{serve, serve_one};

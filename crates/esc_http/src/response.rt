@@ -56,7 +56,8 @@ pub(crate) fn report_response(alloc: Global, report: Report, text: &[u8]) -> Opt
     response(alloc, "200 OK", report_media(report), "", text)
 }
 
-fn report_media(report: Report) -> &'static str
+/// The media type of a report.
+pub(crate) fn report_media(report: Report) -> &'static str
     ensures { result.now ≡ report_media report }
 {
     match report {

@@ -1,88 +1,47 @@
 //! One request.
 
-ghost use Rattle.std.specs.Prelude.{◌≡◌, ℕ, List, Some, Err, IfSome, IsTrue, OnOk, OnErr};
+ghost use Rattle.std.specs.Prelude.{◌≡◌, ℕ, List, Ok, Err, IfOk, IfSome, IsTrue, OnOk, OnErr};
 ghost use Rattle.std.specs.Io.KnownBytes.{Appends, Keeps};
+ghost use Rattle.esc_envelope.specs.declared.kind.Kind.{Kind};
+ghost use Rattle.esc_store.specs.declared.fault.StoreFault.{StoreFault};
+ghost use Rattle.esc_store.specs.Faults.{IsFailure};
 ghost use Rattle.esc_desk.specs.Calls.{WasHonest};
-ghost use Rattle.esc_http.specs.declared.serving.ServeFault.TheVariants.{Read as reading};
-ghost use Rattle.esc_http.specs.declared.serving.ServeFault.TheVariants.{Write as writing};
-ghost use Rattle.esc_http.specs.Answering.{Request, Asks, IsAnswered, ReadsNoMore, text_or_memory};
-ghost use Rattle.esc_http.specs.Response.{serve_fault_text};
+ghost use Rattle.esc_reports.specs.declared.catalog.Report.TheVariants.{Export as an_export};
+ghost use Rattle.esc_http.specs.Answering.{Request, wants, Asks, IsAnswered, ReadsNoMore};
+ghost use Rattle.esc_http.specs.Answering.{SendsFault};
+ghost use Rattle.esc_http.specs.Exports.{AppendsPart};
+ghost use Rattle.esc_http.specs.Response.{report_response};
 ghost use Rattle.esc_request.specs.Sent.{AppendsBeginning};
 
-use crate::answer::answer_input;
-use esc_desk::Desk;
-use esc_request::{ReadFailed, Sink, Source, WriteFailed, out_of_memory, send};
+use crate::answer::{Answer, answer_input};
+use crate::export::serve_export;
+use crate::sending::send_answer;
+use crate::serve_fault::ServeFault;
+use esc_desk::{Desk, StoreFault};
+use esc_request::{Sink, Source};
 use sqlite::Alter;
 use std::alloc::Global;
-use std::error::Error;
-use std::fmt;
 use std::io::{Read, Write};
-
-/// Why a request was not served to its end.
-#[derive(Clone, Copy, Debug, PartialEq, Eq)]
-pub enum ServeFault {
-    /// A read failed. Nothing was written, and nothing arrived.
-    Read,
-    /// A write or a flush failed. A beginning of the response was written, perhaps all of it, and
-    /// an arrival that was taken is kept.
-    Write,
-}
-
-impl ServeFault {
-    /// Its words, as it prints.
-    pub fn words(self) -> &'static str
-        ensures { result.now ≡ serve_fault_text self }
-    {
-        match self {
-            ServeFault::Read => "read fault",
-            ServeFault::Write => "write fault",
-        }
-    }
-}
-
-impl fmt::Display for ServeFault {
-    ghost output = { λ fault. Some (serve_fault_text fault) };
-
-    fn fmt<W: fmt::Write>(&self, f: &mut fmt::Formatter<W>) -> fmt::Result {
-        f.write_str(self.words())
-    }
-}
-
-impl Error for ServeFault {}
-
-impl From<ReadFailed> for ServeFault {
-    ghost from_gives = { λ _ fault. fault ≡ reading };
-
-    fn from(_failed: ReadFailed) -> ServeFault {
-        ServeFault::Read
-    }
-}
-
-impl From<WriteFailed> for ServeFault {
-    ghost from_gives = { λ _ fault. fault ≡ writing };
-
-    fn from(_failed: WriteFailed) -> ServeFault {
-        ServeFault::Write
-    }
-}
 
 /// Reads one request, and writes the response to it.
 ///
 /// Whatever is read, the response is that to some request; if the reader reports its bytes, it is
-/// the request that they make. At `Ok` the response was handed on (flushed). A crash leaves what it
-/// might leave before, with an arrival that was taken; after `S1` or `S2` it may leave the arrival
-/// taken in.
+/// the request that they make. At `Ok` the response was handed on (flushed); `Ok` has the fault of
+/// the desk that the response gives, a 503, and `None` where it is another one. A crash leaves what
+/// it might leave before, with an arrival that was taken; after `S1` or `S2` it may leave the
+/// arrival taken in.
 pub fn serve<S: Alter, R: Source, W: Sink>(
     alloc: Global,
     desk: &mut Desk<S>,
     source: &mut R,
     sink: &mut W,
-) -> Result<(), ServeFault>
+) -> Result<Option<StoreFault>, ServeFault>
     ensures ok { OnOk result ((request : Request) × (text : List ℕ)
         × IfSome (R.remaining source.old) (λ input. Asks input request)
         × IsAnswered S.Store desk.old desk.new request text
         × Appends (W.contents sink.old) (W.contents sink.new) text) }
     ensures flushed { OnOk result (IsTrue (W.flushed sink.new)) }
+    ensures refused { IfOk result (SendsFault (W.contents sink.old) (W.contents sink.new)) }
     ensures honest { WasHonest S.Store desk.old desk.new }
     ensures unread { ReadsNoMore (R.pieces source.old) (R.pieces source.new) }
 
@@ -99,10 +58,26 @@ pub fn serve<S: Alter, R: Source, W: Sink>(
         × IfSome (R.remaining source.old) (λ input. Asks input request)
         × IsAnswered S.Store desk.old desk.new request text
         × AppendsBeginning (W.contents sink.old) (W.contents sink.new) text }
+
+    // The desk failed while an export was sent: a beginning of the response was written, and its
+    // end was not.
+    ensures export_cause { (fault : StoreFault) → result ≡ Err (ServeFault.Export fault)
+        → IsFailure fault }
+    ensures export_wrote { (fault : StoreFault) → result ≡ Err (ServeFault.Export fault)
+        → (kind : Kind) × (body : List ℕ)
+        × IfSome (R.remaining source.old) (λ input. Asks input (wants (an_export kind)))
+        × IsAnswered S.Store desk.old desk.new (wants (an_export kind))
+        (report_response (an_export kind) body)
+        × AppendsPart (W.contents sink.old) (W.contents sink.new)
+        (report_response (an_export kind) body) }
 {
-    let text = answer_input(alloc, desk, source)?;
-    send_answer(sink, &text)?;
-    Ok(())
+    match answer_input(alloc, desk, source)? {
+        Answer::Text(text, fault) => {
+            send_answer(sink, &text)?;
+            Ok(fault)
+        }
+        Answer::Export(kind) => serve_export(alloc, desk, kind, sink),
+    }
 }
 
 /// Reads one request, and writes the response to it, over a reader and a writer of std.
@@ -111,11 +86,12 @@ pub fn serve_one<S: Alter, R: Read, W: Write>(
     desk: &mut Desk<S>,
     reader: &mut R,
     writer: &mut W,
-) -> Result<(), ServeFault>
+) -> Result<Option<StoreFault>, ServeFault>
     ensures ok { OnOk result ((request : Request) × (text : List ℕ)
         × IfSome (R.remaining reader.old) (λ input. Asks input request)
         × IsAnswered S.Store desk.old desk.new request text
         × Appends (W.contents writer.old) (W.contents writer.new) text) }
+    ensures refused { IfOk result (SendsFault (W.contents writer.old) (W.contents writer.new)) }
     ensures honest { WasHonest S.Store desk.old desk.new }
 
     // A read failed: nothing was written, and nothing arrived.
@@ -129,22 +105,18 @@ pub fn serve_one<S: Alter, R: Read, W: Write>(
         × IfSome (R.remaining reader.old) (λ input. Asks input request)
         × IsAnswered S.Store desk.old desk.new request text
         × AppendsBeginning (W.contents writer.old) (W.contents writer.new) text }
+
+    // The desk failed while an export was sent: a beginning of the response was written, and its
+    // end was not.
+    ensures export_cause { (fault : StoreFault) → result ≡ Err (ServeFault.Export fault)
+        → IsFailure fault }
+    ensures export_wrote { (fault : StoreFault) → result ≡ Err (ServeFault.Export fault)
+        → (kind : Kind) × (body : List ℕ)
+        × IfSome (R.remaining reader.old) (λ input. Asks input (wants (an_export kind)))
+        × IsAnswered S.Store desk.old desk.new (wants (an_export kind))
+        (report_response (an_export kind) body)
+        × AppendsPart (W.contents writer.old) (W.contents writer.new)
+        (report_response (an_export kind) body) }
 {
     serve(alloc, desk, reader, writer)
-}
-
-// Sends the response, or the preallocated out-of-memory response.
-fn send_answer<W: Sink>(sink: &mut W, text: &Option<Vec<u8>>) -> Result<(), WriteFailed>
-    ensures ok { OnOk result (Appends (W.contents sink.old) (W.contents sink.new)
-        (text_or_memory text.now)) }
-    ensures flushed { OnOk result (IsTrue (W.flushed sink.new)) }
-    ensures err { OnErr result
-        (AppendsBeginning (W.contents sink.old) (W.contents sink.new)
-        (text_or_memory text.now)) }
-    ensures failed { OnErr result (IsTrue (W.failed sink.new)) }
-{
-    match text {
-        Some(text) => send(sink, text),
-        None => send(sink, out_of_memory()),
-    }
 }

@@ -10,6 +10,7 @@
 //! | [`body_length`] | how long the body is, by the header lines |
 //! | [`read_body`] | reads a body of this length into one buffer |
 //! | [`response`] | the text of a response |
+//! | [`response_head`] | its head alone, where the body is sent by itself |
 //! | [`refusal_response`], [`out_of_memory`] | the same of one kind |
 //! | [`send`] | writes a text to its end and flushes |
 //!
@@ -53,6 +54,6 @@ pub use body::{Body, read_body};
 pub use head::{FoundHead, MOST_HEAD_BYTES, MOST_LINES, read_head};
 pub use length::{BodyLength, MOST_BODY_BYTES, body_length};
 pub use refusal::Refusal;
-pub use responses::{out_of_memory, refusal_response, response};
+pub use responses::{out_of_memory, refusal_response, response, response_head};
 pub use sending::send;
 pub use streams::{ReadFailed, Sink, Source, WriteFailed};

@@ -56,7 +56,8 @@ pub fn response(
     Some(text)
 }
 
-fn response_head(
+/// The head of such a response, whose body has this many bytes.
+pub fn response_head(
     alloc: Global,
     status: &str,
     media: &str,

@@ -1,4 +1,4 @@
-use Rattle.std.proofs.Common.{refl, sym, subst, ap, List, ℕ}
+use Rattle.std.proofs.Common.{None, refl, sym, subst, ap, List, ℕ}
 use Rattle.std.proofs.lemmas.List.{take_rest}
 use Rattle.std.proofs.lemmas.Result.{IfOk-weaker}
 use Rattle.esc_http.specs.declared.request_plan.RequestPlan.{RequestPlan}
@@ -8,6 +8,7 @@ use Rattle.esc_http.specs.Answering.{refused, wants, request_with_body, IsUndeci
 use Rattle.esc_request.specs.Head.{HasHead}
 use Rattle.esc_request.specs.PieceLaws.{read_no_piece}
 use Rattle.esc_http.proofs.AnswerLemmas.{text_is, always, same_request, memory_answers_some, undecided}
+use Rattle.esc_http.proofs.FaultLemmas.{answer_is, not_refusal, tells_none}
 use Rattle.esc_http.proofs.answer.answer_head.Goals as goal
 
 pub returns-in-Refuse-clause-answers : goal.returns-in-Refuse-clause-answers
@@ -15,7 +16,9 @@ returns-in-Refuse-clause-answers g c = λ h at. (
   refused c.in-Refuse.refusal,
   always _ _
       (λ rest. ap (λ (p : RequestPlan). request_with_body p rest) (c.in-Refuse.ensures h at)),
-  (refl, text_is _ c.refusal_response.result c.refusal_response.ensures.text),
+  answer_is g.S.Store _ _ (refused c.in-Refuse.refusal) _ c.refusal_response.result None c.answer_with-in-Refuse.ensures
+      (refl, text_is _ c.refusal_response.result c.refusal_response.ensures.text)
+      (tells_none c.refusal_response.result _ c.refusal_response.ensures.text (not_refusal c.in-Refuse.refusal)),
 )
 
 pub returns-in-Get-clause-answers : goal.returns-in-Get-clause-answers
@@ -35,7 +38,8 @@ returns-clause-answers g c =
     )) c.answer_put.ensures.answers
 
 pub returns-in_default-clause-answers : goal.returns-in_default-clause-answers
-returns-in_default-clause-answers g c = λ h at. memory_answers_some g.S.Store c.args.desk.now _ (plan_of_head h)
+returns-in_default-clause-answers g c = λ h at.
+    memory_answers_some g.S.Store c.args.desk.now _ (plan_of_head h) _ c.answer_with.ensures
 
 pub returns-in-Refuse-clause-unread : goal.returns-in-Refuse-clause-unread
 returns-in-Refuse-clause-unread g c = (_, read_no_piece IsUndecided _ c.args.head.bytes.now)

@@ -1,4 +1,4 @@
-use Rattle.std.proofs.Common.{refl, take, inl, sym, subst, List, ℕ, []}
+use Rattle.std.proofs.Common.{None, refl, take, inl, sym, subst, List, ℕ, []}
 use Rattle.std.proofs.lemmas.Result.{IfOk-weaker}
 use Rattle.esc_request.specs.declared.refusal.Refusal.TheVariants.{BadRequest}
 use Rattle.esc_request.specs.Head.{IsUnfinished}
@@ -6,12 +6,18 @@ use Rattle.esc_request.specs.Pieces.{ReadsWhile}
 use Rattle.esc_request.specs.PieceLaws.{read_then, read_weaker}
 use Rattle.esc_http.specs.Answering.{refused, IsUndecided}
 use Rattle.esc_http.proofs.AnswerLemmas.{text_is, headless, asked}
+use Rattle.esc_http.proofs.FaultLemmas.{answer_is, not_refusal, tells_none}
 use Rattle.esc_http.proofs.answer.answer_input.Goals as goal
 
 pub returns-in-None-clause-answers : goal.returns-in-None-clause-answers
 returns-in-None-clause-answers g c =
-    let none = rw c.in-None.is at c.in_ok-found.ensures.none in
-    (refused BadRequest, headless _ none, (refl, text_is _ c.refusal_response.result c.refusal_response.ensures.text))
+    let none = rw c.in-None.is at c.in_ok-found.ensures.none in (
+      refused BadRequest,
+      headless _ none,
+      answer_is g.S.Store _ _ (refused BadRequest) _ c.refusal_response.result None c.answer_with.ensures
+          (refl, text_is _ c.refusal_response.result c.refusal_response.ensures.text)
+          (tells_none c.refusal_response.result _ c.refusal_response.ensures.text (not_refusal BadRequest)),
+    )
 
 pub returns-in-Some-clause-answers : goal.returns-in-Some-clause-answers
 returns-in-Some-clause-answers g c =
