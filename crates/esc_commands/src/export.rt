@@ -44,8 +44,8 @@ fn read_objects<R: Reads>(
 ) -> Result<(), StoreFault> {
     let place = reader.start_walk(alloc, Some(kind))?;
     let mut walk = Walk::new(reader, place);
-    progress.begin(kind.name(), "objects", walk.left());
-    let mut watched = Watched::new(&mut walk, progress);
+    progress.begin(walk.left());
+    let mut watched = Watched::new(&mut walk, progress, kind.name());
     read_all(&mut watched)
 }
 

@@ -47,7 +47,7 @@ impl<N, O: Write, E: Write> Run<'_, N, O, E> {
         self.progress
             .begin("take", "files", Some(names.len() as u64));
         for (count, name) in names.iter().enumerate() {
-            self.progress.tell_read(count as u64);
+            self.progress.tell_read("take", count as u64, "files");
             are_held &= self.take_file(desk, folder, name.as_str())?;
         }
         Ok(are_held)

@@ -25,7 +25,7 @@ pub fn read_layouts<O: Objects>(
     kind: Kind,
     progress: &mut Progress<'_>,
 ) -> Result<Vec<Layout>, StreamFault<O::Error>> {
-    let mut watched = Watched::new(objects, progress);
+    let mut watched = Watched::new(objects, progress, kind.name());
     layouts_of(alloc, &mut watched, kind)
 }
 
@@ -42,7 +42,7 @@ pub fn read_survey<O: Objects>(
         → O.lists objects.old es
         → IsSurveyOf es surveyed.survey × IsCoverageOf es surveyed.coverage) }
 {
-    let mut watched = Watched::new(objects, progress);
+    let mut watched = Watched::new(objects, progress, "fields");
     survey_from(alloc, &mut watched)
 }
 
@@ -61,6 +61,6 @@ pub fn read_flaws<O: Objects>(
         → (rule : Rule) → keys_by found rule
         ≡ flaws rule (option_map (λ t. t.now) registry.now.tld) es) }
 {
-    let mut watched = Watched::new(objects, progress);
+    let mut watched = Watched::new(objects, progress, "rules");
     flaws_from(alloc, &mut watched, registry)
 }

@@ -64,7 +64,7 @@ pub fn read_lengths<O>(
 where
     O: Objects<Error = StoreFault>,
 {
-    let mut watched = Watched::new(objects, progress);
+    let mut watched = Watched::new(objects, progress, "series");
     Ok(cut_objects(alloc, &mut watched)?)
 }
 

@@ -61,7 +61,7 @@ impl<'a> SeriesFolder<'a> {
         let made = self.folder.create_folder(DEPOSITS);
         or_stop(self.rt, self.place, made)?;
         let (alloc, series, place) = (self.rt.alloc(), self.series, self.place);
-        let mut watched = Watched::new(objects, progress);
+        let mut watched = Watched::new(objects, progress, "bundles");
         match write_series(alloc, series, lengths, &mut watched, self) {
             Ok(()) => self.write_manifest(),
             Err(SeriesFault::Source(fault)) => Err(Stop::Store(fault)),

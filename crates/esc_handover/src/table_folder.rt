@@ -2,6 +2,7 @@
 
 use crate::stop::{Stop, or_stop};
 use esc_apply::Objects;
+use esc_envelope::Kind;
 use esc_progress::{Progress, Watched};
 use esc_store::StoreFault;
 use esc_table_files::{
@@ -50,13 +51,14 @@ impl<'a> TableFolder<'a> {
     pub fn write_tables<O>(
         &mut self,
         objects: &mut O,
+        kind: Kind,
         layouts: &[Layout],
         progress: &mut Progress<'_>,
     ) -> Result<(), Stop>
     where
         O: Objects<Error = StoreFault>,
     {
-        let written = write_files(&mut self.folder, objects, layouts, progress);
+        let written = write_files(&mut self.folder, objects, kind, layouts, progress);
         self.or_stop_writing(written)?;
         tell_files(self.rt.alloc(), layouts, progress)
     }
@@ -77,7 +79,7 @@ impl<'a> TableFolder<'a> {
     where
         O: Objects<Error = StoreFault>,
     {
-        let mut watched = Watched::new(objects, progress);
+        let mut watched = Watched::new(objects, progress, REGISTRY);
         self.or_stop_writing(database.add_tables(self.rt.alloc(), &mut watched, layouts))
     }
 
@@ -158,9 +160,10 @@ fn tell_files(alloc: Global, layouts: &[Layout], progress: &mut Progress<'_>) ->
 fn write_files<O: Objects>(
     folder: &mut NewFolder<'_>,
     objects: &mut O,
+    kind: Kind,
     layouts: &[Layout],
     progress: &mut Progress<'_>,
 ) -> Result<(), WritingFault<O::Error>> {
-    let mut watched = Watched::new(objects, progress);
+    let mut watched = Watched::new(objects, progress, kind.name());
     write_table_files(folder, &mut watched, layouts)
 }

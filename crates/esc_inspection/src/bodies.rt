@@ -74,9 +74,9 @@ pub(crate) fn read_bodies<R: Reads>(
     ensures cause { IfErr result IsFailure }
 {
     let mut bodies = Bodies::new(alloc);
-    progress.begin("bodies", "bodies", Some(held.len() as u64));
+    progress.begin(Some(held.len() as u64));
     for (count, row) in held.iter().enumerate() {
-        progress.tell_read(count as u64);
+        progress.tell_read("bodies", count as u64, "bodies");
         read_held(alloc, reader, *row, &mut bodies)?;
     }
     Ok(bodies)

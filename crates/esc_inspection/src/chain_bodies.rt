@@ -76,9 +76,9 @@ fn read_rows<R: Lookup>(
     let facts = ChainFacts::new(alloc);
     let comparison = Comparison::new(alloc, index.count())?;
     let mut bodies = LastBodies { facts, comparison };
-    progress.begin("tables", "bodies", Some(rows.len() as u64));
+    progress.begin(Some(rows.len() as u64));
     for count in 0..rows.len() {
-        progress.tell_read(count as u64);
+        progress.tell_read("tables", count as u64, "bodies");
         let row = rows[rows.len() - 1 - count];
         read_row(alloc, reader, index, row, &mut bodies)?;
     }

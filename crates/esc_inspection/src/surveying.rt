@@ -72,7 +72,7 @@ fn surveyed<R: Reads>(
 {
     let place = reader.start_walk(alloc, None)?;
     let mut walk = Walk::new(reader, place);
-    progress.begin("fields", "objects", walk.left());
+    progress.begin(walk.left());
     match read_survey(alloc, &mut walk, progress) {
         Ok(surveyed) if !walk.has_failed() => Ok(surveyed),
         Ok(_) => Err(StoreFault::Failed(Cause::WalkEnded)),
@@ -96,7 +96,7 @@ fn flaws_by<R: Reads>(
 {
     let place = reader.start_walk(alloc, None)?;
     let mut walk = Walk::new(reader, place);
-    progress.begin("rules", "objects", walk.left());
+    progress.begin(walk.left());
     match read_flaws(alloc, &mut walk, registry, progress) {
         Ok(flaws) if !walk.has_failed() => Ok(flaws),
         Ok(_) => Err(StoreFault::Failed(Cause::WalkEnded)),

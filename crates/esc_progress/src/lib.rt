@@ -16,8 +16,8 @@
 //!
 //! ```text
 //! let mut progress = Progress::new(rt, is_asked);
-//! progress.begin("findings", "objects", walk.left());
-//! let mut watched = Watched::new(&mut walk, &mut progress);
+//! progress.begin(walk.left());
+//! let mut watched = Watched::new(&mut walk, &mut progress, "findings");
 //! let found = verify_from(alloc, &mut watched, watermark, &counts)?;
 //! ```
 //!

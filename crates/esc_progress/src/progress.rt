@@ -16,27 +16,9 @@ pub struct Progress<'a> {
     rt: Option<&'a HostRuntime>,
     // When the last line was told, or when it began.
     told: Option<Instant>,
-    part: Part,
-}
-
-// The things that are read, for a file, a kind or a test of this name: how many there are, if that
-// is known, and when their reading began.
-#[derive(Clone, Copy)]
-struct Part {
-    name: &'static str,
-    things: &'static str,
-    total: Option<u64>,
+    // When the reading of these things began, and how many there are, if that is known.
     begun: Option<Instant>,
-}
-
-impl Part {
-    // Before anything is read.
-    const NONE: Part = Part {
-        name: "",
-        things: "",
-        total: None,
-        begun: None,
-    };
+    total: Option<u64>,
 }
 
 impl<'a> Progress<'a> {
@@ -48,7 +30,8 @@ impl<'a> Progress<'a> {
         Progress {
             rt: Some(rt),
             told: Instant::now(rt).ok(),
-            part: Part::NONE,
+            begun: None,
+            total: None,
         }
     }
 
@@ -57,7 +40,8 @@ impl<'a> Progress<'a> {
         Progress {
             rt: None,
             told: None,
-            part: Part::NONE,
+            begun: None,
+            total: None,
         }
     }
 
@@ -77,36 +61,25 @@ impl<'a> Progress<'a> {
         }
     }
 
-    /// From now on these things are read, for a file, a kind or a test of this name: so many in
-    /// all, if that is known.
-    pub fn begin(&mut self, name: &'static str, things: &'static str, total: Option<u64>) {
-        let begun = self.rt.and_then(|rt| Instant::now(rt).ok());
-        self.part = Part {
-            name,
-            things,
-            total,
-            begun,
-        };
+    /// Other things are read from now on: so many in all, if that is known.
+    pub fn begin(&mut self, total: Option<u64>) {
+        self.begun = self.rt.and_then(|rt| Instant::now(rt).ok());
+        self.total = total;
     }
 
-    /// Tells how many of them were read, unless a line was told shortly before.
-    pub fn tell_read(&mut self, count: u64) {
+    /// Tells how many of these things were read for a file, a kind or a test of this name, unless a
+    /// line was told shortly before.
+    pub fn tell_read(&mut self, name: &str, count: u64, things: &str) {
         let Some(rt) = self.rt else {
             return;
         };
         if !self.is_due(rt) {
             return;
         }
-        let Part {
-            name,
-            things,
-            total,
-            begun,
-        } = self.part;
-        let line = match total {
+        let line = match self.total {
             None => format!(in rt.alloc(); "{name}: {count} {things} read\n"),
             Some(total) => {
-                let rest = Rest(seconds_left(rt, begun, count, total));
+                let rest = Rest(seconds_left(rt, self.begun, count, total));
                 format!(in rt.alloc(); "{name}: {count} of {total} {things} read{rest}\n")
             }
         };

@@ -15,20 +15,27 @@ const STEP: u64 = 1_024;
 pub struct Watched<'o, 'p, 'a, O> {
     objects: &'o mut O,
     progress: &'p mut Progress<'a>,
+    name: &'p str,
     count: u64,
 }
 
 impl<'o, 'p, 'a, O> Watched<'o, 'p, 'a, O> {
     ghost use Rattle.esc_progress.specs.Watching.{watched_in, borrowed_as};
 
-    /// These objects, whose reading has begun ([`Progress::begin`]).
-    pub fn new(objects: &'o mut O, progress: &'p mut Progress<'a>) -> Watched<'o, 'p, 'a, O>
+    /// These objects, which are read for a file, a kind or a test of this name. Their reading has
+    /// begun ([`Progress::begin`]).
+    pub fn new(
+        objects: &'o mut O,
+        progress: &'p mut Progress<'a>,
+        name: &'p str,
+    ) -> Watched<'o, 'p, 'a, O>
         ensures same_reference { borrowed_as result ≡ objects.entry.ghost_name }
         ensures same { watched_in result ≡ objects.old }
     {
         Watched {
             objects,
             progress,
+            name,
             count: 0,
         }
     }
@@ -55,7 +62,7 @@ impl<O: Objects> Objects for Watched<'_, '_, '_, O> {
     fn next(&mut self) -> Result<Option<(Key, Object)>, O::Error> {
         self.count = self.count.saturating_add(1);
         if self.count % STEP == 0 {
-            self.progress.tell_read(self.count);
+            self.progress.tell_read(self.name, self.count, "objects");
         }
         self.objects.next()
     }
@@ -85,6 +92,7 @@ impl<O> Drop for Watched<'_, '_, '_, O> {
         let Watched {
             objects: _,
             progress: _,
+            name: _,
             count: _,
         } = self;
     }

@@ -61,7 +61,7 @@ fn findings<R: Reads>(
     tables_are_of_events();
     let place = reader.start_walk(alloc, None)?;
     let mut walk = Walk::new(reader, place);
-    progress.begin("findings", "objects", walk.left());
+    progress.begin(walk.left());
     match read_findings(alloc, &mut walk, end.watermark, &end.counts, progress) {
         Ok(findings) if !walk.has_failed() => Ok(findings),
         Ok(_) => Err(StoreFault::Failed(Cause::WalkEnded)),
@@ -86,6 +86,6 @@ fn read_findings<O: Objects>(
         → (f : FindingValue) → Contains found.items f ↔ IsFinding
         (content_of_entries es) watermark counts.now.entries f) }
 {
-    let mut watched = Watched::new(objects, progress);
+    let mut watched = Watched::new(objects, progress, "findings");
     verify_from(alloc, &mut watched, watermark, counts)
 }

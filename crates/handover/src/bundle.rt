@@ -64,7 +64,7 @@ fn lengths_of<R: Reads>(
     progress: &mut Progress<'_>,
 ) -> Result<Vec<usize>, Stop> {
     let mut walk = walk(alloc, reader, None)?;
-    progress.begin("series", "objects", walk.left());
+    progress.begin(walk.left());
     read_lengths(alloc, &mut walk, progress)
 }
 
@@ -77,7 +77,7 @@ fn fill<R: Reads>(
     progress: &mut Progress<'_>,
 ) -> Result<(), Stop> {
     let mut walk = walk(alloc, reader, None)?;
-    progress.begin("bundles", "objects", walk.left());
+    progress.begin(walk.left());
     folder.write(lengths, &mut walk, progress)
 }
 

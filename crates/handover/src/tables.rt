@@ -6,7 +6,7 @@ use esc_desk::Reads;
 use esc_envelope::Kind;
 use esc_handover::{Answer, Stop, TableFolder, read_layouts};
 use esc_progress::Progress;
-use esc_table_files::{Layout, REGISTRY, check_database, check_layouts, check_loadable};
+use esc_table_files::{Layout, check_database, check_layouts, check_loadable};
 use std::alloc::Global;
 
 /// The words of the command: the folder, and whether a database and the statements for PostgreSQL
@@ -61,7 +61,7 @@ fn read_kinds<R: Reads>(
     let mut kinds = Vec::new(alloc);
     for kind in Kind::ALL {
         let mut walk = walk(alloc, reader, Some(kind))?;
-        progress.begin(kind.name(), "objects", walk.left());
+        progress.begin(walk.left());
         let layouts = read_layouts(alloc, &mut walk, kind, progress)?;
         kinds.push(KindTables { kind, layouts })?;
     }
@@ -115,8 +115,8 @@ fn write_files<R: Reads>(
     let alloc = words.rt.alloc();
     for tables in kinds {
         let mut walk = walk(alloc, reader, Some(tables.kind))?;
-        progress.begin(tables.kind.name(), "objects", walk.left());
-        folder.write_tables(&mut walk, &tables.layouts, progress)?;
+        progress.begin(walk.left());
+        folder.write_tables(&mut walk, tables.kind, &tables.layouts, progress)?;
     }
     if words.has_script {
         let layouts = all_layouts(alloc, kinds)?;
@@ -139,7 +139,7 @@ fn write_database<R: Reads>(
     let mut database = folder.create_database()?;
     for tables in kinds {
         let mut walk = walk(alloc, reader, Some(tables.kind))?;
-        progress.begin(REGISTRY, "objects", walk.left());
+        progress.begin(walk.left());
         folder.add_tables(&mut database, &mut walk, &tables.layouts, progress)?;
     }
     folder.finish_database(database, progress)

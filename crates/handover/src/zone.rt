@@ -154,7 +154,7 @@ fn check_tables<R: Reads>(
     let mut layouts = Vec::new(alloc);
     for kind in [Kind::Host, Kind::Domain, Kind::Nndn] {
         let mut walk = walk(alloc, reader, Some(kind))?;
-        progress.begin(kind.name(), "objects", walk.left());
+        progress.begin(walk.left());
         let read = read_layouts(alloc, &mut walk, kind, progress);
         layouts.append(&mut read.map_err(Stop::from)?)?;
     }
