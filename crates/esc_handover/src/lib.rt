@@ -36,10 +36,10 @@
 //!
 //! Of what touches files, a store or standard error it is proved that no call is unsafe and that
 //! each ends: no contract can say what a file holds or what is printed, so that is tested on the
-//! built program. So it is with `files`, `series_folder`, `stop` and `table_folder`, with
-//! `registry_bundle` but for `check_object_count`, with `read_layouts`, and with what is below `page`
-//! but for `axis`, `findings`, `group`, `objects`, `part` and `share`. The other calls that read are
-//! exact: what is told on the way changes nothing.
+//! built program. So it is with `files`, `registry_bundle`, `series_folder`, `stop` and
+//! `table_folder`, with `read_layouts`, and with what is below `page` but for `axis`, `findings`,
+//! `group`, `objects`, `part` and `share`. The other calls that read are exact: what is told on the
+//! way changes nothing.
 #![tactic(auto)]
 
 mod answer;

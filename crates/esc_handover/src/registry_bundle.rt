@@ -1,9 +1,5 @@
 //! A registry as the bundle or the series that was asked for, or what stops that.
 
-ghost use Rattle.std.specs.Prelude.{◌≡◌, ◌↔◌, ◌≤◌, IsOk};
-ghost use Rattle.std.specs.List.{sum_by};
-ghost use Rattle.esc_apply.specs.Registry.{saturated};
-
 use crate::stop::Stop;
 use esc_apply::Objects;
 use esc_bundle::Refusal;
@@ -21,25 +17,15 @@ pub fn check_object_count(
     alloc: Global,
     objects: &BTreeMap<Kind, u64>,
     path: &str,
-) -> Result<(), Stop>
-    ensures { IsOk result ↔ (sum_by (λ c. c.1) objects.now.entries ≤ MOST_ROWS) }
-{
-    if object_count(objects) > MOST_ROWS as u64 {
+) -> Result<(), Stop> {
+    let count = objects
+        .values()
+        .fold(0u64, |count, number| count.saturating_add(*number));
+    if count > MOST_ROWS as u64 {
         let refusal = BundleRefusal::Refused(Refusal::TooManyRows);
         return Err(Stop::unbundled(alloc, refusal, path));
     }
     Ok(())
-}
-
-// How many objects there are; 2^64 - 1 also stands for more.
-fn object_count(objects: &BTreeMap<Kind, u64>) -> u64
-    ensures { result ≡ saturated (sum_by (λ c. c.1) objects.now.entries) }
-{
-    let mut total = 0u64;
-    for (_, count) in objects.iter() {
-        total = total.saturating_add(*count);
-    }
-    total
 }
 
 /// The bundle of these objects ([`bundle_of`]), or the stop of one at this path.
