@@ -44,8 +44,7 @@ impl<N, O: Write, E: Write> Run<'_, N, O, E> {
         names: &[String],
     ) -> Result<bool, Stop> {
         let mut are_held = true;
-        self.progress
-            .begin("take", "files", Some(names.len() as u64));
+        self.progress.begin(Some(names.len() as u64));
         for (count, name) in names.iter().enumerate() {
             self.progress.tell_read("take", count as u64, "files");
             are_held &= self.take_file(desk, folder, name.as_str())?;
