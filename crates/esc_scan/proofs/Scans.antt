@@ -55,33 +55,6 @@ read_more IsRead rows old new vs v h next = record {
   read = one_more IsRead h.given vs next.0 v h.read next.2;
 }
 
--- a scan of these rows has read these values that pass, of those rows that it has given
-abbrev pub HasReadIf : {V : Type 0} → (Row → V → Type 0) → (V → Bool) → List Row → View → List V → Type 0
-HasReadIf {V} IsRead passes rows now found =
-    (all : List V) × HasRead IsRead rows now all × (found ≡ filter passes all)
-
--- one more row was read
-pub read_more_if : {V : Type 0} (IsRead : Row → V → Type 0) (passes : V → Bool)
-    (rows : List Row) (old new : View) (found more : List V) (v : V) → HasReadIf IsRead passes rows old found
-    → more ≡ found ++ filter passes (v ∷ [])
-    → ReadsNext IsRead old new (Some v) → HasReadIf IsRead passes rows new more
-read_more_if IsRead passes rows old new found more v h grown next = (
-  h.0 ++ v ∷ [],
-  read_more IsRead rows old new h.0 v h.1 next,
-  grown ∙ ap (λ l. l ++ filter passes (v ∷ [])) h.2 ∙ sym (filter-append passes h.0 (v ∷ [])),
-)
-
--- no row is left
-pub read_all_if : {V : Type 0} (IsRead : Row → V → Type 0) (passes : V → Bool)
-    (rows : List Row) (old new : View) (found : List V) → HasReadIf IsRead passes rows old found
-    → ReadsNext IsRead old new None → AreReadIf IsRead passes rows found
-read_all_if IsRead passes rows old new found h next = (
-  h.0,
-  subst (λ l. AreRead IsRead l h.0)
-      (sym (append-nil h.1.given) ∙ ap (λ l. h.1.given ++ l) (sym next.0) ∙ h.1.whole) h.1.read,
-  h.2,
-)
-
 -- the first of the rows left
 pub first_read : {V : Type 0} (IsRead : Row → V → Type 0)
     (rows : List Row) (old new : View) (found : Option V)

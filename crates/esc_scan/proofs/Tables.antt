@@ -53,24 +53,3 @@ module _ {S : Type 0} (g : Ghosts S) (t : StoreTable) {V X F : Type 0} (shown : 
             → HoldsRows (g.view old).trees c → map shown (items all) ≡ rows_of c t)
             (λ all says c shows. says c shows ∙ map-id (rows_of c t)) (scan.said clean);
       }
-
-module _ {S : Type 0} (g : Ghosts S) (t : StoreTable) {V E X F : Type 0} (shown : V → E)
-    (passes : E → Bool) (result : Result X F) (items : X → List V) (old new : S) where
-  -- what is told of each row that passes
-  pub scanned_if : (told : RowOf t → E) → IfOk result (λ found. IsClean (g.view new)
-      → AreReadIf (ReadsRow t shown told) (λ v. passes (shown v))
-      ((g.view old).trees (tree_of t)) (items found))
-      → OnOk result (IsClean (g.view new) → OnlyCursors (g.view old) (g.view new))
-      → IsQuiet g.view g.faults g.recovers g.is_shielded old new
-      → IsScan g old new (λ c found. map shown (items found) ≡ filter passes (map told (rows_of c t))) result
-  scanned_if told reads only quiet = record {
-    quiet = quiet;
-    only = λ clean. IfOk-weaker result _ _ (λ _ h. h clean) only;
-    said = λ clean. IfOk-weaker result _ (λ found. (c : Content)
-        → HoldsRows (g.view old).trees c → map shown (items found) ≡ filter passes (map told (rows_of c t)))
-        (λ found read c shows.
-        let r = read clean in
-        let all = reads_rows t shown told (rows_of c t) r.0 (subst (λ rows. AreRead
-        (ReadsRow t shown told) rows r.0) (shows.tables t) r.1) in
-        ap (map shown) r.2 ∙ sym (filter-map passes shown r.0) ∙ ap (filter passes) all) reads;
-  }

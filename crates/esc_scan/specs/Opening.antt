@@ -11,28 +11,34 @@ use Rattle.sqlite_value.specs.Order.{Row, column}
 use Rattle.sqlite_trees.specs.Tree.{Trees}
 use Rattle.sqlite_trees.specs.View.{IsClean}
 use Rattle.sqlite_store.specs.declared.catalog.Wanted.{Wanted}
+use Rattle.sqlite_store.specs.Catalog.{reals_at}
 use Rattle.sqlite_store.specs.declared.store.open.Unopened.{Unopened}
 use Rattle.sqlite_store.specs.FileStore.{view, IsReady}
 use Rattle.sqlite_store.specs.Listing.{file_trees, IsOurs}
 use Rattle.sqlite_store.specs.Unopened.{state_of, image, Shows}
 use Rattle.sqlite.specs.Opening.{HoldsAt}
 use Rattle.sqlite.specs.Files.{HoldsDatabase, NamesSize, image_of}
-use Rattle.esc_sql.specs.Schema.{info_table}
+use Rattle.esc_sql.specs.Schema.{info_table, object_keys}
 use Rattle.esc_sql.specs.StoreTable.{StoreTable, schema_table}
-use Rattle.esc_sql.specs.Content.{Content, HoldsRows, AreStoreTrees}
-use Rattle.esc_scan.specs.Reads.{HasTable}
+use Rattle.esc_sql.specs.Content.{Content, AreStoreTrees}
+use Rattle.esc_scan.specs.KeyIndex.{ShowsStore}
+use Rattle.esc_scan.specs.Reads.{HasTable, HasIndex}
 use Rattle.esc_scan.specs.declared.opening.Opened.{Opened}
 use Rattle.esc_scan.specs.declared.opening.Opened.TheVariants as opened
 
--- the schema that the files are opened with has the nine tables of a store
+-- the schema that the files are opened with has the nine tables of a store, and the index of the
+-- objects' keys
 pub record HasTables (ours : List Wanted) : Type 0 where
   pub info : HasTable ours info_table
   pub tables : (t : StoreTable) → HasTable ours (schema_table t)
+  pub keys : HasIndex ours object_keys
+  pub no_reals : reals_at ours object_keys.tree ≡ 0
 
--- where the files hold a store with this content, the trees are those of version 2 with its rows
+-- where the files hold a store with this content, the trees are those of version 2 with its rows,
+-- and have its index of keys
 abbrev pub ReadsStoreAt : ℕ → Image → Trees → Type 0
 ReadsStoreAt size image trees =
-    (db : Trees) (c : Content) → HoldsAt size image db → AreStoreTrees db c → HoldsRows trees c
+    (db : Trees) (c : Content) → HoldsAt size image db → AreStoreTrees db c → ShowsStore trees db c
 
 -- the trees are what the files recover to in pages of this length, by this list of tables and
 -- indexes, which is the one that the files keep
@@ -72,11 +78,11 @@ abbrev pub IsPlain : ℕ → Image → Type 0
 IsPlain n image =
     (db : Trees) (held : HoldsDatabase image db) → stored_size held.0 ≡ n → held.0 ≡ n
 
--- where the files hold a store with this content, the trees are those of version 2 with its rows
+-- the same in pages of the length that the files have
 abbrev pub ReadsStore : Image → Trees → Type 0
 ReadsStore image trees =
     (db : Trees) (c : Content) → ∥ HoldsDatabase image db ∥₁ → AreStoreTrees db c
-    → HoldsRows trees c
+    → ShowsStore trees db c
 
 -- what database the old files held, the new ones hold
 abbrev pub IsHeldBy : Image → Image → Type 0

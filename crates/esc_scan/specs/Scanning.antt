@@ -1,10 +1,9 @@
 -- What a scan of a table gives, and what a read by scans says of a store's content.
 use Rattle.std.specs.Prelude.{◌≡◌, Bool, true, false, List, [], ◌∷◌, Option, Some, None, Result}
-use Rattle.std.specs.Prelude.{IfOk, unwrap_or, filter}
+use Rattle.std.specs.Prelude.{IfOk, unwrap_or}
 use Rattle.sqlite_value.specs.Order.{Row}
 use Rattle.sqlite_trees.specs.View.{View, IsClean, IsQuiet}
 use Rattle.sqlite_trees.specs.declared.store.Store.{Ghosts}
-use Rattle.esc_sql.specs.Reading.{AreRead}
 use Rattle.esc_sql.specs.StoreTable.{StoreTable, RowOf, stored_row}
 use Rattle.esc_sql.specs.Content.{Content, HoldsRows}
 
@@ -36,11 +35,6 @@ ReadsFirst IsRead rows (Some v) = (row : Row) × (rest : List Row) × (rows ≡ 
 abbrev pub ReadsRow : (t : StoreTable) → {V E : Type 0} → (V → E) → (RowOf t → E) → Row → V
     → Type 0
 ReadsRow t shown told row v = (r : RowOf t) → row ≡ stored_row t r → shown v ≡ told r
-
--- of the values that rows are read as, those that pass
-abbrev pub AreReadIf : {V : Type 0} → (Row → V → Type 0) → (V → Bool) → List Row → List V → Type 0
-AreReadIf {V} IsRead passes rows found = (all : List V) × AreRead IsRead rows all
-    × (found ≡ filter passes all)
 
 -- A read by scans. Where it succeeds, and the disk has answered truly, `Says` holds of the result
 -- and of the content of which the trees are the rows, and nothing but cursors has moved. However it

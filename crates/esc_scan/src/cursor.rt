@@ -1,13 +1,13 @@
 //! A cursor at a table.
 
-ghost use Rattle.std.specs.Prelude.{◌≡◌, ◌∷◌, [], ◌++◌, filter, IfOk, OnOk, IsSome};
+ghost use Rattle.std.specs.Prelude.{◌≡◌, filter, IfOk, OnOk, IsSome};
 ghost use Rattle.sqlite_trees.specs.View.{IsClean, IsQuiet};
-ghost use Rattle.sqlite_trees.specs.Tree.{has_rowid};
+ghost use Rattle.sqlite_value.specs.Keys.{plain};
+ghost use Rattle.sqlite_trees.specs.Tree.{from_key, has_rowid, IsIndex};
 ghost use Rattle.esc_sql.specs.Reading.{AreRead};
 ghost use Rattle.esc_scan.specs.Scanning.{OnlyCursors, GivesNext, ReadsNext, ReadsFirst, left_of};
-ghost use Rattle.esc_scan.specs.Scanning.{AreReadIf};
 
-use crate::rows::{Choice, FromEntry, ScanError};
+use crate::rows::{FromEntry, ScanError};
 use sqlite_trees::error::StoreError;
 use sqlite_trees::store::{Direction, Shape, Store};
 use sqlite_value::row::Row;
@@ -30,6 +30,26 @@ impl<'a, S: Store> Scan<'a, S> {
         ensures same { scanned_store result ≡ store.old }
     {
         Scan { store }
+    }
+
+    /// Begins at the index with this tree's number: its entries are left that are not below `key`.
+    pub fn start_at(&mut self, tree: u32, key: &Row) -> Result<(), StoreError>
+        requires { IsClean (S.Store.view (scanned_store self.old))
+            → (S.Store.view (scanned_store self.old)).shape tree ≡ Shape.Index plain }
+        ensures same_reference { scan_name self.new ≡ scan_name self.old }
+        ensures live { OnOk result (IsSome ((S.Store.view (scanned_store self.new)).cursors 0)) }
+        ensures ordered { OnOk result (IsClean (S.Store.view (scanned_store self.new))
+            → IsIndex plain ((S.Store.view (scanned_store self.old)).trees tree)) }
+        ensures left { OnOk result (IsClean (S.Store.view (scanned_store self.new))
+            → left_of (S.Store.view (scanned_store self.new))
+            ≡ from_key plain key.now ((S.Store.view (scanned_store self.old)).trees tree)) }
+        ensures only { OnOk result (IsClean (S.Store.view (scanned_store self.new))
+            → OnlyCursors (S.Store.view (scanned_store self.old))
+            (S.Store.view (scanned_store self.new))) }
+        ensures quiet { IsQuiet S.Store.view S.Store.faults S.Store.recovers
+            S.Store.is_shielded (scanned_store self.old) (scanned_store self.new) }
+    {
+        self.store.seek(0, tree, key, Direction::Forward)
     }
 
     /// Begins at the table with this tree's number: all of its rows are left. Another table may
@@ -114,51 +134,6 @@ pub fn read_all<S: Store, T: FromEntry>(
         match scan.next_value(alloc, &mut row)? {
             Some(value) => all.push(value)?,
             None => return Ok(all),
-        }
-    }
-    // No sound store has this many rows.
-    Err(ScanError::Store(StoreError::OutOfMemory))
-}
-
-// Adds a value, if it is kept.
-fn add_chosen<T: Drop, C: Choice<T>>(
-    all: &mut Vec<T>,
-    choice: &C,
-    value: T,
-) -> Result<(), ScanError>
-    ensures { OnOk result (all.new.items
-        ≡ all.old.items ++ filter (C.Choice.is_chosen choice.now) (value ∷ [])) }
-{
-    if choice.keeps(&value) {
-        all.push(value)?;
-    }
-    Ok(())
-}
-
-/// The values that are kept, of all rows of the table with this tree's number as values, in the
-/// order of their rowids. The rows are read one at a time, and no other value is in memory.
-pub fn read_chosen<S: Store, T: FromEntry, C: Choice<T>>(
-    alloc: Global,
-    store: &mut S,
-    tree: u32,
-    choice: &C,
-) -> Result<Vec<T>, ScanError>
-    ensures reads { IfOk result (λ found. IsClean (S.Store.view store.new)
-        → AreReadIf T.FromEntry.is_read (C.Choice.is_chosen choice.now)
-        ((S.Store.view store.old).trees tree) found.items) }
-    ensures only { OnOk result (IsClean (S.Store.view store.new)
-        → OnlyCursors (S.Store.view store.old) (S.Store.view store.new)) }
-    ensures quiet { IsQuiet S.Store.view S.Store.faults S.Store.recovers S.Store.is_shielded
-        store.old store.new }
-{
-    let mut scan = Scan::new(store);
-    scan.start(alloc, tree)?;
-    let mut row = Row::new(alloc);
-    let mut found = Vec::new(alloc);
-    for _ in 0..u64::MAX {
-        match scan.next_value(alloc, &mut row)? {
-            Some(value) => add_chosen(&mut found, choice, value)?,
-            None => return Ok(found),
         }
     }
     // No sound store has this many rows.

@@ -55,6 +55,7 @@ pub mod listed;
 pub mod moment;
 pub mod object;
 pub mod opening;
+pub mod page;
 pub mod parked;
 pub mod receipt;
 pub mod rows;

@@ -1,6 +1,6 @@
 //! Rows of tables as values.
 
-ghost use Rattle.std.specs.Prelude.{◌≡◌, ℕ, Bool, List, length, IfOk, IfErr};
+ghost use Rattle.std.specs.Prelude.{◌≡◌, ℕ, List, length, IfOk, IfErr};
 ghost use Rattle.sqlite_value.specs.declared.value.Value.TheVariants.{Blob};
 ghost use Rattle.sqlite_value.specs.Order.{Row as Entry, column};
 
@@ -60,15 +60,6 @@ pub trait FromEntry: Drop {
     /// Reads a row. `Foreign` where it is none of its table.
     fn from_entry(alloc: Global, row: &Row) -> Result<Self, ScanError>
         ensures { IfOk result (λ value. is_read row.now value) };
-}
-
-/// Which of the values that are read from a table are kept.
-pub trait Choice<T> {
-    ghost is_chosen: { Self → T → Bool };
-
-    /// Whether a value is kept.
-    fn keeps(&self, value: &T) -> bool
-        ensures { result ≡ is_chosen self.now value.now };
 }
 
 /// The value in a column, with the rowid as column 0. `Foreign` where it is not of this type.

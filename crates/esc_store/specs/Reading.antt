@@ -6,7 +6,8 @@ use Rattle.sqlite_trees.specs.Tree.{Trees}
 use Rattle.sqlite_trees.specs.View.{View, IsClean, IsQuiet}
 use Rattle.sqlite_trees.specs.declared.error.StoreError.TheVariants.{OutOfMemory}
 use Rattle.esc_manifest.specs.declared.row.MRow.{MRow}
-use Rattle.esc_sql.specs.Content.{content_in, HoldsRows}
+use Rattle.esc_sql.specs.Content.{content_in}
+use Rattle.esc_scan.specs.KeyIndex.{ShowsStore}
 use Rattle.esc_scan.specs.Versions.{version_in}
 use Rattle.esc_scan.specs.declared.parked.ParkedSize.{ParkedSize}
 use Rattle.esc_scan.specs.declared.rows.ScanError.{ScanError}
@@ -23,11 +24,12 @@ use Rattle.esc_store.specs.StoreTables.{IsStore}
 abbrev pub AreOfVersion : Trees → Type 0
 AreOfVersion trees = version_in trees ≡ Some (Int (pos 2))
 
--- trees are read as a store that keeps k: each is the rows of a table of such a store
+-- trees are read as a store that keeps k: each is the rows of a table of such a store, and one is
+-- its index of keys
 pub record AreReadAs (trees : Trees) (k : StoreState) : Type 0 where
   pub store : Trees
   pub kept : IsStore store k
-  pub rows : HoldsRows trees (content_in store)
+  pub shows : ShowsStore trees store (content_in store)
 
 -- the trees of a reader
 abbrev pub trees_of : {S : Type 0} → StoreReader S → S

@@ -22,7 +22,7 @@ unfolding IsStore
 are_read_as image trees db k reads held kept = record {
   store = db;
   kept = kept;
-  rows = reads db (content_in db) held kept.tables;
+  shows = reads db (content_in db) held kept.tables;
 }
 
 -- trees that are honest after a call to which nothing is committed were honest before it

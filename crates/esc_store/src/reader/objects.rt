@@ -1,30 +1,31 @@
 //! What a reader returns of the chain's tables by key, one object at a time.
 
-ghost use Rattle.std.specs.Prelude.{◌≡◌, Some, filter, map, option_map, IfOk, IfErr};
-ghost use Rattle.esc_sql.specs.StoreTable.{Objects};
+ghost use Rattle.std.specs.Prelude.{◌≡◌, Some, map, option_map, IfOk, IfErr, IsPermutation, IsTrue};
 ghost use Rattle.esc_sql.specs.Entries.{stored_entry};
+ghost use Rattle.esc_scan.specs.KeyIndex.{AreShaped, HasKeys, ReadsKey};
 ghost use Rattle.esc_scan.specs.ObjectKeys.{key_of_object};
-ghost use Rattle.esc_scan.specs.Scanning.{ReadsRow, IsScan};
+ghost use Rattle.esc_scan.specs.Scanning.{IsScan};
 ghost use Rattle.esc_envelope.specs.Kinds.{kind_rank};
 ghost use Rattle.esc_store.specs.Faults.{IsFailure};
 ghost use Rattle.esc_store.specs.StoreState.{StoreState};
-ghost use Rattle.esc_store.specs.Reading.{IsHonestReader, IsReadOnly, ReaderRepresents};
-ghost use Rattle.esc_store.specs.Pages.{entry_row, record_row};
-ghost use Rattle.esc_store.specs.TableKeys.{AreKeysOf, is_key_wanted, key_at, numbered_key};
-ghost use Rattle.esc_store.specs.TableKeys.{wanted_of};
+ghost use Rattle.esc_store.specs.Reading.{IsHonestReader, IsReadOnly, ReaderRepresents, trees_of};
+ghost use Rattle.esc_store.specs.Pages.{IsPage, entry_row, record_row};
+ghost use Rattle.esc_store.specs.TableKeys.{AreKeysOf, key_at, numbered_key};
 
 use crate::cause::{Cause, Table};
-use crate::codec::object::{kind_number, kind_of, record_object};
+use crate::codec::object::{entries_of, kind_number, kind_of, record_object};
 use crate::fault::StoreFault;
 use crate::reader::StoreReader;
 use esc_envelope::Kind;
 use esc_record::no_record_begins_another;
-use esc_scan::cursor::read_chosen;
+use esc_scan::cursor::read_all;
 use esc_scan::object::{OBJECT_TREE, find_object};
-use esc_scan::rows::{Choice, FromEntry, ScanError, value_at};
+use esc_scan::page::{KEY_TREE, objects_from};
+use esc_scan::rows::{FromEntry, ScanError, value_at};
 use esc_sql::object::StoredObject;
 use esc_tables::{Key, Object};
 use sqlite_trees::store::{Shape, Store};
+use sqlite_value::keys::Order;
 use sqlite_value::row::Row;
 use std::alloc::Global;
 
@@ -44,48 +45,62 @@ impl TableKey {
     }
 }
 
-// The key's text stays where the row's bytes were read to: of a million objects each byte counts.
+// The key's text stays where the entry's bytes were read to: of a million objects each byte counts.
 impl FromEntry for TableKey {
-    ghost is_read = { ReadsRow Objects numbered_key key_of_object };
+    ghost is_read = { ReadsKey numbered_key key_of_object };
 
     fn from_entry(alloc: Global, row: &Row) -> Result<TableKey, ScanError> {
         Ok(TableKey {
-            key: read_key(value_at(alloc, row, 1)?, value_at(alloc, row, 2)?)?,
-            rowid: value_at(alloc, row, 0)?,
+            key: read_key(value_at(alloc, row, 0)?, value_at(alloc, row, 1)?)?,
+            rowid: value_at(alloc, row, 2)?,
         })
     }
 }
 
-/// Keys of one kind, or (`None`) all.
-#[derive(Drop)]
-struct OfKind {
-    kind: Option<Kind>,
-}
-
-impl Choice<TableKey> for OfKind {
-    ghost is_chosen = { λ it key. is_key_wanted it.kind (numbered_key key) };
-
-    fn keeps(&self, value: &TableKey) -> bool {
-        match self.kind {
-            Some(kind) => kind_number(value.key.kind) == kind_number(kind),
-            None => true,
-        }
-    }
-}
-
 impl<S: Store> StoreReader<S> {
-    /// The keys of the objects of one kind or (`None`) of all, in their order. Each object is read,
-    /// one at a time, and no record is kept. `S1`, `S2`.
+    // Whether the trees of the objects and of their keys have the shapes of a store.
+    fn is_shaped(&self) -> bool
+        ensures { IsTrue result → AreShaped (S.Store.view (trees_of self.now)) }
+    {
+        self.trees.shape(OBJECT_TREE) == Shape::Table
+            && self.trees.shape(KEY_TREE) == Shape::Index(Order::PLAIN)
+    }
+
+    /// A page: the first objects of a kind whose keys are not below these bytes, in the order of
+    /// keys, at most 256. It is empty only if there is no such object. No other object is read.
+    /// `S1`, also where the trees have no table of objects or no index of their keys; `S2`.
+    #[tactic(auto, using(crate::proofs::Readers::read_only, crate::proofs::Readers::unread))]
+    pub fn objects_from(
+        &mut self,
+        alloc: Global,
+        kind: Kind,
+        from: &[u8],
+    ) -> Result<Vec<(Key, Object)>, StoreFault>
+        ensures same { IsReadOnly S.Store self.old self.new result }
+        ensures page { IsHonestReader S.Store self.new → (k : StoreState)
+            → ReaderRepresents S.Store self.old k
+            → IfOk result (λ page. IsPage k.registry.content kind from.now page.items) }
+        ensures cause { IfErr result IsFailure }
+    {
+        no_record_begins_another();
+        if !self.is_shaped() {
+            return Err(StoreFault::Failed(Cause::ForeignRow(Table::Object)));
+        }
+        let stored = objects_from(alloc, &mut self.trees, kind_number(kind), from)?;
+        entries_of(alloc, stored.as_slice())
+    }
+
+    /// The keys of the objects, in their order. They are read of the index of keys, and no object
+    /// is. `S1`, `S2`.
     #[tactic(auto, using(crate::proofs::Readers::read_only))]
-    pub fn keys(&mut self, alloc: Global, kind: Option<Kind>) -> Result<Vec<TableKey>, StoreFault>
+    pub fn keys(&mut self, alloc: Global) -> Result<Vec<TableKey>, StoreFault>
         ensures same { IsReadOnly S.Store self.old self.new result }
         ensures keys { IsHonestReader S.Store self.new → (k : StoreState)
             → ReaderRepresents S.Store self.old k
-            → IfOk result (λ keys. AreKeysOf (wanted_of kind k.registry.content)
-            (map key_at keys.items)) }
+            → IfOk result (λ keys. AreKeysOf k.registry.content (map key_at keys.items)) }
         ensures cause { IfErr result IsFailure }
     {
-        let mut keys = stored_keys(alloc, &mut self.trees, kind)?;
+        let mut keys = stored_keys(alloc, &mut self.trees)?;
         keys.sort_unstable();
         Ok(keys)
     }
@@ -119,16 +134,13 @@ fn read_key(kind: u32, text: Vec<u8>) -> Result<Key, ScanError>
     }
 }
 
-// The keys of one kind or (`None`) of all, in the order of rowids. No other key is kept.
-fn stored_keys<S: Store>(
-    alloc: Global,
-    trees: &mut S,
-    kind: Option<Kind>,
-) -> Result<Vec<TableKey>, ScanError>
-    ensures read { IsScan S.Store trees.old trees.new (λ c keys. map numbered_key keys.items
-        ≡ filter (is_key_wanted kind) (map key_of_object c.objects)) result }
+// The keys, as the index has them.
+fn stored_keys<S: Store>(alloc: Global, trees: &mut S) -> Result<Vec<TableKey>, ScanError>
+    ensures read { IsScan S.Store trees.old trees.new (λ c keys.
+        HasKeys (S.Store.view trees.old).trees c
+        → IsPermutation (map key_of_object c.objects) (map numbered_key keys.items)) result }
 {
-    read_chosen(alloc, trees, OBJECT_TREE, &OfKind { kind })
+    read_all(alloc, trees, KEY_TREE)
 }
 
 // The object of this key in a row. `S1` where there is no row, or it is of another key, or it is no
