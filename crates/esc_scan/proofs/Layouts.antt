@@ -98,8 +98,23 @@ module _ (ours : List Wanted) (listed : List Row) (numbered : AreNumbered listed
   has_table Parked = let it = is_table 13 (omega arith) refl in record { low = omega arith; shape = it.0; reals = it.1 }
   has_table Moment = let it = is_table 15 (omega arith) refl in record { low = omega arith; shape = it.0; reals = it.1 }
 
+  is_index : (t : ℕ) → t < 16 → get_or layouts t none ≡ index
+      → (shape_at ours t ≡ Index plain) × (reals_at ours t ≡ 0)
+  is_index t low is =
+      let told = tells t low in
+      let code = (is_listed ours).shapes t (omega arith) (omega arith)
+      ∙ told.0 ∙ ap (λ (l : Layout). shape_code l.0) is in
+      let shape = sym (named_shape t (omega arith) ours) ∙ same_code (all_shapes ours t) (Index plain) code in
+      let reals = (is_listed ours).columns t (omega arith) (omega arith) ∙ told.1 ∙ ap (λ (l : Layout). l.1) is in (
+        shape,
+        sym (ap (λ s. reals_if_present s (reals_at ours t)) shape)
+            ∙ sym (named_reals t (omega arith) ours) ∙ reals,
+      )
+
   pub has_tables : HasTables ours
   has_tables = record {
+    keys = let it = is_index 10 (omega arith) refl in record { low = omega arith; shape = it.0 };
+    no_reals = (is_index 10 (omega arith) refl).1;
     info = let it = is_table 0 (omega arith) refl in record { low = omega arith; shape = it.0; reals = it.1 };
     tables = has_table;
   }

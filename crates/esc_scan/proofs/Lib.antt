@@ -1,4 +1,5 @@
 pub mod Scans
+pub mod KeyPages
 pub mod Tables
 pub mod Firsts
 pub mod ReadLaws

@@ -86,8 +86,11 @@ pub opened_from : {D : Type 0} {g : Ghosts D} (size : ℕ) (image : Image) → N
     → HoldsOnlyAt size image → (it : Opened D g) → IsOpeningAt size image it → IsOpeningOf image it
 opened_from size image names only (opened.Trees store) at = (
   λ db c held is. record {
-    info = ∥∥₁_elim held (rows_set _ _) (λ h. (at.0 db c (only db h).1 is).info);
-    tables = λ t. ∥∥₁_elim held (rows_set _ _) (λ h. (at.0 db c (only db h).1 is).tables t);
+    rows = record {
+      info = ∥∥₁_elim held (rows_set _ _) (λ h. (at.0 db c (only db h).1 is).rows.info);
+      tables = λ t. ∥∥₁_elim held (rows_set _ _) (λ h. (at.0 db c (only db h).1 is).rows.tables t);
+    };
+    keys = ∥∥₁_elim held (rows_set _ _) (λ h. (at.0 db c (only db h).1 is).keys);
   },
   (size, names, at.1),
 )

@@ -1,15 +1,18 @@
 -- How a cursor moves, and what has been read on its way.
 use Rattle.std.proofs.Common.{◌≡◌, ℕ, List, [], ◌∷◌, ◌++◌, Option, Some, None, refl, sym, ap}
-use Rattle.std.proofs.Common.{◌∙◌, Bool, filter, subst, append-nil}
-use Rattle.std.proofs.lemmas.List.Elements.{filter-append}
-use Rattle.std.proofs.lemmas.List.{append_assoc}
+use Rattle.std.proofs.Common.{◌∙◌, ◌≢◌, ◌≤◌, ◌⊎◌, inl, inr, ℤ, map, length, subst, ap₂}
+use Rattle.std.specs.List.{AllByRecursion}
+use Rattle.std.proofs.lemmas.List.{append_assoc, map-append, length-map}
 use Rattle.sqlite_value.specs.Order.{Row}
 use Rattle.sqlite_value.specs.declared.keys.Order.{Order}
 use Rattle.sqlite_trees.specs.Tree.{from_key, sought}
 use Rattle.sqlite_trees.specs.declared.store.Direction.TheVariants.{Forward}
 use Rattle.sqlite_trees.specs.View.{View, with_cursor}
 use Rattle.esc_sql.specs.Reading.{AreRead}
-use Rattle.esc_scan.specs.Scanning.{left_of, OnlyCursors, ReadsNext, ReadsFirst, AreReadIf}
+use Rattle.esc_scan.specs.declared.page.KeyEntry.{KeyEntry}
+use Rattle.esc_scan.specs.KeyIndex.{AreFirstOf, EndsKind, GivesOfKind, ReadsKey, entry_of_object}
+use Rattle.esc_scan.specs.KeyIndex.{entry_read}
+use Rattle.esc_scan.specs.Scanning.{left_of, OnlyCursors, ReadsNext, ReadsFirst}
 
 -- from no key on, each row comes
 from_all : (o : Order) (rows : List Row) → from_key o [] rows ≡ rows
@@ -61,3 +64,64 @@ pub first_read : {V : Type 0} (IsRead : Row → V → Type 0)
     → left_of old ≡ rows → ReadsNext IsRead old new found → ReadsFirst IsRead rows found
 first_read IsRead rows old new None is next = sym is ∙ next.0
 first_read IsRead rows old new (Some v) is next = (next.0, left_of new, sym is ∙ next.1, next.2)
+
+-- ---- the first entries of a kind
+
+-- a scan of these entries has read these rowids of those that it has given, each of this kind
+pub record HasFirst (kind : ℕ) (rows : List Row) (now : View) (ids : List ℤ) : Type 0 where
+  pub read : List KeyEntry
+  pub has : HasRead (ReadsKey entry_read entry_of_object) rows now read
+  pub of_kind : AllByRecursion (λ (it : KeyEntry). it.kind ≡ kind) read
+  pub told : ids ≡ map (λ (it : KeyEntry). it.rowid) read
+
+all_more : {X : Type 0} (P : X → Type 0) (xs : List X) (x : X) → AllByRecursion P xs → P x
+    → AllByRecursion P (xs ++ x ∷ [])
+all_more P [] x all last = (last, tt)
+all_more P (y ∷ xs) x all last = (all.0, all_more P xs x all.1 last)
+
+-- at the start
+pub first_none : (kind : ℕ) (rows : List Row) (now : View) → left_of now ≡ rows
+    → HasFirst kind rows now []
+first_none kind rows now left = record {
+  read = [];
+  has = record { given = []; whole = left; read = tt };
+  of_kind = tt;
+  told = refl;
+}
+
+-- one more entry of the kind
+pub first_more : (kind : ℕ) (rows : List Row) (old new : View) (ids : List ℤ) (id : ℤ)
+    → HasFirst kind rows old ids → GivesOfKind kind old new (Some id) → HasFirst kind rows new (ids ++ id ∷ [])
+first_more kind rows old new ids id h (it, next, same, is) = record {
+  read = h.read ++ it ∷ [];
+  has = read_more (ReadsKey entry_read entry_of_object) rows old new h.read it h.has next;
+  of_kind = all_more (λ (e : KeyEntry). e.kind ≡ kind) h.read it h.of_kind same;
+  told = ap₂ (λ (l : List ℤ) (i : ℤ). l ++ i ∷ []) h.told (sym is)
+      ∙ sym (map-append (λ (e : KeyEntry). e.rowid) h.read (it ∷ []));
+}
+
+-- where the scan ends
+pub first_ends : (kind : ℕ) (rows : List Row) (now : View) (ids : List ℤ) → HasFirst kind rows now ids
+    → length ids ≤ 256 → (length ids ≡ 256) ⊎ EndsKind kind (left_of now) → AreFirstOf kind rows ids
+first_ends kind rows now ids h few ends = record {
+  few = few;
+  given = h.has.given;
+  rest = left_of now;
+  whole = sym h.has.whole;
+  read = h.read;
+  are = h.has.read;
+  of_kind = h.of_kind;
+  told = h.told;
+  ends = elim ends [
+    | inl full ↦ inl (sym (length-map h.read (λ (e : KeyEntry). e.rowid)) ∙ sym (ap length h.told) ∙ full)
+    | inr other ↦ inr other
+  ];
+}
+
+-- the next entry, by whether it is of the kind
+pub given_of_kind : (kind : ℕ) (old new : View) (found : Option KeyEntry)
+    → ReadsNext (ReadsKey entry_read entry_of_object) old new found
+    → ((it : KeyEntry) → found ≡ Some it → it.kind ≢ kind) → GivesOfKind kind old new None
+given_of_kind kind old new None next other = subst (EndsKind kind) (sym next.0) tt
+given_of_kind kind old new (Some it) next other =
+    subst (EndsKind kind) (sym next.1) (it, next.2, other it refl)

@@ -1,15 +1,14 @@
 -- All rows of a table, read one by one.
-use Rattle.std.proofs.Common.{◌≡◌, List, [], ◌∷◌, map, filter, Bool, Result, IfOk, OnOk}
-use Rattle.std.proofs.Common.{refl, sym, ap, ap₂, subst, ◌∙◌}
+use Rattle.std.proofs.Common.{◌≡◌, List, [], ◌∷◌, map, Result, IfOk, OnOk}
+use Rattle.std.proofs.Common.{refl, ap₂, subst, ◌∙◌}
 use Rattle.std.proofs.lemmas.List.{map-id}
 use Rattle.std.proofs.lemmas.Result.{IfOk-weaker}
-use Rattle.sqlite_keyed.proofs.ListLemmas.{filter-map}
 use Rattle.sqlite_trees.specs.View.{IsClean, IsQuiet}
 use Rattle.sqlite_trees.specs.declared.store.Store.{Ghosts}
 use Rattle.esc_sql.specs.Reading.{AreRead}
 use Rattle.esc_sql.specs.StoreTable.{StoreTable, RowOf, tree_of, stored_row}
 use Rattle.esc_sql.specs.Content.{Content, HoldsRows, rows_of}
-use Rattle.esc_scan.specs.Scanning.{OnlyCursors, ReadsRow, AreReadIf, IsScan}
+use Rattle.esc_scan.specs.Scanning.{OnlyCursors, ReadsRow, IsScan}
 
 reads_rows : (t : StoreTable) {V E : Type 0} (shown : V → E)
     (told : RowOf t → E) (rs : List (RowOf t)) (vs : List V)

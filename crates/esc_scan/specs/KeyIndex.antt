@@ -1,5 +1,6 @@
 -- The index of the objects' keys, and what is read of it.
-use Rattle.std.specs.Prelude.{◌≡◌, ◌≢◌, ◌⊎◌, ◌++◌, ⊤, ℕ, ℤ, pos, List, [], ◌∷◌, map, length}
+use Rattle.std.specs.Prelude.{◌≡◌, ◌≢◌, ◌⊎◌, ◌++◌, ◌≤◌, ⊤, ℕ, ℤ, pos, List, [], ◌∷◌, map, length}
+use Rattle.std.specs.Prelude.{Option, Some, None}
 use Rattle.std.specs.List.{AllByRecursion}
 use Rattle.sqlite_value.specs.declared.value.Value.TheVariants.{Int, Blob}
 use Rattle.sqlite_value.specs.Order.{Row}
@@ -12,6 +13,7 @@ use Rattle.esc_sql.specs.Schema.{object_keys}
 use Rattle.esc_sql.specs.StoreTable.{Objects, tree_of}
 use Rattle.esc_sql.specs.Reading.{AreRead}
 use Rattle.esc_sql.specs.Content.{Content, AreStoreTrees, HoldsRows}
+use Rattle.esc_scan.specs.Scanning.{left_of, ReadsNext}
 use Rattle.esc_scan.specs.declared.page.KeyEntry.{KeyEntry}
 
 -- the trees hold the rows of a store with this content, and the index of keys that the store has
@@ -47,7 +49,15 @@ entry_of_object o = (o.kind, pos o.id)
 -- no entry follows, or one of another kind
 abbrev pub EndsKind : ℕ → List Row → Type 0
 EndsKind kind [] = ⊤
-EndsKind kind (row ∷ rows) = (it : KeyEntry) × ReadsKey entry_read entry_of_object row it × (it.kind ≢ kind)
+EndsKind kind (row ∷ rows) =
+    (it : KeyEntry) × ReadsKey entry_read entry_of_object row it × (it.kind ≢ kind)
+
+-- the scan gives the rowid of the next entry, if that is of the kind
+abbrev pub GivesOfKind : ℕ → View → View → Option ℤ → Type 0
+GivesOfKind kind old new None = EndsKind kind (left_of old)
+GivesOfKind kind old new (Some id) =
+    (it : KeyEntry) × ReadsNext (ReadsKey entry_read entry_of_object) old new (Some it)
+    × (it.kind ≡ kind) × (it.rowid ≡ id)
 
 -- these are the rowids of the first 256 of these entries, up to the first of another kind
 pub record AreFirstOf (kind : ℕ) (entries : List Row) (ids : List ℤ) : Type 0 where
@@ -58,4 +68,5 @@ pub record AreFirstOf (kind : ℕ) (entries : List Row) (ids : List ℤ) : Type 
   pub are : AreRead (ReadsKey entry_read entry_of_object) given read
   pub of_kind : AllByRecursion (λ (it : KeyEntry). it.kind ≡ kind) read
   pub told : ids ≡ map (λ (it : KeyEntry). it.rowid) read
+  pub few : length ids ≤ 256
   pub ends : (length read ≡ 256) ⊎ EndsKind kind rest

@@ -1,4 +1,4 @@
-//! Reads of a store's tables without SQL: row by row, in the order of rowids.
+//! Reads of a store's tables without SQL: row by row, in the order of rowids or of keys.
 //!
 //! # What it is for
 //!
@@ -10,9 +10,12 @@
 //!
 //! In: a store of trees of any kind (`S: Store`). Out: `esc_sql`'s rows as Rust values (`Receipt`,
 //! `Listed`, `ChainStep`, `StoredObject`), or a part of a row where the rest isn't asked for
-//! (`HeldIndex`, `ParkedSize`, `ObjectKind`, `ReceiptNumber`); and `read_all` and `read_chosen`,
-//! for values of the caller's own, all or those of a `Choice`. A failure is a `ScanError`: the
-//! store's, out of memory among them, or a row that is none of its table.
+//! (`HeldIndex`, `ParkedSize`, `ObjectKind`, `ReceiptNumber`); and `read_all`, for values of the
+//! caller's own. A failure is a `ScanError`: the store's, out of memory among them, or a row that
+//! is none of its table.
+//!
+//! The objects also come in the order of their keys, a page at a time (`objects_from`): a cursor at
+//! the index of keys gives rowids, and each object is read by its rowid.
 //!
 //! | Module | What it has |
 //! |---|---|
@@ -20,6 +23,7 @@
 //! | `rows` | how a row is read as a value |
 //! | `version`, `listed`, `receipt`, `held` | reads of each of these tables |
 //! | `step`, `object`, `parked`, `moment` | reads of each of the others |
+//! | `page` | the objects of a kind from a key on, by the index of their keys |
 //! | `opening` | the trees of a store's two files, without an audit of their rows |
 //!
 //! # An example
@@ -43,8 +47,10 @@
 //!   cursors has moved. In every case nothing is committed, and a crash leaves nothing new.
 //! - `open_trees` gives what the files read as, whatever they hold (`AreTreesOf`): the trees of the
 //!   pages that they recover to, by the tables and indexes that they list. Where the files hold a
-//!   store, its rows are in the trees (`ReadsStore`). Where they are given back, they hold what they
-//!   held (`IsHeldBy`).
+//!   store, the trees have its rows and its index of keys (`ReadsStore`). Where they are given back,
+//!   they hold what they held (`IsHeldBy`).
+//! - A read of that index has one more premise, `HasKeys`: the trees have the index of some store
+//!   with this content. So an entry stands for one object, and none is missing.
 //! - A scan's clauses speak of the rows that its cursor has left (`left_of`): all of the tree's at
 //!   the start, and at each step all but the first of those before.
 #![tactic(auto)]

@@ -1,16 +1,17 @@
 //! Pages of the table of objects, by the index of their keys.
 
-ghost use Rattle.std.specs.Prelude.{◌≡◌, ◌∷◌, [], pos, Some, map, IfOk, OnOk};
+ghost use Rattle.std.specs.Prelude.{◌≡◌, ◌∷◌, [], pos, Some, map, IfOk, OnOk, IsSome};
 ghost use Rattle.sqlite_value.specs.declared.value.Value.TheVariants.{Int, Blob};
 ghost use Rattle.sqlite_value.specs.Keys.{plain};
 ghost use Rattle.sqlite_trees.specs.Tree.{from_key, IsIndex};
 ghost use Rattle.sqlite_trees.specs.View.{IsClean, IsQuiet};
 ghost use Rattle.esc_sql.specs.Changes.{ListsFrom};
 ghost use Rattle.esc_sql.specs.Entries.{stored_entry};
-ghost use Rattle.esc_scan.specs.KeyIndex.{AreFirstOf, AreShaped, HasKeys, ReadsKey, entry_of_object};
-ghost use Rattle.esc_scan.specs.KeyIndex.{entry_read};
+ghost use Rattle.esc_scan.specs.KeyIndex.{AreFirstOf, AreShaped, GivesOfKind, HasKeys, ReadsKey};
+ghost use Rattle.esc_scan.specs.KeyIndex.{entry_of_object, entry_read};
+ghost use Rattle.esc_scan.specs.ScannedStore.{scan_name, scanned_store};
 ghost use Rattle.esc_scan.specs.ObjectKeys.{object_with};
-ghost use Rattle.esc_scan.specs.Scanning.{IsScan, OnlyCursors};
+ghost use Rattle.esc_scan.specs.Scanning.{IsScan, OnlyCursors, left_of};
 
 use crate::cursor::Scan;
 use crate::object::find_object;
@@ -83,15 +84,60 @@ fn rowids_from<S: Store>(
     let key = key_from(alloc, kind, from)?;
     let mut scan = Scan::new(store);
     scan.start_at(KEY_TREE, &key)?;
+    let rowids = read_rowids(alloc, &mut scan, kind)?;
+    Ok(rowids)
+}
+
+// The rowids of the first of the entries left, up to one of another kind.
+fn read_rowids<S: Store>(
+    alloc: Global,
+    scan: &mut Scan<'_, S>,
+    kind: u32,
+) -> Result<Vec<i64>, ScanError>
+    requires { IsSome ((S.Store.view (scanned_store scan.old)).cursors 0) }
+    ensures same_reference { scan_name scan.new ≡ scan_name scan.old }
+    ensures rowids { IfOk result (λ rowids. IsClean (S.Store.view (scanned_store scan.new))
+        → AreFirstOf kind (left_of (S.Store.view (scanned_store scan.old))) rowids.items) }
+    ensures only { OnOk result (IsClean (S.Store.view (scanned_store scan.new))
+        → OnlyCursors (S.Store.view (scanned_store scan.old))
+        (S.Store.view (scanned_store scan.new))) }
+    ensures quiet { IsQuiet S.Store.view S.Store.faults S.Store.recovers
+        S.Store.is_shielded (scanned_store scan.old) (scanned_store scan.new) }
+{
     let mut row = Row::new(alloc);
     let mut rowids = Vec::new(alloc);
     for _ in 0..MOST_ON_PAGE {
-        match scan.next_value::<KeyEntry>(alloc, &mut row)? {
-            Some(entry) if entry.kind == kind => rowids.push(entry.rowid)?,
-            _ => return Ok(rowids),
+        match next_of(alloc, scan, &mut row, kind)? {
+            Some(rowid) => rowids.push(rowid)?,
+            None => return Ok(rowids),
         }
     }
     Ok(rowids)
+}
+
+// The rowid of the next entry, if there is one and it is of this kind.
+fn next_of<S: Store>(
+    alloc: Global,
+    scan: &mut Scan<'_, S>,
+    row: &mut Row,
+    kind: u32,
+) -> Result<Option<i64>, ScanError>
+    requires { IsSome ((S.Store.view (scanned_store scan.old)).cursors 0) }
+    ensures same_reference { scan_name scan.new ≡ scan_name scan.old }
+    ensures live { OnOk result (IsSome ((S.Store.view (scanned_store scan.new)).cursors 0)) }
+    ensures next { IfOk result (λ found. IsClean (S.Store.view (scanned_store scan.new))
+        → GivesOfKind kind (S.Store.view (scanned_store scan.old))
+        (S.Store.view (scanned_store scan.new)) found) }
+    ensures only { OnOk result (IsClean (S.Store.view (scanned_store scan.new))
+        → OnlyCursors (S.Store.view (scanned_store scan.old))
+        (S.Store.view (scanned_store scan.new))) }
+    ensures quiet { IsQuiet S.Store.view S.Store.faults S.Store.recovers
+        S.Store.is_shielded (scanned_store scan.old) (scanned_store scan.new) }
+{
+    match scan.next_value::<KeyEntry>(alloc, row)? {
+        Some(entry) if entry.kind == kind => Ok(Some(entry.rowid)),
+        _ => Ok(None),
+    }
 }
 
 // What the entries of a kind from a key on are not below.

@@ -10,4 +10,4 @@ returns-in-Ok-clause-found g c =
 pub returns-in-Ok-clause-reads : goal.returns-in-Ok-clause-reads
 returns-in-Ok-clause-reads g c =
     λ now. reads_store (state_of c.args.files).page_size (image c.args.files) (wanted_by c.args.files)
-    (view c.in-Ok.store).trees (c.in-Ok.ensures.tables now) c.requires.tables
+    (view c.in-Ok.store).trees (c.in-Ok.ensures.tables now) (c.in-Ok.ensures.indexes now) c.requires.tables
