@@ -10,7 +10,7 @@ use Rattle.std.specs.Ordering.{nat_cmp, ordering_then, ordering_reverse, is_ge}
 use Rattle.std.proofs.lemmas.Bool.Decides.{nat_tests}
 use Rattle.std.proofs.Common.{◌≤◌, ◌<ℤ◌, append-nil}
 use Rattle.std.proofs.lemmas.Int.{ints}
-use Rattle.std.proofs.lemmas.List.{length-map, take_all}
+use Rattle.std.proofs.lemmas.List.{take_all}
 use Rattle.std.proofs.lemmas.List.Elements.{filter-append}
 use Rattle.std.proofs.Math.Seq.{take-append_seam}
 use Rattle.std.proofs.lemmas.List.Sorted.{IsPermutation-map, IsPermutation-sym}
@@ -20,6 +20,7 @@ use Rattle.sqlite_value.specs.Order.{Row}
 use Rattle.sqlite_value.specs.Keys.{plain, entry_cmp, prefix_cmp}
 use Rattle.sqlite_value.proofs.KeyLemmas.{entry_cmp-plain, entry_cmp_total, first_key-plain}
 use Rattle.sqlite_value.proofs.OrderLemmas.{value_cmp-Int, value_cmp-Blob}
+use Rattle.sqlite_sql.specs.Catalog.{entry_of}
 use Rattle.sqlite_trees.specs.Tree.{Trees, IsAscending, IsIndex, from_key}
 use Rattle.sqlite_trees.proofs.TreeLemmas.{from_key-filter, sorted_index}
 use Rattle.sqlite_keyed.specs.Keyed.{IsKeyedBy, get_by}
@@ -31,7 +32,7 @@ use Rattle.sqlite_keyed.proofs.SortLemmas.{sorted_unique, IsPermutation-sort_by}
 use Rattle.sqlite.specs.Effect.{Database}
 use Rattle.esc_sql.specs.Rows.{ObjectRow, object_number}
 use Rattle.esc_sql.specs.Schema.{store_schema, object_keys}
-use Rattle.esc_sql.specs.StoreTable.{Objects}
+use Rattle.esc_sql.specs.StoreTable.{Objects, stored_row}
 use Rattle.esc_sql.specs.Content.{Content, HoldsContent, AreStoreTrees}
 use Rattle.esc_sql.specs.Changes.{ListsFrom, ObjectEntry, by_key, is_kind_from, object_entry}
 use Rattle.esc_sql.specs.Reading.{AreRead}
@@ -39,10 +40,8 @@ use Rattle.esc_sql.proofs.Finds.{filter-and}
 use Rattle.esc_sql.proofs.ObjectLemmas.{object_keys as keys_apart}
 use Rattle.esc_sql.proofs.ObjectLists.{key_total, lists_from}
 use Rattle.esc_sql.proofs.Sorts.{all-sorted, all-take, all_passed, number_cmp, rises-sorted, key_eq}
-use Rattle.esc_scan.specs.KeyIndex.{HasKeys, ReadsKey, key_entry, entry_read, entry_of_object, EndsKind}
-use Rattle.esc_scan.specs.KeyIndex.{AreFirstOf}
+use Rattle.esc_scan.specs.KeyIndex.{AreFirstOf, EndsKind, HasKeys, IsKeyRead, key_entry}
 use Rattle.esc_scan.specs.ObjectKeys.{object_with}
-use Rattle.esc_scan.specs.KeyLaws.{entries_of_objects}
 use Rattle.esc_scan.specs.declared.page.KeyEntry.{KeyEntry}
 
 -- ---- lists that rise are sorted
@@ -96,6 +95,19 @@ database_of store = record { schema = store_schema; trees = store }
 abbrev pub holds_store : (store : Trees) (c : Content) → AreStoreTrees store c → HoldsContent (database_of store) c
 holds_store store c st = record { schema_is = refl; store = st }
 
+-- the index has an entry for each object
+entries_of_objects : (trees : Trees) (c : Content) → HasKeys trees c
+    → IsPermutation (map key_entry c.objects) (trees object_keys.tree)
+entries_of_objects trees c (store, st, same) =
+    let index : IsPermutation (map (entry_of (1 ∷ 2 ∷ [])) (store 9)) (store 10) =
+    st.sound.obeys.indexed.1.1.1.1.0 in
+    let rows : map (entry_of (1 ∷ 2 ∷ [])) (store 9) ≡ map key_entry c.objects =
+    ap (map (entry_of (1 ∷ 2 ∷ []))) (st.rows.tables Objects)
+    ∙ map-map (entry_of (1 ∷ 2 ∷ [])) (stored_row Objects) c.objects
+    ∙ map_same _ key_entry (λ o. refl) c.objects in
+    subst (IsPermutation (map key_entry c.objects)) (sym same)
+    (subst (λ l. IsPermutation l (store 10)) rows index)
+
 rising : (db : Database) (c : Content) → HoldsContent db c → IsAscending (λ a b. by_key a b ≡ Less) (by_keys c)
 rising db c h = rises-sorted by_key key_total c.objects (objects_apart db c h)
 
@@ -148,9 +160,6 @@ module _ (kind : ℕ) (from : List ℕ) where
       ∙ filter-map (λ e. not (is_lt (prefix_cmp plain e start))) key_entry (by_keys c)
       ∙ ap (map key_entry) (filter_same _ is_behind (λ o. ap (λ (r : Ordering). not (is_lt r)) (placed o)) (by_keys c))
 
-  abbrev Read : Row → KeyEntry → Type 0
-  Read = ReadsKey entry_read entry_of_object
-
   of_the_kind : (k : ℕ) → k ≡ kind → (k == kind) ≡ true
   of_the_kind k is = grind (arith, nat_tests, is)
 
@@ -164,14 +173,8 @@ module _ (kind : ℕ) (from : List ℕ) where
     long : length read ≡ length first
     left : rest ≡ map key_entry others
 
-  kinds_alike : (it : KeyEntry) (o : ObjectRow) → entry_read it ≡ entry_of_object o → it.kind ≡ o.kind
-  kinds_alike it o told = ap (λ (p : ℕ × ℤ). p.0) told
-
-  rowids_alike : (it : KeyEntry) (o : ObjectRow) → entry_read it ≡ entry_of_object o → it.rowid ≡ pos o.id
-  rowids_alike it o told = ap (λ (p : ℕ × ℤ). p.1) told
-
   first_of : (os : List ObjectRow) (given rest : List Row) (read : List KeyEntry)
-      → map key_entry os ≡ given ++ rest → AreRead Read given read
+      → map key_entry os ≡ given ++ rest → AreRead IsKeyRead given read
       → AllByRecursion (λ (it : KeyEntry). it.kind ≡ kind) read → AreFirst os read rest
   first_of os [] rest [] whole are all = record {
     first = [];
@@ -186,9 +189,7 @@ module _ (kind : ℕ) (from : List ℕ) where
       let tail : map key_entry os ≡ given ++ rest = cc in
       let more = first_of os given rest read tail are.1 all.1 in
       let here : row ≡ key_entry o = cc in
-      let told : (it.kind, it.rowid) ≡ (o.kind, pos o.id) = are.0 o here in
-      let same = kinds_alike it o told in
-      let id = rowids_alike it o told in
+      let (same, id) = are.0 o here in
       record {
         first = o ∷ more.first;
         others = more.others;
@@ -208,8 +209,7 @@ module _ (kind : ℕ) (from : List ℕ) where
       → filter of_kind os ≡ []
   none_of_kind [] up behind ends = refl
   none_of_kind (o ∷ os) up behind (it, read, other) =
-      let told : (it.kind, it.rowid) ≡ (o.kind, pos o.id) = read o refl in
-      let apart : o.kind ≢ kind = λ is. other (kinds_alike it o told ∙ is) in
+      let apart : o.kind ≢ kind = λ is. other ((read o refl).0 ∙ is) in
       let above : kind < o.kind = first_above o apart behind.0 in
       filter_none of_kind (o ∷ os) (
         not_of_kind o above,
@@ -281,12 +281,13 @@ module _ (kind : ℕ) (from : List ℕ) where
         (IsPermutation-sym _ _ (IsPermutation-sort_by by_key key_total (filter here c.objects)))))
 
     -- the first objects are those whose entries were read
-    firsts_are : (entries : List Row) (ids : List ℤ) → entries ≡ map key_entry (filter is_behind (by_keys c))
-        → AreFirstOf kind entries ids
-        → ids ≡ map (λ (o : ObjectRow). pos o.id) (take 256 (sort_by by_key (filter here c.objects)))
-    firsts_are entries ids left are =
+    firsts_are : (rows : List Row) (read : List KeyEntry) → rows ≡ map key_entry (filter is_behind (by_keys c))
+        → AreFirstOf kind rows read
+        → map (λ (it : KeyEntry). it.rowid) read
+        ≡ map (λ (o : ObjectRow). pos o.id) (take 256 (sort_by by_key (filter here c.objects)))
+    firsts_are rows read left are =
         let behind = filter is_behind (by_keys c) in
-        let f = first_of behind are.given are.rest are.read (sym left ∙ are.whole) are.are are.of_kind in
+        let f = first_of behind are.given are.rest read (sym left ∙ are.whole) are.are are.of_kind in
         let up = ascending-filter (λ a b. by_key a b ≡ Less) is_behind (by_keys c) (rising db c held) in
         let all_behind = all_passed is_behind (by_keys c) in
         let others = parted f.first f.others behind f.whole up all_behind in
@@ -296,8 +297,6 @@ module _ (kind : ℕ) (from : List ℕ) where
         let few : length f.first ≤ 256 = omega (
           arith,
           are.few,
-          ap length are.told,
-          length-map are.read (λ (it : KeyEntry). it.rowid),
           f.long,
         ) in
         let page : take 256 (filter of_kind behind) ≡ f.first = elim are.ends [
@@ -310,8 +309,7 @@ module _ (kind : ℕ) (from : List ℕ) where
               ap (take 256) (of_both ∙ ap (λ l. f.first ++ l) none ∙ append-nil f.first)
               ∙ take_all 256 f.first few
         ] in
-        are.told ∙ f.rowids
-        ∙ ap (map (λ (o : ObjectRow). pos o.id)) (sym page ∙ ap (take 256) wanted)
+        f.rowids ∙ ap (map (λ (o : ObjectRow). pos o.id)) (sym page ∙ ap (take 256) wanted)
       where
         parted : (xs ys os : List ObjectRow) → os ≡ xs ++ ys → IsAscending (λ a b. by_key a b ≡ Less) os
             → AllByRecursion (λ (o : ObjectRow). is_behind o ≡ true) os
@@ -329,15 +327,17 @@ module _ (kind : ℕ) (from : List ℕ) where
     abbrev found_at : ObjectRow → Type 0
     found_at o = object_with (pos o.id) c.objects ≡ Some (object_entry o)
 
-    -- what is read by these rowids is a page
-    pub page_lists : (entries : List Row) (ids : List ℤ) (found : List ObjectEntry)
-        → entries ≡ map key_entry (filter is_behind (by_keys c)) → AreFirstOf kind entries ids
-        → map (λ (e : ObjectEntry). Some e) found ≡ map (λ id. object_with id c.objects) ids
+    -- the objects of these entries are a page
+    pub page_lists : (rows : List Row) (read : List KeyEntry) (found : List ObjectEntry)
+        → rows ≡ map key_entry (filter is_behind (by_keys c)) → AreFirstOf kind rows read
+        → map (λ (e : ObjectEntry). Some e) found ≡ map (λ (it : KeyEntry). object_with it.rowid c.objects) read
         → ListsFrom kind from c found
-    page_lists entries ids found left are read =
+    page_lists rows read found left are told =
         let firsts = take 256 (sort_by by_key (filter here c.objects)) in
         lists_from kind from db c held found
-        (same_entries firsts found (read ∙ ap (map (λ id. object_with id c.objects)) (firsts_are entries ids left are)
+        (same_entries firsts found (told ∙ sym (map-map (λ id. object_with id c.objects)
+        (λ (it : KeyEntry). it.rowid) read)
+        ∙ ap (map (λ id. object_with id c.objects)) (firsts_are rows read left are)
         ∙ map-map (λ id. object_with id c.objects) (λ (o : ObjectRow). pos o.id) firsts)
         (all-take found_at 256 _ (all-sorted by_key found_at _ (all-filter found_at here c.objects each_there))))
       where

@@ -1,8 +1,8 @@
 -- How a cursor moves, and what has been read on its way.
 use Rattle.std.proofs.Common.{◌≡◌, ℕ, List, [], ◌∷◌, ◌++◌, Option, Some, None, refl, sym, ap}
-use Rattle.std.proofs.Common.{◌∙◌, ◌≢◌, ◌≤◌, ◌⊎◌, inl, inr, ℤ, map, length, subst, ap₂}
+use Rattle.std.proofs.Common.{◌∙◌, ◌≢◌, ◌≤◌, ◌⊎◌, length, subst}
 use Rattle.std.specs.List.{AllByRecursion}
-use Rattle.std.proofs.lemmas.List.{append_assoc, map-append, length-map}
+use Rattle.std.proofs.lemmas.List.{append_assoc}
 use Rattle.sqlite_value.specs.Order.{Row}
 use Rattle.sqlite_value.specs.declared.keys.Order.{Order}
 use Rattle.sqlite_trees.specs.Tree.{from_key, sought}
@@ -10,8 +10,7 @@ use Rattle.sqlite_trees.specs.declared.store.Direction.TheVariants.{Forward}
 use Rattle.sqlite_trees.specs.View.{View, with_cursor}
 use Rattle.esc_sql.specs.Reading.{AreRead}
 use Rattle.esc_scan.specs.declared.page.KeyEntry.{KeyEntry}
-use Rattle.esc_scan.specs.KeyIndex.{AreFirstOf, EndsKind, GivesOfKind, ReadsKey, entry_of_object}
-use Rattle.esc_scan.specs.KeyIndex.{entry_read}
+use Rattle.esc_scan.specs.KeyIndex.{AreFirstOf, EndsKind, GivesOfKind, IsKeyRead}
 use Rattle.esc_scan.specs.Scanning.{left_of, OnlyCursors, ReadsNext, ReadsFirst}
 
 -- from no key on, each row comes
@@ -67,12 +66,10 @@ first_read IsRead rows old new (Some v) is next = (next.0, left_of new, sym is �
 
 -- ---- the first entries of a kind
 
--- a scan of these entries has read these rowids of those that it has given, each of this kind
-pub record HasFirst (kind : ℕ) (rows : List Row) (now : View) (ids : List ℤ) : Type 0 where
-  pub read : List KeyEntry
-  pub has : HasRead (ReadsKey entry_read entry_of_object) rows now read
+-- a scan of these rows has read these entries of those that it has given, each of this kind
+pub record HasFirst (kind : ℕ) (rows : List Row) (now : View) (read : List KeyEntry) : Type 0 where
+  pub has : HasRead IsKeyRead rows now read
   pub of_kind : AllByRecursion (λ (it : KeyEntry). it.kind ≡ kind) read
-  pub told : ids ≡ map (λ (it : KeyEntry). it.rowid) read
 
 all_more : {X : Type 0} (P : X → Type 0) (xs : List X) (x : X) → AllByRecursion P xs → P x
     → AllByRecursion P (xs ++ x ∷ [])
@@ -83,44 +80,36 @@ all_more P (y ∷ xs) x all last = (all.0, all_more P xs x all.1 last)
 pub first_none : (kind : ℕ) (rows : List Row) (now : View) → left_of now ≡ rows
     → HasFirst kind rows now []
 first_none kind rows now left = record {
-  read = [];
   has = record { given = []; whole = left; read = tt };
   of_kind = tt;
-  told = refl;
 }
 
 -- one more entry of the kind
-pub first_more : (kind : ℕ) (rows : List Row) (old new : View) (ids : List ℤ) (id : ℤ)
-    → HasFirst kind rows old ids → GivesOfKind kind old new (Some id) → HasFirst kind rows new (ids ++ id ∷ [])
-first_more kind rows old new ids id h (it, next, same, is) = record {
-  read = h.read ++ it ∷ [];
-  has = read_more (ReadsKey entry_read entry_of_object) rows old new h.read it h.has next;
-  of_kind = all_more (λ (e : KeyEntry). e.kind ≡ kind) h.read it h.of_kind same;
-  told = ap₂ (λ (l : List ℤ) (i : ℤ). l ++ i ∷ []) h.told (sym is)
-      ∙ sym (map-append (λ (e : KeyEntry). e.rowid) h.read (it ∷ []));
+pub first_more : (kind : ℕ) (rows : List Row) (old new : View) (read : List KeyEntry) (it : KeyEntry)
+    → HasFirst kind rows old read → GivesOfKind kind old new (Some it)
+    → HasFirst kind rows new (read ++ it ∷ [])
+first_more kind rows old new read it h next = record {
+  has = read_more IsKeyRead rows old new read it h.has next.0;
+  of_kind = all_more (λ (e : KeyEntry). e.kind ≡ kind) read it h.of_kind next.1;
 }
 
 -- where the scan ends
-pub first_ends : (kind : ℕ) (rows : List Row) (now : View) (ids : List ℤ) → HasFirst kind rows now ids
-    → length ids ≤ 256 → (length ids ≡ 256) ⊎ EndsKind kind (left_of now) → AreFirstOf kind rows ids
-first_ends kind rows now ids h few ends = record {
-  few = few;
+pub first_ends : (kind : ℕ) (rows : List Row) (now : View) (read : List KeyEntry)
+    → HasFirst kind rows now read → length read ≤ 256
+    → (length read ≡ 256) ⊎ EndsKind kind (left_of now) → AreFirstOf kind rows read
+first_ends kind rows now read h few ends = record {
   given = h.has.given;
   rest = left_of now;
   whole = sym h.has.whole;
-  read = h.read;
   are = h.has.read;
   of_kind = h.of_kind;
-  told = h.told;
-  ends = elim ends [
-    | inl full ↦ inl (sym (length-map h.read (λ (e : KeyEntry). e.rowid)) ∙ sym (ap length h.told) ∙ full)
-    | inr other ↦ inr other
-  ];
+  few = few;
+  ends = ends;
 }
 
 -- the next entry, by whether it is of the kind
 pub given_of_kind : (kind : ℕ) (old new : View) (found : Option KeyEntry)
-    → ReadsNext (ReadsKey entry_read entry_of_object) old new found
+    → ReadsNext IsKeyRead old new found
     → ((it : KeyEntry) → found ≡ Some it → it.kind ≢ kind) → GivesOfKind kind old new None
 given_of_kind kind old new None next other = subst (EndsKind kind) (sym next.0) tt
 given_of_kind kind old new (Some it) next other =

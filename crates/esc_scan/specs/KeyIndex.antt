@@ -1,5 +1,5 @@
 -- The index of the objects' keys, and what is read of it.
-use Rattle.std.specs.Prelude.{◌≡◌, ◌≢◌, ◌⊎◌, ◌++◌, ◌≤◌, ⊤, ℕ, ℤ, pos, List, [], ◌∷◌, map, length}
+use Rattle.std.specs.Prelude.{◌≡◌, ◌≢◌, ◌⊎◌, ◌++◌, ◌≤◌, ⊤, ℕ, pos, List, [], ◌∷◌, length}
 use Rattle.std.specs.Prelude.{Option, Some, None}
 use Rattle.std.specs.List.{AllByRecursion}
 use Rattle.sqlite_value.specs.declared.value.Value.TheVariants.{Int, Blob}
@@ -35,38 +35,27 @@ pub record AreShaped (v : View) : Type 0 where
 abbrev pub key_entry : ObjectRow → Row
 key_entry o = Int (pos o.kind) ∷ Blob o.key ∷ Int (pos o.id) ∷ []
 
--- an entry is read as what `told` says of its object
-abbrev pub ReadsKey : {V E : Type 0} → (V → E) → (ObjectRow → E) → Row → V → Type 0
-ReadsKey shown told row v = (o : ObjectRow) → row ≡ key_entry o → shown v ≡ told o
-
--- the kind of an object and its rowid
-abbrev pub entry_read : KeyEntry → ℕ × ℤ
-entry_read it = (it.kind, it.rowid)
-
-abbrev pub entry_of_object : ObjectRow → ℕ × ℤ
-entry_of_object o = (o.kind, pos o.id)
+-- an entry is read as the kind and the rowid of its object
+abbrev pub IsKeyRead : Row → KeyEntry → Type 0
+IsKeyRead row it = (o : ObjectRow) → row ≡ key_entry o → (it.kind ≡ o.kind) × (it.rowid ≡ pos o.id)
 
 -- no entry follows, or one of another kind
 abbrev pub EndsKind : ℕ → List Row → Type 0
 EndsKind kind [] = ⊤
 EndsKind kind (row ∷ rows) =
-    (it : KeyEntry) × ReadsKey entry_read entry_of_object row it × (it.kind ≢ kind)
+    (it : KeyEntry) × IsKeyRead row it × (it.kind ≢ kind)
 
--- the scan gives the rowid of the next entry, if that is of the kind
-abbrev pub GivesOfKind : ℕ → View → View → Option ℤ → Type 0
+-- the scan gives the next entry, if that is of the kind
+abbrev pub GivesOfKind : ℕ → View → View → Option KeyEntry → Type 0
 GivesOfKind kind old new None = EndsKind kind (left_of old)
-GivesOfKind kind old new (Some id) =
-    (it : KeyEntry) × ReadsNext (ReadsKey entry_read entry_of_object) old new (Some it)
-    × (it.kind ≡ kind) × (it.rowid ≡ id)
+GivesOfKind kind old new (Some it) = ReadsNext IsKeyRead old new (Some it) × (it.kind ≡ kind)
 
--- these are the rowids of the first 256 of these entries, up to the first of another kind
-pub record AreFirstOf (kind : ℕ) (entries : List Row) (ids : List ℤ) : Type 0 where
+-- these are read of the first 256 of the rows, up to the first of another kind
+pub record AreFirstOf (kind : ℕ) (rows : List Row) (read : List KeyEntry) : Type 0 where
   pub given : List Row
   pub rest : List Row
-  pub whole : entries ≡ given ++ rest
-  pub read : List KeyEntry
-  pub are : AreRead (ReadsKey entry_read entry_of_object) given read
+  pub whole : rows ≡ given ++ rest
+  pub are : AreRead IsKeyRead given read
   pub of_kind : AllByRecursion (λ (it : KeyEntry). it.kind ≡ kind) read
-  pub told : ids ≡ map (λ (it : KeyEntry). it.rowid) read
-  pub few : length ids ≤ 256
+  pub few : length read ≤ 256
   pub ends : (length read ≡ 256) ⊎ EndsKind kind rest

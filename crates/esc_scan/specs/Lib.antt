@@ -4,7 +4,6 @@ pub mod Bodies
 pub mod Kinds
 pub mod ObjectKeys
 pub mod KeyIndex
-pub mod KeyLaws
 pub mod Moments
 pub mod Versions
 pub mod Numbers

@@ -15,7 +15,9 @@
 //! is none of its table.
 //!
 //! The objects also come in the order of their keys, a page at a time (`objects_from`): a cursor at
-//! the index of keys gives rowids, and each object is read by its rowid.
+//! the index of keys gives entries, and each object is read by its entry's rowid. The index isn't
+//! audited here: an entry with another key than its row is `Foreign`, and a caller that reads all
+//! pages counts the rows.
 //!
 //! | Module | What it has |
 //! |---|---|

@@ -1,17 +1,15 @@
 //! The table of objects.
 
-ghost use Rattle.std.specs.Prelude.{◌≡◌, map, option_map, IsPermutation};
+ghost use Rattle.std.specs.Prelude.{◌≡◌, map, option_map};
 ghost use Rattle.sqlite_trees.specs.View.{IsClean};
 ghost use Rattle.esc_sql.specs.StoreTable.{Objects};
 ghost use Rattle.esc_sql.specs.Changes.{object_entry};
 ghost use Rattle.esc_sql.specs.Entries.{stored_entry};
 ghost use Rattle.esc_scan.specs.Scanning.{ReadsRow, IsScan};
-ghost use Rattle.esc_scan.specs.KeyIndex.{HasKeys, ReadsKey};
 ghost use Rattle.esc_scan.specs.Kinds.{kind_read, kind_of_object};
 ghost use Rattle.esc_scan.specs.ObjectKeys.{object_with};
 
 use crate::cursor::{read_all, read_at};
-use crate::page::KEY_TREE;
 use crate::rows::{FromEntry, ScanError, value_at};
 use esc_sql::object::StoredObject;
 use sqlite_trees::store::{Shape, Store};
@@ -40,23 +38,21 @@ pub struct ObjectKind {
 }
 
 impl FromEntry for ObjectKind {
-    ghost is_read = { ReadsKey kind_read kind_of_object };
+    ghost is_read = { ReadsRow Objects kind_read kind_of_object };
 
     fn from_entry(alloc: Global, row: &Row) -> Result<ObjectKind, ScanError> {
         Ok(ObjectKind {
-            kind: value_at(alloc, row, 0)?,
+            kind: value_at(alloc, row, 1)?,
         })
     }
 }
 
-/// The kind of each object: from these the objects of each kind are counted. They are read of the
-/// index of keys, and no object is.
+/// The kind of each object: from these the objects of each kind are counted.
 pub fn object_kinds<S: Store>(alloc: Global, store: &mut S) -> Result<Vec<ObjectKind>, ScanError>
-    ensures read { IsScan S.Store store.old store.new (λ c found.
-        HasKeys (S.Store.view store.old).trees c
-        → IsPermutation (map kind_of_object c.objects) (map kind_read found.items)) result }
+    ensures read { IsScan S.Store store.old store.new
+        (λ c found. map kind_read found.items ≡ map kind_of_object c.objects) result }
 {
-    read_all(alloc, store, KEY_TREE)
+    read_all(alloc, store, OBJECT_TREE)
 }
 
 /// The object with this rowid, if there is one. No other object is read.
