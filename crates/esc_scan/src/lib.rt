@@ -49,8 +49,8 @@
 //!   cursors has moved. In every case nothing is committed, and a crash leaves nothing new.
 //! - `open_trees` gives what the files read as, whatever they hold (`AreTreesOf`): the trees of the
 //!   pages that they recover to, by the tables and indexes that they list. Where the files hold a
-//!   store, the trees have its rows and its index of keys (`ReadsStore`). Where they are given back,
-//!   they hold what they held (`IsHeldBy`).
+//!   store, the trees have its rows and its index of keys (`ReadsStore`). Where they are given
+//!   back, they hold what they held (`IsHeldBy`).
 //! - A read of that index has one more premise, `HasKeys`: the trees have the index of some store
 //!   with this content. So an entry stands for one object, and none is missing.
 //! - A scan's clauses speak of the rows that its cursor has left (`left_of`): all of the tree's at

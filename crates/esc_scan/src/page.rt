@@ -181,8 +181,8 @@ fn objects_at<S: Store>(
     Ok(found)
 }
 
-// The object of this entry. `Foreign` where it is none of an object's: the index isn't audited where
-// a store is read, so it may be wrong.
+// The object of this entry. `Foreign` where it is none of an object's: the index isn't audited
+// where a store is read, so it may be wrong.
 fn object_of<S: Store>(
     alloc: Global,
     store: &mut S,

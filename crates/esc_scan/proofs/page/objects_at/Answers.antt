@@ -45,6 +45,7 @@ returns g c = record {
     quiet = c.loop-entry.invariant.quiet;
     only = c.loop-entry.invariant.only;
     said = λ clean k shows. c.loop-entry.invariant.found clean k shows
-        ∙ ap (map (λ (it : KeyEntry). object_with it.rowid k.objects)) (take_all _ c.args.entries.now c.loop-entry-test.false);
+        ∙ ap (map (λ (it : KeyEntry). object_with it.rowid k.objects))
+        (take_all _ c.args.entries.now c.loop-entry-test.false);
   };
 }
