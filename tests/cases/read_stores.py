@@ -128,7 +128,6 @@ def test_foreign_rows(stage: Stage) -> None:
                 stage.check('take --store b.db nothing', NO_RECEIPTS)
 
 
-NUMBERS, UNIQUE = 'sqlite_autoindex_receipt_1', ', UNIQUE (number, digest)'
 COLUMNS = 'rowid, type, name, tbl_name, rootpage, sql'
 
 
@@ -140,32 +139,58 @@ def schema_of(path: str) -> Iterator[sqlite3.Connection]:
         yield database
 
 
-def make_index_lie(path: str) -> None:
-    """Gives a receipt another number in the index of numbers alone: in the table too, and there
-    back while the table has no index."""
+def make_index_lie(path: str, table: str, unique: str, before: str, after: str) -> None:
+    """Runs a statement, and then another one while the table has no index: the index of what is
+    unique has the rows of the first, and the table those of both."""
     with schema_of(path) as database:
-        database.execute("UPDATE receipt SET number = 'other' WHERE receipt = 1")
+        database.execute(before)
         index, = database.execute(f'SELECT {COLUMNS} FROM sqlite_master WHERE name = ?',
-                                  (NUMBERS,)).fetchall()
-        text, = database.execute("SELECT sql FROM sqlite_master WHERE name = 'receipt'").fetchone()
-        database.execute('DELETE FROM sqlite_master WHERE name = ?', (NUMBERS,))
-        database.execute("UPDATE sqlite_master SET sql = ? WHERE name = 'receipt'",
-                         (text.replace(UNIQUE, ''),))
+                                  (f'sqlite_autoindex_{table}_1',)).fetchall()
+        text, = database.execute('SELECT sql FROM sqlite_master WHERE name = ?',
+                                 (table,)).fetchone()
+        database.execute('DELETE FROM sqlite_master WHERE rowid = ?', index[:1])
+        database.execute('UPDATE sqlite_master SET sql = ? WHERE name = ?',
+                         (text.replace(unique, ''), table))
     with schema_of(path) as database:
-        database.execute("UPDATE receipt SET number = '1' WHERE receipt = 1")
-        database.execute("UPDATE sqlite_master SET sql = ? WHERE name = 'receipt'", (text,))
+        database.execute(after)
+        database.execute('UPDATE sqlite_master SET sql = ? WHERE name = ?', (text, table))
         database.execute(f'INSERT INTO sqlite_master ({COLUMNS}) VALUES (?, ?, ?, ?, ?, ?)', index)
 
 
+NUMBERS = ('receipt', ', UNIQUE (number, digest)')
+KEYS = ('object', ', PRIMARY KEY (kind, key)')
+COPIED = """INSERT INTO object (kind, key, record) SELECT kind, CAST('bb.example' AS BLOB), record
+FROM object WHERE key = CAST('b.example' AS BLOB)"""
+NAMED = "UPDATE object SET key = CAST('{}' AS BLOB) WHERE key = CAST('{}' AS BLOB)"
+# The table and what is unique, the statements, and what is told still: all, or what reads no object.
+# What walks over the objects reads the index of their keys.
+LIES = {
+    'a receipt with another number': (
+        NUMBERS, "UPDATE receipt SET number = 'other' WHERE receipt = 1",
+        "UPDATE receipt SET number = '1' WHERE receipt = 1", READ),
+    'an object with another key': (
+        KEYS, NAMED.format('bb.example', 'b.example'), NAMED.format('b.example', 'bb.example'),
+        OF_RECEIPTS),
+    'an object that it lacks': (KEYS, 'SELECT 1', COPIED, ('receipts', 'gaps')),
+    'an object that is not there': (
+        KEYS, COPIED, "DELETE FROM object WHERE key = CAST('bb.example' AS BLOB)", OF_RECEIPTS),
+}
+
+
 def test_lying_index(stage: Stage) -> None:
-    """An index that has another number than its table is `S1` to each command that has a desk. No
-    report or export reads it."""
+    """An index that says something else than its table is `S1` to each command that has a desk, and
+    to what walks by it. No other report reads an index."""
     told = put_store(stage)
-    make_index_lie(stage.at('a.db'))
-    if is_whole(stage.at('a.db')):
-        raise Failed('the index does not lie')
-    check_reports(stage, 'a.db', told)
-    check_refused(stage, 'a.db')
+    for name, ((table, unique), before, after, read_still) in LIES.items():
+        with case(name):
+            copy(stage.at('a.db'), stage.at('b.db'))
+            make_index_lie(stage.at('b.db'), table, unique, before, after)
+            if is_whole(stage.at('b.db')):
+                raise Failed('the index does not lie')
+            check_reports(stage, 'b.db', {what: told[what] for what in read_still})
+            for what in ('links', 'domain') if table == 'object' else ():
+                stage.check(command_of('b.db', what), S1)
+            check_refused(stage, 'b.db')
 
 
 def test_log_that_was_not_copied(stage: Stage) -> None:
