@@ -154,7 +154,8 @@ def make_index_lie(path: str, table: str, unique: str, before: str, after: str) 
     with schema_of(path) as database:
         database.execute(after)
         database.execute('UPDATE sqlite_master SET sql = ? WHERE name = ?', (text, table))
-        database.execute(f'INSERT INTO sqlite_master ({COLUMNS}) VALUES (?, ?, ?, ?, ?, ?)', index)
+        database.execute(f'INSERT INTO sqlite_master ({COLUMNS}) VALUES (?, ?, ?, ?, ?, ?)',
+                         index)
 
 
 NUMBERS = ('receipt', ', UNIQUE (number, digest)')
@@ -162,8 +163,8 @@ KEYS = ('object', ', PRIMARY KEY (kind, key)')
 COPIED = """INSERT INTO object (kind, key, record) SELECT kind, CAST('bb.example' AS BLOB), record
 FROM object WHERE key = CAST('b.example' AS BLOB)"""
 NAMED = "UPDATE object SET key = CAST('{}' AS BLOB) WHERE key = CAST('{}' AS BLOB)"
-# The table and what is unique, the statements, and what is told still: all, or what reads no object.
-# What walks over the objects reads the index of their keys.
+# The table and what is unique, the statements, and what is told still. What walks over the objects
+# reads the index of their keys.
 LIES = {
     'a receipt with another number': (
         NUMBERS, "UPDATE receipt SET number = 'other' WHERE receipt = 1",
