@@ -36,9 +36,8 @@
 //!
 //! # Cost
 //!
-//! The links and an export walk the objects one at a time, and hold no map of them; a walk by a
-//! reader holds the keys. A text is whole in memory before it is returned; [`write_export_of`] holds
-//! the lines of one object.
+//! The links and an export walk the objects, and hold no map of them but a page of 256 objects. A
+//! text is whole in memory before it is returned; [`write_export_of`] holds the lines of one object.
 #![tactic(auto)]
 
 mod catalog;

@@ -37,7 +37,8 @@ loop-count-preserved g c =
           (made.facts honest e (now.reflects e h) apart (map (body_at e) (drop (length rows - count) rows))
           (now.facts (was honest) e h apart));
       compared = λ honest e h apart es are order keys.
-          row_before (λ (bodies : List (Option (List ℕ))). AreComparedWithBodies bodies es c.read_row.new.bodies.comparison)
+          let new = c.read_row.new.bodies.comparison in
+          row_before (λ (bodies : List (Option (List ℕ))). AreComparedWithBodies bodies es new)
           rows (body_at e) count 0 c.loop-count-test.true
           (made.compared honest e (now.reflects e h) apart es are order keys
           (map (body_at e) (drop (length rows - count) rows))
