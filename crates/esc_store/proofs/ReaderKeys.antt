@@ -1,10 +1,10 @@
 -- What the keys and the objects that a reader finds say.
-use Rattle.esc_store.proofs.Common.{◌≡◌, ℕ, ℤ, ◌≤◌, Bool, true, false, cond, List, [], ◌∷◌}
+use Rattle.esc_store.proofs.Common.{◌≡◌, ℕ, ℤ, ◌≤◌, Bool, true, false, List, [], ◌∷◌}
 use Rattle.esc_store.proofs.Common.{length, filter, map, find, Option, None, Some, refl, sym, ap, subst}
 use Rattle.esc_store.proofs.Common.{◌∙◌, arith, inl, inr, cases_Bool, same_Some, option_map, is_some}
 use Rattle.esc_store.proofs.Common.{IsSome, IfSome, IsSorted, int_eq}
 use Rattle.esc_store.proofs.Common.{IsAscending, Less, option_and_then, kind_rank}
-use Rattle.esc_store.proofs.Common.{Kind, KeyName, key_cmp, key_eq, keys_alike, same_key, ObjectValue}
+use Rattle.esc_store.proofs.Common.{KeyName, key_cmp, key_eq, keys_alike, same_key, ObjectValue}
 use Rattle.esc_store.proofs.Common.{record_of, State, Database, HoldsContent, Content, ObjectRow}
 use Rattle.esc_store.proofs.Common.{ObjectEntry}
 use Rattle.esc_store.proofs.Common.{object_at, stored_entry, IsRegistry, entry_row, record_row}
@@ -15,26 +15,27 @@ use Rattle.std.specs.List.Sorted.{IsStrictlySortedBy}
 use Rattle.std.specs.Ordering.{is_lt, is_eq, ordering_then}
 use Rattle.std.specs.declared.cmp.Ordering.{Ordering}
 use Rattle.std.specs.declared.cmp.Ordering.TheVariants.{Equal, Greater}
-use Rattle.std.proofs.lemmas.Cmp.{nat_list_eq_equiv, on_total}
-use Rattle.std.proofs.lemmas.List.Sorted.{IsPermutation-map, list_any-IsPermutation}
+use Rattle.std.proofs.lemmas.Cmp.{nat_list_eq_equiv}
+use Rattle.std.proofs.lemmas.List.Sorted.{IsPermutation-map, IsPermutation-trans, list_any-IsPermutation}
 use Rattle.std.proofs.lemmas.Map.Views.{Contains-from_any, list_any-from_Contains}
 use Rattle.sqlite_keyed.specs.Keyed.{get_by}
-use Rattle.sqlite_keyed.proofs.ListLemmas.{map-map, filter-map, all_map, ascending-map}
-use Rattle.sqlite_keyed.proofs.ListLemmas.{ascending_from_map, ascending_weaker, ascending-filter}
+use Rattle.sqlite_keyed.proofs.ListLemmas.{IsPermutation-same}
+use Rattle.sqlite_keyed.proofs.ListLemmas.{map-map, all_map, ascending-map}
+use Rattle.sqlite_keyed.proofs.ListLemmas.{ascending_from_map, ascending_weaker}
 use Rattle.sqlite_keyed.proofs.SortLemmas.{sorted_is-sort_by}
-use Rattle.esc_tables.specs.KeyLaws.{keys_total}
 use Rattle.esc_sql.specs.Content.{is_object_at, is_same_key}
 use Rattle.esc_sql.specs.Changes.{by_key, object_entry}
 use Rattle.esc_sql.specs.Rows.{object_number}
-use Rattle.esc_sql.proofs.Finds.{few, find-filter, found-and}
-use Rattle.esc_sql.proofs.ObjectLemmas.{object_keys, keys_are}
-use Rattle.esc_sql.proofs.Sorts.{by_both, rises-sorted}
+use Rattle.esc_sql.proofs.Finds.{few}
+use Rattle.esc_sql.proofs.ObjectLemmas.{object_keys}
+use Rattle.esc_sql.proofs.Sorts.{both_total, by_both, rises-sorted}
 use Rattle.esc_sql.proofs.Sorts.{key_eq as both_eq}
 use Rattle.esc_sql.specs.declared.object.StoredObject.{StoredObject}
 use Rattle.esc_scan.specs.ObjectKeys.{key_of_object, object_with}
-use Rattle.esc_store.specs.TableKeys.{AreKeysOf, is_key_wanted, is_number_wanted, key_at, numbered_key, wanted_of}
+use Rattle.esc_store.specs.TableKeys.{AreKeysOf, key_at, numbered_key}
 use Rattle.esc_store.specs.declared.reader.objects.TableKey.{TableKey}
-use Rattle.esc_store.proofs.Registries.{AreAlone, at_branch, itself, one_object, record_here, same_tests}
+use Rattle.esc_store.proofs.ReaderRows.{sorted_keys}
+use Rattle.esc_store.proofs.Registries.{AreAlone, itself, one_object, record_here, same_tests}
 
 -- ---- the object with a rowid
 
@@ -110,14 +111,20 @@ name_of it = (kind_rank it.key.kind, it.key.text)
 abbrev row_name : ObjectRow → Name
 row_name o = (o.kind, o.key)
 
+abbrev number_in : Name → ℕ
+number_in x = x.0
+
+abbrev text_in : Name → List ℕ
+text_in x = x.1
+
 abbrev name_cmp : Name → Name → Ordering
-name_cmp = by_both (λ (x : Name). x.0) (λ (x : Name). x.1)
+name_cmp = by_both number_in text_in
+
+name_total : IsTotalOrder name_cmp
+name_total = both_total number_in text_in
 
 abbrev by_name : TableKey → TableKey → Ordering
 by_name a b = key_cmp a.key b.key
-
-by_name_total : IsTotalOrder by_name
-by_name_total = on_total key_at keys_total
 
 -- what is sorted by key and then by more is sorted by key
 key_first : (o p : Ordering) → is_lt (ordering_then o p) ≡ false → is_lt o ≡ false
@@ -154,61 +161,48 @@ still_some : (o : Option ObjectValue)
 still_some None has = refl
 still_some (Some x) has = has
 
-module _ (db : Database) (s : State)
-    (c : Content) (kind : Option Kind) (holds : HoldsContent db c) (registry : IsRegistry c s) where
-  abbrev wanted : ObjectRow → Bool
-  wanted o = is_number_wanted kind o.kind
-
-  -- the rows that are wanted
-  abbrev rows : List ObjectRow
-  rows = filter wanted c.objects
-
-  apart : IsAscending (λ a b. is_eq (by_key a b) ≡ false) rows
-  apart = ascending-filter _ wanted c.objects (ascending_weaker _ (λ a b. is_eq (by_key a b) ≡ false)
+module _ (db : Database) (s : State) (c : Content) (keys sorted : List TableKey)
+    (holds : HoldsContent db c) (registry : IsRegistry c s)
+    (says : map numbered_key keys ≡ map key_of_object c.objects)
+    (turned : IsPermutation keys sorted) where
+  -- no two objects have one name
+  apart : IsAscending (λ x y. is_eq (name_cmp x y) ≡ false) (map row_name c.objects)
+  apart = ascending-map (λ x y. is_eq (name_cmp x y) ≡ false) row_name c.objects
+      (ascending_weaker _ (λ a b. is_eq (by_key a b) ≡ false)
       (λ a b other. both_eq a.kind a.key b.kind b.key ∙ other) c.objects (object_keys.apart db c holds))
 
-  there : (q : KeyName) → is_some (object_at (kind_rank q.kind) q.text rows) ≡ is_some (wanted_of kind s.content q)
-  there q =
-      let n = kind_rank q.kind in
-      let kept : object_at n q.text rows ≡ cond (is_number_wanted kind n) (object_at n q.text c.objects) None =
-      ap (option_map (λ (o : ObjectRow). o.bytes)) (find-filter (is_object_at n q.text) wanted c.objects)
-      ∙ found-and (λ (o : ObjectRow). o.bytes) wanted (is_object_at n q.text) (is_number_wanted kind n)
-      (λ o here. ap (is_number_wanted kind) (keys_are o.kind o.key n q.text here).0) c.objects in
-      ap is_some kept
-      ∙ at_branch (λ (x : Option (List ℕ)) (y : Option ObjectValue). is_some x ≡ is_some y)
-      (is_number_wanted kind n)
-      (ap is_some (registry.objects n q.text ∙ record_here s.content q)
-      ∙ still_some (s.content q) (registry.recorded q)) refl
+  -- the keys have the names of the objects
+  named : IsPermutation (map row_name c.objects) (map name_of sorted)
+  named =
+      let name : ℤ × ℕ × List ℕ → Name = λ p. (p.1, p.2) in
+      IsPermutation-trans (map row_name c.objects) (map name_of keys) (map name_of sorted)
+      (rw (map-map name key_of_object c.objects, map-map name numbered_key keys)
+      at (IsPermutation-map name (map key_of_object c.objects) (map numbered_key keys) (IsPermutation-same _ _ (sym says))))
+      (IsPermutation-map name_of keys sorted turned)
 
-  module _ (keys sorted : List TableKey)
-      (says : map numbered_key keys ≡ filter (is_key_wanted kind) (map key_of_object c.objects)) where
-    names : map name_of keys ≡ map row_name rows
-    names =
-        let name : ℤ × ℕ × List ℕ → Name = λ p. (p.1, p.2) in
-        sym (map-map name numbered_key keys)
-        ∙ ap (map name) (says ∙ filter-map (is_key_wanted kind) key_of_object c.objects)
-        ∙ map-map name key_of_object rows
+  there : (q : KeyName) → is_some (object_at (kind_rank q.kind) q.text c.objects) ≡ is_some (s.content q)
+  there q = ap is_some (registry.objects (kind_rank q.kind) q.text ∙ record_here s.content q)
+      ∙ still_some (s.content q) (registry.recorded q)
 
-    alone : IsAscending (λ a b. is_eq (by_name a b) ≡ false) keys
-    alone =
-        let Apart : Name → Name → Type 0 = λ x y. is_eq (name_cmp x y) ≡ false in
-        ascending_from_map Apart name_of
-        keys (subst (IsAscending Apart) (sym names) (ascending-map Apart row_name rows apart))
+  -- a key is among them where an object has it
+  are_at : (q : KeyName) → list_any (key_eq q) (map key_at sorted) ≡ is_some (s.content q)
+  are_at q =
+      let test = at_name (kind_rank q.kind) q.text in
+      any_named q sorted
+      ∙ sym (list_any-IsPermutation test (map row_name c.objects) (map name_of sorted) named)
+      ∙ any_at (kind_rank q.kind) q.text c.objects ∙ there q
 
-    pub keys_read : IsPermutation keys sorted
-        → IsSorted by_name sorted → AreKeysOf (wanted_of kind s.content) (map key_at sorted)
-    keys_read turned up = record {
-      order = in_order sorted (subst (IsAscending (λ a b. by_name a b ≡ Less))
-          (sym (sorted_is-sort_by by_name by_name_total keys sorted alone turned up))
-          (rises-sorted by_name by_name_total keys alone));
-      each = λ q. (
-        λ has. sym (are_at q) ∙ list_any-from_Contains keys_alike q _ has,
-        λ some. Contains-from_any same_key q _ (are_at q ∙ some),
-      );
-    } where
-      are_at : (q : KeyName) → list_any (key_eq q) (map key_at sorted) ≡ is_some (wanted_of kind s.content q)
-      are_at q =
-          let test = at_name (kind_rank q.kind) q.text in
-          any_named q sorted
-          ∙ sym (list_any-IsPermutation test _ _ (IsPermutation-map name_of keys sorted turned))
-          ∙ ap (list_any test) names ∙ any_at (kind_rank q.kind) q.text rows ∙ there q
+  -- so in their order they are the keys of the objects
+  pub are_keys : IsSorted by_name sorted → AreKeysOf s.content (map key_at sorted)
+  are_keys up =
+      let rising : IsAscending (λ x y. name_cmp x y ≡ Less) (map name_of sorted) =
+      subst (IsAscending (λ x y. name_cmp x y ≡ Less))
+      (sym (sorted_is-sort_by name_cmp name_total (map row_name c.objects) (map name_of sorted) apart named
+      (sorted_keys name_of name_cmp sorted up))) (rises-sorted name_cmp name_total (map row_name c.objects) apart) in
+      record {
+        order = in_order sorted (ascending_from_map (λ x y. name_cmp x y ≡ Less) name_of sorted rising);
+        each = λ q. (
+          λ has. sym (are_at q) ∙ list_any-from_Contains keys_alike q _ has,
+          λ some. Contains-from_any same_key q _ (are_at q ∙ some),
+        );
+      }

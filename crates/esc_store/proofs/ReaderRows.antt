@@ -10,6 +10,7 @@ use Rattle.esc_store.proofs.Common.{parked_at}
 use Rattle.esc_store.proofs.Common.{ReceiptRow, ObjectRow, slice_cmp}
 use Rattle.std.specs.Prelude.{IsPermutation, All}
 use Rattle.std.specs.List.Sorted.{IsSortedByKey}
+use Rattle.std.specs.declared.cmp.Ordering.{Ordering}
 use Rattle.std.proofs.lemmas.Cmp.{nat_list_cmp_total, nat_list_eq_equiv, on_total}
 use Rattle.std.proofs.lemmas.List.Sorted.{All-permutation, IsPermutation-map, IsPermutation-trans}
 use Rattle.sqlite_keyed.specs.Lists.{sort_by}
@@ -102,16 +103,16 @@ module _ (parked : List ℕ → Option (List ℕ))
 abbrev digest_in : ParkedBody → List ℕ
 digest_in b = b.digest
 
--- bodies in the order of a key are keys in order
-sorted_keys : (bodies : List ParkedBody) → IsSortedByKey digest_in (slice_cmp nat_cmp) bodies
-    → IsSorted (slice_cmp nat_cmp) (map digest_in bodies)
-sorted_keys bodies up k d low within =
-    let none : ParkedBody = record { digest = []; bytes = 0 } in
-    let inside : k + 1 < length bodies = omega (arith, within, length-map bodies digest_in) in
+-- what is in the order of a key has its keys in order
+pub sorted_keys : {X K : Type 0} (key : X → K) (cmp : K → K → Ordering) (xs : List X)
+    → IsSortedByKey key cmp xs → IsSorted cmp (map key xs)
+sorted_keys key cmp [] up k d low within = absurd (omega (arith, within))
+sorted_keys key cmp (x ∷ xs) up k d low within =
+    let inside : k + 1 < length (x ∷ xs) = omega (arith, within, length-map (x ∷ xs) key) in
     rw (
-      get_or-map digest_in bodies k none d (omega (arith, inside)),
-      get_or-map digest_in bodies (k + 1) none d inside,
-    ) (up k none low inside)
+      get_or-map key (x ∷ xs) k x d (omega (arith, inside)),
+      get_or-map key (x ∷ xs) (k + 1) x d inside,
+    ) (up k x low inside)
 
 -- the parked bodies that were scanned, in the order of digests
 pub parked_sorted : (db : Database)
@@ -138,7 +139,7 @@ parked_sorted db k c found bodies holds books says turned up = record { digests 
       let all = IsPermutation-trans inorder (map parked_digest c.parked) (map digest_in bodies) rows turn in
       subst (AreParked k.parked)
       (sym (sorted_unique (slice_cmp nat_cmp) nat_list_cmp_total inorder (map digest_in bodies)
-      lists.rising all (sorted_keys bodies up))) (are_parked k c inorder books lists)
+      lists.rising all (sorted_keys digest_in (slice_cmp nat_cmp) bodies up))) (are_parked k c inorder books lists)
 
 -- ---- objects
 

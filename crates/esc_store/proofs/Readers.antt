@@ -4,9 +4,11 @@ use Rattle.esc_store.proofs.Common.{IfOk, IfOk-at_ok, Ghosts, Database, Content,
 use Rattle.esc_store.proofs.Common.{HoldsContent, StoreState, IsBooks, IsRegistry, MRow, listed_from}
 use Rattle.esc_store.proofs.Common.{IsStore}
 use Rattle.sqlite_catalog.proofs.QuietLemmas.{quiet_then}
+use Rattle.sqlite_trees.specs.Tree.{Trees}
 use Rattle.sqlite_trees.specs.View.{View, IsClean}
 use Rattle.esc_sql.specs.Content.{HoldsRows}
 use Rattle.esc_sql.specs.Schema.{store_schema}
+use Rattle.esc_scan.specs.KeyIndex.{HasKeys}
 use Rattle.esc_scan.specs.Scanning.{IsScan, OnlyCursors}
 use Rattle.esc_scan.proofs.Scans.{only_then}
 use Rattle.esc_store.specs.Reading.{AreReadAs, AreHonest, IsHonestReader, IsReadOnly}
@@ -14,11 +16,17 @@ use Rattle.esc_store.specs.Reading.{ReaderRepresents}
 use Rattle.esc_store.specs.ResultLaws.{on_any}
 use Rattle.esc_store.specs.declared.reader.StoreReader.{StoreReader}
 
--- rows of a store that keeps k, of which this is said
-pub record IsSaid (k : StoreState) (Says : Content → Type 0) : Type 0 where
+-- trees that are read as a store have its index of keys
+pub has_keys : (trees : Trees) (k : StoreState) (read : AreReadAs trees k) → HasKeys trees (content_in read.store)
+unfolding IsStore
+has_keys trees k read = (read.store, read.kept.tables, read.shows.keys)
+
+-- rows of a store that keeps k, of which this is said; these trees have their index of keys
+pub record IsSaid (trees : Trees) (k : StoreState) (Says : Content → Type 0) : Type 0 where
   pub database : Database
   pub content : Content
   pub holds : HoldsContent database content
+  pub keys : HasKeys trees content
   pub books : IsBooks content k
   pub registry : IsRegistry content k.registry
   pub says : Says content
@@ -29,15 +37,17 @@ module _ {S X E : Type 0} {g : Ghosts S} {old new : S} {P : Content → X → Ty
 
   -- what a scan says, of the rows of the store that the trees are read as
   pub said_of : {r : Result X E} → IsScan g old new P r → AreHonest g new
-      → (k : StoreState) → AreReadAs (g.view old).trees k → IfOk r (λ x. IsSaid k (λ c. P c x))
+      → (k : StoreState) → AreReadAs (g.view old).trees k
+      → IfOk r (λ x. IsSaid (g.view old).trees k (λ c. P c x))
   unfolding IsStore
   said_of {r = Ok x} scan clean k read = record {
     database = record { schema = store_schema; trees = read.store };
     content = content_in read.store;
     holds = record { schema_is = refl; store = read.kept.tables };
+    keys = has_keys _ k read;
     books = read.kept.books;
     registry = read.kept.registry;
-    says = scan.said clean _ read.rows;
+    says = scan.said clean _ read.shows.rows;
   }
   said_of {r = Err e} scan clean k read = tt
 
@@ -117,7 +127,8 @@ module _ {S : Type 0} {g : Ghosts S} where
   -- what a scan says, of the rows of the store that a reader stands for
   pub told_of : {X E : Type 0} {new : S} {P : Content → X → Type 0}
       {r : Result X E} (old : StoreReader S) → IsScan g old.trees new P r → AreHonest g new
-      → (k : StoreState) → ReaderRepresents g old k → IfOk r (λ x. IsSaid k (λ c. P c x))
+      → (k : StoreState) → ReaderRepresents g old k
+      → IfOk r (λ x. IsSaid (g.view old.trees).trees k (λ c. P c x))
   unfolding ReaderRepresents
   told_of old scan clean k stands = said_of scan clean k (stands.rows (was_honest scan clean))
 

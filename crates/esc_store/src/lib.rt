@@ -15,7 +15,8 @@
 //! receipt. `S5`, no room for a parked body, is for the desk above, which counts them.
 //!
 //! A report that reads whole tables needs no connection: a `StoreReader` has a store's trees and
-//! its manifest, and only reads.
+//! its manifest, and only reads. It returns objects as a store does, in pages of at most 256 of a
+//! kind, which it finds by the index of keys that the database has.
 //!
 //! | Module | What it has |
 //! |---|---|
@@ -23,7 +24,7 @@
 //! | `migrating` | a store of version 1, which becomes one of this version |
 //! | `reads`, `counts`, `remembered` | what a store returns of what it keeps, and what it remembers |
 //! | `held` | which rows a store holds |
-//! | `reader` | receipts, bodies, moment, chain, keys and objects of a store's trees, without SQL |
+//! | `reader` | what a store's trees keep, without SQL: pages of objects by the index of keys too |
 //! | `change`, `books` | a change: its receipt, body and chain |
 //! | `registry`, `records`, `filling` | a change as a registry: objects, one or many at a time |
 //! | `parked`, `moment` | parked bodies and the moment: reads, and parts of a change |
@@ -58,9 +59,9 @@
 //!   and its chain, and how many objects of each kind it has, until a change ends: that these are
 //!   k's is part of `Represents`.
 //! - `ReaderRepresents g reader k` (`specs/Reading.antt`) says the same of a reader: its trees are
-//!   read as those of a store that keeps k (`AreReadAs`). A read that succeeds leaves it so
-//!   (`IsReadOnly`). The trees of files that hold a store that keeps k are read so
-//!   (`specs/ReadingLaws.antt`).
+//!   read as those of a store that keeps k, with that store's index of keys (`AreReadAs`). A read
+//!   that succeeds leaves it so (`IsReadOnly`). The trees of files that hold a store that keeps k
+//!   are read so (`specs/ReadingLaws.antt`).
 //! - A change that was begun on a store of k has `Began`: nothing is committed. `HasMadeBooks` says
 //!   what it has made of rows, receipts, bodies, parked bodies, moment and chain, and
 //!   `HasMadeTables` what of tables and before-images. `commit` turns `HasMadeBooks` and

@@ -27,8 +27,9 @@ use esc_scan::version::find_version;
 use sqlite_trees::store::Store;
 use std::alloc::Global;
 
-/// The trees of a store and its manifest, for reads alone: no transaction, and no SQL. A row is
-/// tested where it is read, so a read may meet a row that no store writes (`S1`).
+/// The trees of a store and its manifest, for reads alone: no transaction, and no SQL. A row, or an
+/// entry of the index of keys, is tested where it is read, so a read may meet one that no store
+/// writes (`S1`).
 #[derive(Drop)]
 pub struct StoreReader<S: Store> {
     pub(crate) trees: S,

@@ -1,10 +1,11 @@
-//! What a reader returns of the chain's tables by key, one object at a time.
+//! What a reader returns of the chain's tables by key: pages, the keys, or one object.
 
-ghost use Rattle.std.specs.Prelude.{◌≡◌, Some, map, option_map, IfOk, IfErr, IsPermutation, IsTrue};
+ghost use Rattle.std.specs.Prelude.{◌≡◌, Some, map, option_map, IfOk, IfErr, IsTrue};
+ghost use Rattle.esc_sql.specs.StoreTable.{Objects};
 ghost use Rattle.esc_sql.specs.Entries.{stored_entry};
-ghost use Rattle.esc_scan.specs.KeyIndex.{AreShaped, HasKeys, ReadsKey};
+ghost use Rattle.esc_scan.specs.KeyIndex.{AreShaped};
 ghost use Rattle.esc_scan.specs.ObjectKeys.{key_of_object};
-ghost use Rattle.esc_scan.specs.Scanning.{IsScan};
+ghost use Rattle.esc_scan.specs.Scanning.{ReadsRow, IsScan};
 ghost use Rattle.esc_envelope.specs.Kinds.{kind_rank};
 ghost use Rattle.esc_store.specs.Faults.{IsFailure};
 ghost use Rattle.esc_store.specs.StoreState.{StoreState};
@@ -45,20 +46,20 @@ impl TableKey {
     }
 }
 
-// The key's text stays where the entry's bytes were read to: of a million objects each byte counts.
+// The key's text stays where the row's bytes were read to: of a million objects each byte counts.
 impl FromEntry for TableKey {
-    ghost is_read = { ReadsKey numbered_key key_of_object };
+    ghost is_read = { ReadsRow Objects numbered_key key_of_object };
 
     fn from_entry(alloc: Global, row: &Row) -> Result<TableKey, ScanError> {
         Ok(TableKey {
-            key: read_key(value_at(alloc, row, 0)?, value_at(alloc, row, 1)?)?,
-            rowid: value_at(alloc, row, 2)?,
+            key: read_key(value_at(alloc, row, 1)?, value_at(alloc, row, 2)?)?,
+            rowid: value_at(alloc, row, 0)?,
         })
     }
 }
 
 impl<S: Store> StoreReader<S> {
-    // Whether the trees of the objects and of their keys have the shapes of a store.
+    // Whether the tree of the objects is a table, and that of their keys an index.
     fn is_shaped(&self) -> bool
         ensures { IsTrue result → AreShaped (S.Store.view (trees_of self.now)) }
     {
@@ -68,7 +69,8 @@ impl<S: Store> StoreReader<S> {
 
     /// A page: the first objects of a kind whose keys are not below these bytes, in the order of
     /// keys, at most 256. It is empty only if there is no such object. No other object is read.
-    /// `S1`, also where the trees have no table of objects or no index of their keys; `S2`.
+    /// `S1`, also where the trees have no table of objects or no index of their keys, or an entry
+    /// of the index is none of an object's; `S2`.
     #[tactic(auto, using(crate::proofs::Readers::read_only, crate::proofs::Readers::unread))]
     pub fn objects_from(
         &mut self,
@@ -90,8 +92,8 @@ impl<S: Store> StoreReader<S> {
         entries_of(alloc, stored.as_slice())
     }
 
-    /// The keys of the objects, in their order. They are read of the index of keys, and no object
-    /// is. `S1`, `S2`.
+    /// The keys of the objects, in their order. Each object is read, one at a time, and no record
+    /// is kept. All keys are in memory at once. `S1`, `S2`.
     #[tactic(auto, using(crate::proofs::Readers::read_only))]
     pub fn keys(&mut self, alloc: Global) -> Result<Vec<TableKey>, StoreFault>
         ensures same { IsReadOnly S.Store self.old self.new result }
@@ -134,13 +136,12 @@ fn read_key(kind: u32, text: Vec<u8>) -> Result<Key, ScanError>
     }
 }
 
-// The keys, as the index has them.
+// The keys, in the order of rowids.
 fn stored_keys<S: Store>(alloc: Global, trees: &mut S) -> Result<Vec<TableKey>, ScanError>
-    ensures read { IsScan S.Store trees.old trees.new (λ c keys.
-        HasKeys (S.Store.view trees.old).trees c
-        → IsPermutation (map key_of_object c.objects) (map numbered_key keys.items)) result }
+    ensures read { IsScan S.Store trees.old trees.new
+        (λ c keys. map numbered_key keys.items ≡ map key_of_object c.objects) result }
 {
-    read_all(alloc, trees, KEY_TREE)
+    read_all(alloc, trees, OBJECT_TREE)
 }
 
 // The object of this key in a row. `S1` where there is no row, or it is of another key, or it is no

@@ -10,7 +10,7 @@ returns-then-ne-clause-read g c = scan_then c.in_ok-find_version.ensures.read tt
 pub returns-then-ne-clause-never : goal.returns-then-ne-clause-never
 returns-then-ne-clause-never g c = λ is clean k stored.
     differ c.in_ok-find_version.field-0 c.if-ne.ensures
-    (ap (λ v. option_map Int v) (c.in_ok-find_version.ensures.read.said clean _ stored.rows))
+    (ap (λ v. option_map Int v) (c.in_ok-find_version.ensures.read.said clean _ stored.shows.rows))
 
 pub returns-clause-read : goal.returns-clause-read
 returns-clause-read g c = scan_then c.in_ok-find_version.ensures.read (λ content two. tt)
