@@ -9,6 +9,7 @@ pub mod Arriving
 pub mod AtFirst
 pub mod CauseLemmas
 pub mod ComingAgain
+pub mod CountLemmas
 pub mod Counting
 pub mod CrashLemmas
 pub mod CrashSteps
@@ -38,7 +39,6 @@ pub mod ParkedDigests
 pub mod PlanLemmas
 pub mod ReadLemmas
 pub mod ReaderLemmas
-pub mod ReaderWalks
 pub mod RunLemmas
 pub mod SameHeld
 pub mod SameRows

@@ -2,6 +2,7 @@
 use Rattle.std.proofs.Common.{◌≡◌, ℕ, zero, suc, ◌+◌, ◌<◌, ◌≤◌, false, List, [], ◌∷◌, length, map}
 use Rattle.std.proofs.Common.{get_or, slice_get, Option, Some, None, IfSome, Result, Ok, Err, is_some}
 use Rattle.std.proofs.Common.{Ordering, Less, Equal, Greater, refl, sym, ap, subst, ◌∙◌, arith}
+use Rattle.std.specs.Cmp.{both_ways}
 use Rattle.std.specs.List.{list_any}
 use Rattle.std.specs.List.Sorted.{IsBinarySearchResult, IsNonDecreasingBy, IsSearchInRange, IsStrictlySortedBy}
 use Rattle.std.specs.Map.{lookup, keys_of}
@@ -11,16 +12,19 @@ use Rattle.std.proofs.lemmas.List.{get_or-map, length-map}
 use Rattle.std.proofs.lemmas.List.Sorted.{searchable_from_sorted}
 use Rattle.std.proofs.lemmas.Map.Entries.{lookup_from_place}
 use Rattle.std.proofs.lemmas.Map.Keys.{IsDistinct-from_sorted, Less-from_sorted}
+use Rattle.std.proofs.lemmas.Map.Lookups.{btree_set_from_contains}
 use Rattle.std.proofs.lemmas.Map.Made.{is_some-lookup}
+use Rattle.std.proofs.lemmas.Map.Views.{Contains-from_any, list_any-from_Contains}
 use Rattle.std.proofs.lemmas.Option.{same_Some}
-use Rattle.esc_tables.specs.KeyLaws.{keys_total, keys_exact, keys_alike}
+use Rattle.esc_tables.specs.KeyLaws.{keys_total, keys_exact, keys_alike, one_key as same_key}
 use Rattle.esc_tables.specs.KeyName.{KeyName, key_cmp, key_eq}
 use Rattle.esc_tables.specs.ObjectValue.{ObjectValue}
 use Rattle.esc_apply.specs.ObjectStreams.{Entry, InOrder}
 use Rattle.esc_apply.specs.Registry.{ObjectsByKey}
 use Rattle.esc_store.specs.declared.reader.objects.TableKey.{TableKey}
-use Rattle.esc_store.specs.TableKeys.{key_at}
+use Rattle.esc_store.specs.TableKeys.{AreKeysOf, key_at}
 use Rattle.esc_desk.specs.Lookups.{IsFoundAmong}
+use Rattle.esc_desk.specs.Walking.{AreAllOf}
 
 -- ---- a search
 
@@ -94,6 +98,20 @@ key_there (first ∷ keys) zero key it named read = ap key_at read ∙ same_Some
 key_there (first ∷ keys) (suc at) key it named read = key_there keys at key it named read
 
 -- ---- entries
+
+any_kept : (content : ObjectsByKey) (ks : List KeyName)
+    → AreKeysOf content ks → (q : KeyName) → list_any (key_eq q) ks ≡ is_some (content q)
+any_kept content ks are q =
+    both_ways (list_any (key_eq q) ks)
+    (is_some (content q)) (λ any. (are.each q).0 (Contains-from_any same_key q ks any))
+    (λ some. list_any-from_Contains keys_alike q ks ((are.each q).1 some))
+
+-- the keys of a content are those of its entries
+pub keys_of_all : (content : ObjectsByKey) (ks : List KeyName) (es : List Entry)
+    → AreKeysOf content ks → AreAllOf content es → ks ≡ keys_of es
+keys_of_all content ks es are all =
+    btree_set_from_contains keys_total (record { keys = ks }) (record { keys = keys_of es }) are.order all.order
+    (λ q. any_kept content ks are q ∙ ap is_some (sym (all.each q)) ∙ is_some-lookup (key_eq q) es) keys_exact
 
 -- the value of the entry that has the key at a place
 entry_at : (es : List Entry) (at : ℕ) (key : KeyName) → slice_get (keys_of es) at ≡ Some key

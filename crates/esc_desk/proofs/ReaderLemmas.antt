@@ -1,12 +1,12 @@
 -- Reads of a store's trees, one after another, in the words of a reader's contracts.
 use Rattle.std.specs.Prelude.{Result}
-use Rattle.std.proofs.Common.{inl, refl, arith}
 use Rattle.std.proofs.lemmas.Result.{on_ok_weaker}
 use Rattle.sqlite_trees.specs.declared.store.Store.{Ghosts}
 use Rattle.esc_store.specs.Reading.{IsReadOnly}
 use Rattle.esc_store.specs.ReadingLaws.{read_only_made, read_only_failed, read_only_then}
 use Rattle.esc_store.specs.ResultLaws.{on_any}
 use Rattle.esc_store.specs.declared.reader.StoreReader.{StoreReader}
+use Rattle.esc_desk.specs.ReaderLaws.{unwritten_stays}
 use Rattle.esc_desk.specs.Readers.{IsUnwrittenReader, ReaderReflects}
 use Rattle.esc_desk.specs.Reading.{IsReadOf}
 
@@ -27,16 +27,7 @@ module _ {S X E : Type 0} (g : Ghosts S) (old : StoreReader S) where
   pub reader_unread : (result : Result X E)
       → IsReadOf (λ a b. IsUnwrittenReader g a b) (λ reader e. ReaderReflects g reader e) old old result
   reader_unread result = record {
-    follows = record {
-      manifest = refl;
-      unwritten = record {
-        shield = λ h. h;
-        clean = omega arith;
-        counts = omega arith;
-        closes = λ _ up. inl up;
-        outcomes = λ _ h. h;
-      };
-    };
+    follows = unwritten_stays;
     reflects = on_any result (λ e was. was);
   }
 

@@ -21,9 +21,9 @@ use Rattle.esc_apply.specs.ObjectStreams.{Entry, InOrder}
 use Rattle.esc_apply.specs.Registry.{ObjectsByKey}
 use Rattle.esc_tables.specs.KeyLaws.{one_key as same_key}
 use Rattle.esc_store.specs.Pages.{IsPage, last_text, is_on_page}
-use Rattle.esc_store.specs.TableKeys.{wanted_of}
+use Rattle.esc_store.specs.StoreState.{of_kind}
 use Rattle.esc_desk.specs.Places.{first_kind, later_kind, IsPlaceBehind}
-use Rattle.esc_desk.specs.Walking.{of_kinds, is_behind, AreBehind}
+use Rattle.esc_desk.specs.Walking.{of_kinds, is_behind, AreAllOf, AreBehind}
 use Rattle.esc_desk.proofs.EntryLists.{Pass, in_order, rises, rises-filter, rises-append, all_passed}
 use Rattle.esc_desk.proofs.EntryLists.{lookup-append, is_found, each_found, same_entries, pass_too}
 
@@ -399,28 +399,26 @@ kinds_in_order None es order = order
 kinds_in_order (Some kind) es order =
     in_order _ (rises-filter (λ (e : Entry). kind_rank e.0.kind == kind_rank kind) es (rises es order))
 
--- what is found among them
-pub kinds_found : (content : ObjectsByKey) (kind : Option Kind) (es : List Entry)
+-- what is found among those of one kind
+pub kind_found : (content : ObjectsByKey) (kind : Kind) (es : List Entry)
     → ((q : KeyName) → lookup (key_eq q) es ≡ content q)
-    → (q : KeyName) → lookup (key_eq q) (of_kinds kind es) ≡ wanted_of kind content q
-kinds_found content None es each q = each q
-kinds_found content (Some kind) es each q =
+    → (q : KeyName) → lookup (key_eq q) (of_kinds (Some kind) es) ≡ of_kind kind content q
+kind_found content kind es each q =
     let is_of : KeyName → Bool = λ k. kind_rank k.kind == kind_rank kind in
     lookup-filter-keys (key_eq q) is_of (is_of q) (λ k same. ap is_of (sym (same_key q k same))) es
     ∙ ap (λ o. cond (is_of q) o None) (each q)
 
 -- all entries of a content, or those of one kind, are those from the first place on
-pub from_the_first : (content : ObjectsByKey) (kind : Option Kind) (es : List Entry)
-    → InOrder es → ((q : KeyName) → lookup (key_eq q) es ≡ content q)
+pub from_the_first : (content : ObjectsByKey) (kind : Option Kind) (es : List Entry) → AreAllOf content es
     → AreBehind content (Some (first_kind kind)) [] (is_some kind) (of_kinds kind es)
-from_the_first content None es order each = record {
-  order = order;
-  each = λ q. each q ∙ ap (λ b. cond b (content q) None) (sym (from_first q));
+from_the_first content None es all = record {
+  order = all.order;
+  each = λ q. all.each q ∙ ap (λ b. cond b (content q) None) (sym (from_first q));
 }
-from_the_first content (Some kind) es order each =
+from_the_first content (Some kind) es all =
     record {
-      order = kinds_in_order (Some kind) es order;
+      order = kinds_in_order (Some kind) es all.order;
       each = λ q.
           let tests = only_kind (kind_rank q.kind) (kind_rank kind) (is_from [] q.text) (above_nothing q.text) in
-          kinds_found content (Some kind) es each q ∙ ap (λ b. cond b (content q) None) (sym tests);
+          kind_found content kind es all.each q ∙ ap (λ b. cond b (content q) None) (sym tests);
     }

@@ -13,8 +13,8 @@ pub mod Lengthening
 pub mod Lookups
 pub mod Outcomes
 pub mod Places
+pub mod ReaderLaws
 pub mod Readers
-pub mod ReaderWalks
 pub mod Reading
 pub mod Reads
 pub mod Receiving

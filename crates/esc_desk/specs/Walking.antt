@@ -1,19 +1,16 @@
--- What a walk by a desk still returns.
-use Rattle.std.specs.Prelude.{◌≡◌, ℕ, ◌==◌, Bool, false, not, List, filter, ◌++◌, Option}
-use Rattle.std.specs.Prelude.{None, Some, if◌then◌else◌}
+-- What a walk still returns.
+use Rattle.std.specs.Prelude.{◌≡◌, ℕ, ◌==◌, Bool, false, not, List, filter, length, ◌++◌, Option}
+use Rattle.std.specs.Prelude.{None, Some, if◌then◌else◌, Result, OnOk}
 use Rattle.std.specs.Map.{lookup}
 use Rattle.std.specs.Ordering.{nat_cmp, is_ge, match_ordering}
 use Rattle.std.specs.Cmp.Lexicographic.{slice_cmp}
 use Rattle.std.specs.Vec.Iter.{into_iter_items}
-use Rattle.sqlite_trees.specs.declared.store.Store.{Ghosts}
 use Rattle.esc_envelope.specs.declared.kind.Kind.{Kind}
 use Rattle.esc_envelope.specs.Kinds.{kind_rank}
 use Rattle.esc_tables.specs.KeyName.{KeyName, key_eq}
 use Rattle.esc_apply.specs.ObjectStreams.{Entry, InOrder}
 use Rattle.esc_apply.specs.Registry.{ObjectsByKey}
-use Rattle.esc_store.specs.declared.store.Store.{Store}
 use Rattle.esc_store.specs.StoreState.{StoreState}
-use Rattle.esc_store.specs.Representation.{Represents}
 use Rattle.esc_desk.specs.declared.pages.Pages.{Pages}
 
 -- the entries of one kind, or all
@@ -36,15 +33,32 @@ pub record AreBehind (content : ObjectsByKey) (kind : Option Kind) (from : List 
   pub each : (q : KeyName)
       → lookup (key_eq q) es ≡ (if is_behind kind from alone q then content q else None)
 
--- these entries are still to come: the page at hand, and then what the tables have after it
-pub record AreToCome {S : Type 0} (g : Ghosts S) (store : Store S) (pages : Pages)
-    (es : List Entry) : Type 0 where
+-- these are all the entries of a content, in the order of their keys
+pub record AreAllOf (content : ObjectsByKey) (es : List Entry) : Type 0 where
   pub order : InOrder es
-  pub kept : StoreState
-  pub stands : Represents g store kept
-  pub behind : List Entry
-  pub are_behind : AreBehind kept.registry.content pages.kind pages.from.items pages.alone behind
-  pub are_all : es ≡ into_iter_items pages.page ++ behind
+  pub each : (q : KeyName) → lookup (key_eq q) es ≡ content q
+
+module _ {R : Type 0} (Represents : R → StoreState → Type 0) where
+  -- these entries are still to come: the page at hand, and then what the tables have after it
+  pub record AreToCome (store : R) (pages : Pages) (es : List Entry) : Type 0 where
+    pub order : InOrder es
+    pub kept : StoreState
+    pub stands : Represents store kept
+    pub behind : List Entry
+    pub are_behind : AreBehind kept.registry.content pages.kind pages.from.items pages.alone behind
+    pub are_all : es ≡ into_iter_items pages.page ++ behind
+
+  -- and the walk tells how many they are
+  pub record AreCountedToCome (store : R) (pages : Pages) (es : List Entry) : Type 0 where
+    pub come : AreToCome store pages es
+    pub count : pages.left ≡ length es
+
+  -- a read of a walk, by what was read before it and after it: this follows whatever it returned;
+  -- where it succeeded, each state is stood for that was
+  pub record IsPageRead {X E : Type 0} (Follows : R → R → Type 0) (old new : R)
+      (result : Result X E) : Type 0 where
+    pub follows : Follows old new
+    pub stands : OnOk result ((k : StoreState) → Represents old k → Represents new k)
 
 -- how many objects a walk still returns at most
 abbrev pub most_left : Pages → ℕ

@@ -10,7 +10,7 @@ ghost use Rattle.esc_desk.specs.Reads.{SaysOfBody};
 
 use crate::caching::cache_of;
 use crate::desk::Desk;
-use crate::pages::{Pages, fill, first_place};
+use crate::pages::{Paged, Pages, begin, next};
 use crate::reads::Reads;
 use crate::status::{End, Status, end_in, last_row, status_of};
 use esc_apply::Step;
@@ -50,7 +50,8 @@ impl<S: Alter> Reads for Desk<S> {
 
     ghost follows = { λ a b. IsUnchangedDesk S.Store a b };
 
-    ghost lists = { λ desk pages es. AreToCome S.Store (store_of desk) pages es };
+    ghost lists = { λ desk pages es. AreToCome
+        (λ store k. Represents S.Store store k) (store_of desk) pages es };
 
     ghost bound = { λ pages. most_left pages };
 
@@ -103,14 +104,12 @@ impl<S: Alter> Reads for Desk<S> {
         Ok(status_of(listed, receipts, &cache.held_rows, &cache.chain, objects))
     }
 
-    // No more than a page of 256 objects is held in memory.
+    // No more than a page of 256 objects is held in memory. The bound is more than a table has rows.
     fn start_walk(&mut self, alloc: Global, kind: Option<Kind>) -> Result<Pages, StoreFault> {
         latest_chain_at_is_one();
         // Read for the proof alone: it shows that the rows are those of an accepted manifest.
         let _rows = self.store.manifest().rows();
-        let mut pages = first_place(alloc, kind);
-        fill(&mut self.store, &mut pages)?;
-        Ok(pages)
+        begin(&mut self.store, alloc, kind, u64::MAX)
     }
 
     // Only a read of all pages would tell.
@@ -118,19 +117,8 @@ impl<S: Alter> Reads for Desk<S> {
         None
     }
 
-    #[tactic(auto, using(crate::proofs::ReadLemmas::desk_unread))]
     fn walk_on(&mut self, place: &mut Pages) -> Result<Option<(Key, Object)>, StoreFault> {
-        if place.left == 0 {
-            return Err(StoreFault::Failed(Cause::WalkEnded));
-        }
-        fill(&mut self.store, place)?;
-        match place.page.next() {
-            None => Ok(None),
-            Some(entry) => {
-                place.left -= 1;
-                Ok(Some(entry))
-            }
-        }
+        next(&mut self.store, place)
     }
 
     ghost stands_for = { λ desk e h. record { kept = h.kept; stands_for = h.stands_for } };
@@ -153,6 +141,39 @@ impl<S: Alter> Reads for Desk<S> {
     } };
 
     ghost was_honest = { λ a b p clean. honest_before p.same clean };
+}
+
+// Each page is found by a look-up in the index of keys, with SQL.
+impl<S: Alter> Paged for Store<S> {
+    ghost use Rattle.std.proofs.Common.{refl};
+    ghost use Rattle.esc_store.specs.StandingLaws.{as_before_then, survives_same};
+    ghost use Rattle.esc_store.specs.StandingLaws.{was_honest as honest_before};
+
+    ghost represents = { λ store k. Represents S.Store store k };
+
+    ghost is_honest = { λ store. IsHonest S.Store store };
+
+    ghost follows = { λ a b. IsAsBefore S.Store a b };
+
+    fn objects_from(
+        &mut self,
+        alloc: Global,
+        kind: Kind,
+        from: &[u8],
+    ) -> Result<Vec<(Key, Object)>, StoreFault> {
+        self.objects_from(alloc, kind, from)
+    }
+
+    ghost stays = { λ store. record {
+      manifest = refl;
+      writes = refl;
+      survives = survives_same;
+      stands = λ k h. h;
+    } };
+
+    ghost goes_on = { λ a b c p q. as_before_then p q };
+
+    ghost was_honest = { λ a b p clean. honest_before p clean };
 }
 
 // Digests and lengths of the parked bodies with these digests. `S1` if one of them isn't parked.

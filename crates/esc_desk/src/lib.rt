@@ -37,8 +37,8 @@
 //! What writes nothing needs no desk. A reader of a store's trees
 //! ([`StoreReader`](esc_store::StoreReader)), without SQL, implements [`Reads`] as a desk over that
 //! store does, so that a report is written once. A reader also implements [`Lookup`], which finds
-//! an object of the tables by its key, with its position among all. The keys alone are in memory
-//! ([`KeyIndex`]), and a look-up reads one object.
+//! an object of the tables by its key, with its position among all. All keys are in memory then
+//! ([`KeyIndex`]), no object is, and a look-up reads one.
 //!
 //! # Example
 //!
@@ -91,9 +91,10 @@
 //! every list of events that the desk reflected before it": a desk that reflected a list reflects,
 //! after an arrival that was answered, that list with the arrival. `IsUnchangedDesk` says that a
 //! call changed nothing. What one event changes is one change of the store, whole or not at all
-//! (`IsWhole`): after an `Err` the desk reflects the list as it was. So an arrival that was refused by `S1` (the store failed), `S2` (out of memory), `S4`
-//! (there are 1,000,000,000 receipts) or `S5` (1,024 bodies are parked) is as one that never came,
-//! and runs compose, whatever came before them and however they were cut.
+//! (`IsWhole`): after an `Err` the desk reflects the list as it was. So an arrival that was refused
+//! by `S1` (the store failed), `S2` (out of memory), `S4` (there are 1,000,000,000 receipts) or `S5`
+//! (1,024 bodies are parked) is as one that never came, and runs compose, whatever came before them
+//! and however they were cut.
 //!
 //! What is read has one contract, that of [`Reads`]: what a store reflects (`reflects`), and what a
 //! read leaves as it was (`follows`), are members of the trait, which a desk and a reader give. For
@@ -165,9 +166,10 @@
 //!
 //! [`Reads::end`] reads the body of the chain's last step, and parses its envelope alone, no row.
 //!
-//! A [`Walk`] by a desk holds a page of 256 objects at most, and reads each page by a look-up in
-//! the index; one by a reader holds all keys, and reads each object twice, once for its key. While
-//! it exists it borrows the desk or the reader, so nothing arrives in between.
+//! A [`Walk`] holds a page of 256 objects at most, and reads each page by a look-up in the index of
+//! keys. One by a reader first reads the kind of each object, to count them: that index isn't
+//! audited then, and if it lacks an object, the walk doesn't end but is refused (`S1`). While a walk
+//! exists it borrows the desk or the reader, so nothing arrives in between.
 #![tactic(auto)]
 
 mod amendment;
@@ -213,7 +215,6 @@ pub use laws::{
 };
 pub use lookup::{KeyIndex, Lookup};
 pub use pages::Pages;
-pub use reader::KeysLeft;
 pub use reads::Reads;
 pub use status::{End, Status};
 pub use walk::Walk;

@@ -86,7 +86,7 @@ impl<S: Store> Lookup for StoreReader<S> {
         latest_chain_at_is_one();
         // Read for the proof alone: it shows that the rows are those of an accepted manifest.
         let _rows = self.manifest().rows();
-        let keys = self.keys(alloc, None)?;
+        let keys = self.keys(alloc)?;
         Ok(KeyIndex { keys })
     }
 

@@ -25,5 +25,5 @@ returns-in_ok-object-in-Some-clause-found g c = λ honest e serves apart es entr
     found_there _ c.args.key.now es order
     (ap (λ (ks : List TableKey). map key_at ks) c.as_slice.ensures.value ∙ c.index.view_is ∙ same)
     k.registry.content c.in-Some.at c.in_ok-object-in-Some.object
-    (entries_kept c.latest_chain_at_is_one.ensures accepted apart serves.stands_for entries)
+    (entries_kept c.latest_chain_at_is_one.ensures accepted apart serves.stands_for entries order).each
     c.in-Some.ensures.found (subst (λ q. k.registry.content q ≡ Some c.in_ok-object-in-Some.object) there says)

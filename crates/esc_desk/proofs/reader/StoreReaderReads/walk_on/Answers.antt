@@ -1,8 +1,9 @@
-use Rattle.esc_desk.proofs.ReaderWalks.{given}
+use Rattle.esc_store.specs.Reading.{ReaderRepresents}
+use Rattle.esc_desk.proofs.WalkSteps.{counted}
 use Rattle.esc_desk.proofs.reader.StoreReaderReads.walk_on.Goals as goal
 
-pub returns-in_ok-object-in-Some-clause-given : goal.returns-in_ok-object-in-Some-clause-given
-returns-in_ok-object-in-Some-clause-given g c = λ honest es come.
-    given g.S.Store c.args.self.now _ _ _ c.in-Some.key c.into_key.result
-    c.in_ok-object-in-Some.object es come c.in-Some.ensures.cases.0 c.into_key.ensures
-    (c.in_ok-object-in-Some.ensures.object honest) c.in_ok-object-in-Some.ensures.same.stands
+pub returns-clause-given : goal.returns-clause-given
+returns-clause-given g c = λ honest es lists.
+    let made = c.in_ok-found.ensures in
+    counted (λ r k. ReaderRepresents g.S.Store r k) c.next.new.store c.next.new.pages es c.in_ok-found.found
+    c.args.place.now.left (made.given honest es lists.come) made.left lists.count
