@@ -32,7 +32,8 @@ sized f n es size order each =
     let fs = size.0 in
     let one = length-from_same_keys keys_alike (keys_of fs) (keys_of es) size.1.once
     (IsDistinct-from_sorted key_cmp (keys_of es) order)
-    (λ q. sym (is_some-lookup (key_eq q) fs) ∙ ap is_some (size.1.each q ∙ sym (each q)) ∙ is_some-lookup (key_eq q) es) in
+    (λ q. sym (is_some-lookup (key_eq q) fs) ∙ ap is_some (size.1.each q ∙ sym (each q))
+    ∙ is_some-lookup (key_eq q) es) in
     sym size.2 ∙ sym (length-keys_of fs) ∙ one ∙ length-keys_of es
 
 module _ (content : ObjectsByKey) (es : List Entry) (all : AreAllOf content es) where
