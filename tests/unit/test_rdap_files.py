@@ -642,5 +642,6 @@ class Memory(Case):
         return int(subprocess.run(words, check=True, capture_output=True, text=True).stdout)
 
     def test_memory_does_not_grow_with_the_registry(self) -> None:
-        # The larger one has 8 MB of rows and 4 MB of DS records.
-        self.assertLess(self.most_memory(4_000) - self.most_memory(50), 5_500)
+        # The larger one has 8 MB of rows and 4 MB of DS records. Peaks differ by some hundred KB
+        # from run to run.
+        self.assertLess(self.most_memory(4_000) - self.most_memory(50), 7_000)
