@@ -1,6 +1,6 @@
 -- How a cursor moves, and what has been read on its way.
 use Rattle.std.proofs.Common.{◌≡◌, ℕ, List, [], ◌∷◌, ◌++◌, Option, Some, None, refl, sym, ap}
-use Rattle.std.proofs.Common.{◌∙◌, ◌≢◌, ◌≤◌, ◌⊎◌, length, subst}
+use Rattle.std.proofs.Common.{◌∙◌}
 use Rattle.std.specs.List.{AllByRecursion}
 use Rattle.std.proofs.lemmas.List.{append_assoc}
 use Rattle.sqlite_value.specs.Order.{Row}
@@ -10,7 +10,7 @@ use Rattle.sqlite_trees.specs.declared.store.Direction.TheVariants.{Forward}
 use Rattle.sqlite_trees.specs.View.{View, with_cursor}
 use Rattle.esc_sql.specs.Reading.{AreRead}
 use Rattle.esc_scan.specs.declared.page.KeyEntry.{KeyEntry}
-use Rattle.esc_scan.specs.KeyIndex.{AreFirstOf, EndsKind, GivesOfKind, IsKeyRead}
+use Rattle.esc_scan.specs.KeyIndex.{GivesOfKind, IsKeyRead}
 use Rattle.esc_scan.specs.Scanning.{left_of, OnlyCursors, ReadsNext, ReadsFirst}
 
 -- from no key on, each row comes
@@ -76,14 +76,6 @@ all_more : {X : Type 0} (P : X → Type 0) (xs : List X) (x : X) → AllByRecurs
 all_more P [] x all last = (last, tt)
 all_more P (y ∷ xs) x all last = (all.0, all_more P xs x all.1 last)
 
--- at the start
-pub first_none : (kind : ℕ) (rows : List Row) (now : View) → left_of now ≡ rows
-    → HasFirst kind rows now []
-first_none kind rows now left = record {
-  has = record { given = []; whole = left; read = tt };
-  of_kind = tt;
-}
-
 -- one more entry of the kind
 pub first_more : (kind : ℕ) (rows : List Row) (old new : View) (read : List KeyEntry) (it : KeyEntry)
     → HasFirst kind rows old read → GivesOfKind kind old new (Some it)
@@ -92,25 +84,3 @@ first_more kind rows old new read it h next = record {
   has = read_more IsKeyRead rows old new read it h.has next.0;
   of_kind = all_more (λ (e : KeyEntry). e.kind ≡ kind) read it h.of_kind next.1;
 }
-
--- where the scan ends
-pub first_ends : (kind : ℕ) (rows : List Row) (now : View) (read : List KeyEntry)
-    → HasFirst kind rows now read → length read ≤ 256
-    → (length read ≡ 256) ⊎ EndsKind kind (left_of now) → AreFirstOf kind rows read
-first_ends kind rows now read h few ends = record {
-  given = h.has.given;
-  rest = left_of now;
-  whole = sym h.has.whole;
-  are = h.has.read;
-  of_kind = h.of_kind;
-  few = few;
-  ends = ends;
-}
-
--- the next entry, by whether it is of the kind
-pub given_of_kind : (kind : ℕ) (old new : View) (found : Option KeyEntry)
-    → ReadsNext IsKeyRead old new found
-    → ((it : KeyEntry) → found ≡ Some it → it.kind ≢ kind) → GivesOfKind kind old new None
-given_of_kind kind old new None next other = subst (EndsKind kind) (sym next.0) tt
-given_of_kind kind old new (Some it) next other =
-    subst (EndsKind kind) (sym next.1) (it, next.2, other it refl)
