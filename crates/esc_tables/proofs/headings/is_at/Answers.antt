@@ -7,11 +7,13 @@ use Rattle.esc_tables.proofs.headings.is_at.Goals as goal
 
 pub returns-in-Some : goal.returns-in-Some
 returns-in-Some c =
-    let there = sym (at_place _ c.args.at) ∙ sym c.in-Some.ensures.value in
-    (λ is. there ∙ ap Some (same_text _ _ (sym is ∙ c.eq.ensures)),
-    λ is. c.eq.ensures ∙ rw (same_Some _ _ (sym there ∙ is)) (nat_list_eq_equiv.refl c.args.cell.now.0.now))
+    let there = sym (at_place _ c.args.at) ∙ sym c.in-Some.ensures.value in (
+      λ is. there ∙ ap Some (same_text _ _ (sym is ∙ c.eq.ensures)),
+      λ is. c.eq.ensures ∙ rw (same_Some _ _ (sym there ∙ is)) (nat_list_eq_equiv.refl c.args.cell.now.0.now),
+    )
 
 pub returns-in-None : goal.returns-in-None
-returns-in-None c =
-    (λ is. absurd cc,
-    λ is. absurd (none-some _ (c.in-None.ensures.value ∙ at_place _ c.args.at ∙ is)))
+returns-in-None c = (
+  λ is. absurd cc,
+  λ is. absurd (none-some _ (c.in-None.ensures.value ∙ at_place _ c.args.at ∙ is)),
+)
