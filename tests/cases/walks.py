@@ -1,5 +1,6 @@
 """Exports of many objects: by a reader of the store, and by a desk on a port, which walks page by
-page, 256 objects in each."""
+page, 256 objects in each. And an export whose file is cut while it is printed."""
+import os
 
 from tests.support.bodies import BODIES
 from tests.support.bodies import SHAPES
@@ -64,3 +65,22 @@ def test_pages(stage: Stage) -> None:
 def test_two_large_deposits(stage: Stage) -> None:
     """More objects than one deposit may have."""
     check_exports(stage, 'Hosts', 'Domains')
+
+
+def test_file_cut_while_it_is_printed(stage: Stage) -> None:
+    """The first pass reads all. If the file is cut in the second one, the status tells it, and what
+    was printed is where the export begins."""
+    check_exports(stage, 'Domains')
+    line = 'export --store a.db domain'
+    whole, size = run(stage, line), os.path.getsize(stage.at('a.db'))
+    child = stage.begin(line.split())
+    if child.stdout is None:
+        raise Failed('no pipe')
+    # The pipe is full soon after its first byte, so the second pass waits.
+    front = child.stdout.read(1)
+    os.truncate(stage.at('a.db'), size // 2)
+    got = stage.end(child)
+    printed = front + got.out
+    stage.compare(line, Wanted(3, part='', err='S1\n'), got)
+    if not whole.startswith(printed) or len(printed) == len(whole):
+        raise Failed(f'of {len(whole)} bytes came {len(printed)}')
