@@ -5,10 +5,11 @@ use Rattle.esc_store.proofs.Common.{◌∙◌, arith, inl, inr, cases_Bool, same
 use Rattle.esc_store.proofs.Common.{IsSome, IfSome, IsSorted, int_eq}
 use Rattle.esc_store.proofs.Common.{IsAscending, Less, option_and_then, kind_rank}
 use Rattle.esc_store.proofs.Common.{KeyName, key_cmp, key_eq, keys_alike, same_key, ObjectValue}
-use Rattle.esc_store.proofs.Common.{nat_cmp, slice_cmp}
+use Rattle.esc_store.proofs.Common.{nat_cmp, slice_cmp, get_or, ◌+◌, Kind}
 use Rattle.esc_store.proofs.Common.{record_of, State, Database, HoldsContent, Content, ObjectRow}
 use Rattle.esc_store.proofs.Common.{ObjectEntry}
 use Rattle.esc_store.proofs.Common.{object_at, stored_entry, IsRegistry, entry_row, record_row}
+use Rattle.std.proofs.Common.{rules}
 use Rattle.std.specs.Prelude.{IsPermutation}
 use Rattle.std.specs.List.{list_any}
 use Rattle.std.specs.Cmp.{IsTotalOrder}
@@ -24,6 +25,7 @@ use Rattle.sqlite_keyed.proofs.ListLemmas.{IsPermutation-same}
 use Rattle.sqlite_keyed.proofs.ListLemmas.{map-map, all_map, ascending-map}
 use Rattle.sqlite_keyed.proofs.ListLemmas.{ascending_from_map, ascending_weaker}
 use Rattle.sqlite_keyed.proofs.SortLemmas.{sorted_is-sort_by}
+use Rattle.esc_envelope.specs.contracts.kind.KindOrd.TheImpl as kind_ord
 use Rattle.esc_sql.specs.Content.{is_object_at, is_same_key}
 use Rattle.esc_sql.specs.Changes.{by_key, object_entry}
 use Rattle.esc_sql.specs.Rows.{object_number}
@@ -124,8 +126,22 @@ name_cmp = by_both number_in text_in
 name_total : IsTotalOrder name_cmp
 name_total = both_total number_in text_in
 
+abbrev by_kind : TableKey → TableKey → Ordering
+by_kind a b = nat_cmp (kind_rank a.kind) (kind_rank b.kind)
+
+abbrev by_text : TableKey → TableKey → Ordering
+by_text a b = slice_cmp nat_cmp a.text.items b.text.items
+
 abbrev by_name : TableKey → TableKey → Ordering
 by_name a b = key_cmp (key_at a) (key_at b)
+
+-- the derived order of kinds
+abbrev kinds_cmp : Kind → Kind → Ordering
+kinds_cmp = (kind_ord.cmp-value).it
+
+-- it is that of their ranks
+by_rank : (a b : Kind) → kinds_cmp a b ≡ nat_cmp (kind_rank a) (kind_rank b)
+by_rank a b = search rules
 
 -- what is not below by kind, text and more is not below by kind and text
 text_first : (o p : Ordering) → is_lt (ordering_then o p) ≡ false → is_lt o ≡ false
@@ -141,9 +157,14 @@ key_first Greater o p h = refl
 
 -- what is sorted by kind and text, and then otherwise, is sorted by key
 pub sorted_by_key : (next : TableKey → TableKey → Ordering) (keys : List TableKey)
-    → IsSorted (λ a b. ordering_then (nat_cmp (kind_rank a.kind) (kind_rank b.kind))
-    (ordering_then (slice_cmp nat_cmp a.text.items b.text.items) (next a b))) keys → IsSorted by_name keys
-sorted_by_key next keys up k d low high = key_first _ _ _ (up k d low high)
+    → IsSorted (λ a b. ordering_then (kinds_cmp a.kind b.kind) (ordering_then (by_text a b) (next a b))) keys
+    → IsSorted by_name keys
+sorted_by_key next keys up k d low high =
+    let a = get_or keys (k + 1) d in
+    let b = get_or keys k d in
+    key_first (by_kind a b) (by_text a b) (next a b)
+    (subst (λ o. is_lt (ordering_then o (ordering_then (by_text a b) (next a b))) ≡ false)
+    (by_rank a.kind b.kind) (up k d low high))
 
 in_order : (keys : List TableKey)
     → IsAscending (λ a b. by_name a b ≡ Less) keys → IsStrictlySortedBy key_cmp (map key_at keys)
