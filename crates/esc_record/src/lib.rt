@@ -19,7 +19,8 @@
 //! let record = to_record(alloc, &object)?;
 //! // the record of an object of a deposit: it is there
 //! if let Some(record) = record {
-//!     let again = read_record(alloc, record.as_slice())?;
+//!     let mut headings = Headings::new(alloc);
+//!     let again = read_record(alloc, &mut headings, record.as_slice())?;
 //! }
 //! ```
 //!

@@ -9,9 +9,17 @@ ghost use Rattle.esc_record.specs.Reading.{cut, number_in_front, text_in_front, 
 ghost use Rattle.esc_record.specs.Reading.{row_in_front, many, object_of_record, of_rows};
 
 use esc_bundle::NoMemory;
-use esc_tables::{Object, Row};
+use esc_tables::{Headings, Object, Row};
 use std::alloc::Global;
 use std::str;
+
+/// The most rows or cells for which room is made before they are read. A record may say that it has
+/// more than its bytes can hold.
+const MOST_ROOM: usize = 64;
+
+fn room_for(count: u32) -> usize {
+    MOST_ROOM.min(count as usize)
+}
 
 // The number that bytes begin with, and the rest.
 fn number_at(bytes: &[u8]) -> Option<(u32, &[u8])>
@@ -71,7 +79,7 @@ fn cells_at(
         ≡ many (cell_in_front is_utf8) count bytes.now) }
 {
     let mut rest = bytes;
-    let mut cells = Vec::new(alloc);
+    let mut cells = Vec::with_capacity(alloc, room_for(count))?;
     for _ in 0..count {
         let Some((cell, behind)) = cell_at(rest) else {
             return Ok(None);
@@ -84,7 +92,11 @@ fn cells_at(
 
 // The row that bytes begin with, and the rest.
 #[tactic(auto, unfolding(crate::specs::Reading::row_in_front))]
-fn row_at(alloc: Global, bytes: &[u8]) -> Result<Option<(Row, &[u8])>, NoMemory>
+fn row_at<'a>(
+    alloc: Global,
+    headings: &mut Headings,
+    bytes: &'a [u8],
+) -> Result<Option<(Row, &'a [u8])>, NoMemory>
     ensures { IfOk result (λ found. option_map (λ p. (p.0, p.1.now)) found
         ≡ row_in_front is_utf8 bytes.now) }
 {
@@ -97,19 +109,24 @@ fn row_at(alloc: Global, bytes: &[u8]) -> Result<Option<(Row, &[u8])>, NoMemory>
     let Some((cells, rest)) = cells_at(alloc, count, rest)? else {
         return Ok(None);
     };
-    let row = Row::from_cells(alloc, table, cells.as_slice())?;
+    let row = Row::from_cells(alloc, headings, table, cells.as_slice())?;
     Ok(Some((row, rest)))
 }
 
 // The first n rows, and the rest.
-fn rows_at(alloc: Global, count: u32, bytes: &[u8]) -> Result<Option<(Vec<Row>, &[u8])>, NoMemory>
+fn rows_at<'a>(
+    alloc: Global,
+    headings: &mut Headings,
+    count: u32,
+    bytes: &'a [u8],
+) -> Result<Option<(Vec<Row>, &'a [u8])>, NoMemory>
     ensures { IfOk result (λ found. option_map (λ p. (p.0.items, p.1.now)) found
         ≡ many (row_in_front is_utf8) count bytes.now) }
 {
     let mut rest = bytes;
-    let mut rows = Vec::new(alloc);
+    let mut rows = Vec::with_capacity(alloc, room_for(count))?;
     for _ in 0..count {
-        let Some((row, behind)) = row_at(alloc, rest)? else {
+        let Some((row, behind)) = row_at(alloc, headings, rest)? else {
             return Ok(None);
         };
         rows.push(row)?;
@@ -134,24 +151,33 @@ fn of_rows(rows: Vec<Row>) -> Option<Object>
 }
 
 /// The object whose record the bytes are; `None` if they are no object's record (this project's
-/// profile).
-pub fn read_record(alloc: Global, bytes: &[u8]) -> Result<Option<Object>, NoMemory>
+/// profile). Its rows share headings with each other and with those that were read by the same
+/// `headings`.
+pub fn read_record(
+    alloc: Global,
+    headings: &mut Headings,
+    bytes: &[u8],
+) -> Result<Option<Object>, NoMemory>
     ensures found { IfOk result (λ found. IfSome found (λ o. record_of o ≡ Some bytes.now)) }
     ensures none { IfOk result
         (λ found. IfNone found ((o : ObjectValue) → IsOfTexts o → record_of o ≢ Some bytes.now)) }
 {
-    object_of(alloc, bytes)
+    object_of(alloc, headings, bytes)
 }
 
 // The object whose record the bytes are, as the definition reads it.
 #[tactic(auto, unfolding(crate::specs::Reading::object_of_record))]
-fn object_of(alloc: Global, bytes: &[u8]) -> Result<Option<Object>, NoMemory>
+fn object_of(
+    alloc: Global,
+    headings: &mut Headings,
+    bytes: &[u8],
+) -> Result<Option<Object>, NoMemory>
     ensures { IfOk result (λ found. found ≡ object_of_record is_utf8 bytes.now) }
 {
     let Some((count, rest)) = number_at(bytes) else {
         return Ok(None);
     };
-    let Some((rows, rest)) = rows_at(alloc, count, rest)? else {
+    let Some((rows, rest)) = rows_at(alloc, headings, count, rest)? else {
         return Ok(None);
     };
     if !rest.is_empty() {

@@ -41,7 +41,8 @@
 //! `read_deposit` returns exactly what the definition `reading` of `specs/Reading.antt` gives. The
 //! definition selects from lists of rows; the code builds a map. `read_bundled_envelope` returns
 //! exactly what `bundled_envelope` gives; of a deposit, its header and counts. A `Row` has as many
-//! texts as its heading has fields: no call makes another.
+//! texts as its heading has fields: no call makes another. `Row::from_cells` makes exactly the row
+//! of the cells, whatever headings its [`Headings`] have.
 //!
 //! The laws: `reading_is_exact` says that `reading` is what the relations of `specs/DepositOf.antt`
 //! say: which body is which deposit, and which refusal is the least. `read_deposits_are_small` says
@@ -63,6 +64,7 @@
 mod deposit;
 mod files;
 mod gather;
+mod headings;
 mod key;
 mod laws;
 mod object;
@@ -73,6 +75,7 @@ mod survey;
 mod tables;
 
 pub use deposit::Deposit;
+pub use headings::Headings;
 pub use key::Key;
 pub use laws::{
     read_deposits_are_small, read_objects_are_small, reading_is_exact, tables_are_in_order,

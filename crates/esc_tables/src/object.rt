@@ -1,6 +1,6 @@
 //! Objects of the registry, and the rows that they are made of.
 
-ghost use Rattle.std.specs.Prelude.{◌≡◌, ◌++◌, IfOk, OnOk, length, map, option_map, slice_get};
+ghost use Rattle.std.specs.Prelude.{◌≡◌, IfOk, length, map, option_map, slice_get};
 ghost use Rattle.std.specs.Prelude.{string_bytes};
 ghost use Rattle.std.specs.List.{zip};
 ghost use Rattle.std.specs.Map.{lookup};
@@ -8,6 +8,7 @@ ghost use Rattle.std.specs.Str.{bytes_eq};
 ghost use Rattle.csv.specs.Records.{fields_of};
 ghost use Rattle.esc_tables.specs.TableRow.{heading_of};
 
+use crate::headings::Headings;
 use csv::StringRecord;
 use esc_bundle::NoMemory;
 use esc_envelope::Table;
@@ -18,8 +19,8 @@ use std::rc::Rc;
 /// What the rows of a table have in common: its name, and the names of its fields.
 #[derive(Debug, Drop)]
 pub struct Heading {
-    name: String,
-    fields: StringRecord,
+    pub(crate) name: String,
+    pub(crate) fields: StringRecord,
 }
 
 impl Model for Heading {
@@ -53,7 +54,12 @@ fn record_of(alloc: Global, texts: &[String]) -> Result<StringRecord, NoMemory>
     Ok(record)
 }
 
-fn shared(alloc: Global, name: &str, fields: StringRecord) -> Result<Rc<Heading>, NoMemory>
+// A heading, for many rows.
+pub(crate) fn shared(
+    alloc: Global,
+    name: &str,
+    fields: StringRecord,
+) -> Result<Rc<Heading>, NoMemory>
     ensures { IfOk result (λ heading. heading.value
         ≡ record { name = name.now; fields = fields_of fields }) }
 {
@@ -61,22 +67,16 @@ fn shared(alloc: Global, name: &str, fields: StringRecord) -> Result<Rc<Heading>
     Ok(Rc::new(alloc, Heading { name, fields })?)
 }
 
-// Appends the fields' names and the texts of these cells.
-fn push_cells(
-    fields: &mut StringRecord,
-    texts: &mut StringRecord,
-    cells: &[(&str, &str)],
-) -> Result<(), NoMemory>
-    ensures fields { OnOk result (fields_of fields.new
-        ≡ fields_of fields.old ++ map (λ c. c.0.now) cells.now) }
-    ensures texts { OnOk result (fields_of texts.new
-        ≡ fields_of texts.old ++ map (λ c. c.1.now) cells.now) }
+// The texts of these cells as one record.
+fn texts_of(alloc: Global, cells: &[(&str, &str)]) -> Result<StringRecord, NoMemory>
+    ensures { IfOk result (λ texts. fields_of texts ≡ map (λ c. c.1.now) cells.now) }
 {
-    for (field, text) in cells {
-        fields.push_field(field)?;
+    let room = cells.len().saturating_mul(USUAL_LENGTH);
+    let mut texts = StringRecord::with_capacity(alloc, room, cells.len())?;
+    for (_, text) in cells {
         texts.push_field(text)?;
     }
-    Ok(())
+    Ok(texts)
 }
 
 /// A row of a table: its cells in the declared order, each with its field's name. It has as many
@@ -104,8 +104,8 @@ impl Model for Row {
     ghost invariant = { λ r. length (fields_of r.texts) ≡ length r.heading.value.fields };
 }
 
-/// The length, in bytes, that most names of fields and texts don't exceed: mostly the memory of a
-/// row is allocated at once.
+/// The length, in bytes, that most texts don't exceed: mostly the memory of a row is allocated at
+/// once.
 const USUAL_LENGTH: usize = 16;
 
 impl Row {
@@ -120,17 +120,19 @@ impl Row {
         Row { heading, texts }
     }
 
-    /// A row of a table with these cells, each a field's name and its text. `NoMemory` out of
-    /// memory.
-    pub fn from_cells(alloc: Global, table: &str, cells: &[(&str, &str)]) -> Result<Row, NoMemory>
+    /// A row of a table with these cells, each a field's name and its text, under the heading that
+    /// `headings` has for them. `NoMemory` out of memory.
+    pub fn from_cells(
+        alloc: Global,
+        headings: &mut Headings,
+        table: &str,
+        cells: &[(&str, &str)],
+    ) -> Result<Row, NoMemory>
         ensures { IfOk result (λ row. row
             ≡ record { table = table.now; cells = map (λ c. (c.0.now, c.1.now)) cells.now }) }
     {
-        let room = cells.len().saturating_mul(USUAL_LENGTH);
-        let mut fields = StringRecord::with_capacity(alloc, room, cells.len())?;
-        let mut texts = StringRecord::with_capacity(alloc, room, cells.len())?;
-        push_cells(&mut fields, &mut texts, cells)?;
-        let heading = shared(alloc, table, fields)?;
+        let heading = headings.heading_for(alloc, table, cells)?;
+        let texts = texts_of(alloc, cells)?;
         Ok(Row { heading, texts })
     }
 

@@ -1,7 +1,6 @@
-use Rattle.std.proofs.Common.{◌≡◌, List, ℕ, Bor, sym, ap, ap₂, ◌∙◌, ◌++◌, map, length}
+use Rattle.std.proofs.Common.{◌≡◌, List, ℕ, Bor, sym, ap, ap₂, ◌∙◌, map, length}
 use Rattle.std.specs.List.{zip}
 use Rattle.std.proofs.lemmas.List.{length-map}
-use Rattle.csv.specs.Records.{fields_of}
 use Rattle.esc_tables.specs.ObjectValue.{HeadingValue, RowValue}
 use Rattle.esc_tables.proofs.FieldFacts.{zip_images}
 use Rattle.esc_tables.proofs.object.Row.from_cells.Goals as goal
@@ -9,28 +8,15 @@ use Rattle.esc_tables.proofs.object.Row.from_cells.Goals as goal
 pub invariant_of-result : goal.invariant_of-result
 invariant_of-result c =
     let cells : List (Bor (List ℕ) × Bor (List ℕ)) = c.args.cells.now in
-    let fields : fields_of c.push_cells.new.fields ≡ map (λ c. c.0.now) cells =
-    c.in_ok-push_cells.ensures.fields
-    ∙ ap (λ (fs : List (List ℕ)). fs ++ map (λ c. c.0.now) cells) c.in_ok-fields.ensures.fields in
-    let texts : fields_of c.push_cells.new.texts ≡ map (λ c. c.1.now) cells =
-    c.in_ok-push_cells.ensures.texts
-    ∙ ap (λ (ts : List (List ℕ)). ts ++ map (λ c. c.1.now) cells) c.in_ok-texts.ensures.fields in
-    ap length texts ∙ length-map cells (λ c. c.1.now)
-    ∙ sym (length-map cells (λ c. c.0.now)) ∙ ap length (sym fields)
+    ap length c.in_ok-texts.ensures ∙ length-map cells (λ c. c.1.now)
+    ∙ sym (length-map cells (λ c. c.0.now))
     ∙ ap (λ (h : HeadingValue). length h.fields) (sym c.in_ok-heading.ensures)
 
 pub returns : goal.returns
 returns c =
     let cells : List (Bor (List ℕ) × Bor (List ℕ)) = c.args.cells.now in
-    let fields : fields_of c.push_cells.new.fields ≡ map (λ c. c.0.now) cells =
-    c.in_ok-push_cells.ensures.fields
-    ∙ ap (λ (fs : List (List ℕ)). fs ++ map (λ c. c.0.now) cells) c.in_ok-fields.ensures.fields in
-    let texts : fields_of c.push_cells.new.texts ≡ map (λ c. c.1.now) cells =
-    c.in_ok-push_cells.ensures.texts
-    ∙ ap (λ (ts : List (List ℕ)). ts ++ map (λ c. c.1.now) cells) c.in_ok-texts.ensures.fields in
     let row : HeadingValue → List (List ℕ)
     → RowValue = λ h xs. record { table = h.name; cells = zip h.fields xs } in
-    ap₂ row (c.in_ok-heading.ensures
-    ∙ ap (λ (fs : List (List ℕ)). record { name = c.args.table.now; fields = fs }) fields) texts
+    ap₂ row c.in_ok-heading.ensures c.in_ok-texts.ensures
     ∙ ap (λ (ps : List (List ℕ × List ℕ)). record { table = c.args.table.now; cells = ps })
     (zip_images (λ c. c.0.now) (λ c. c.1.now) cells)
