@@ -25,7 +25,7 @@ use esc_scan::object::{OBJECT_TREE, find_object};
 use esc_scan::page::{KEY_TREE, objects_from};
 use esc_scan::rows::{FromEntry, ScanError, value_at};
 use esc_sql::object::StoredObject;
-use esc_tables::{Key, Object};
+use esc_tables::{Headings, Key, Object};
 use smallvec::SmallVec;
 use sqlite_trees::store::{Shape, Store};
 use sqlite_value::keys::Order;
@@ -178,5 +178,6 @@ fn object_in_row(
     if stored.kind != kind_number(key.kind) || stored.key.as_slice() != key.text.as_slice() {
         return Err(StoreFault::Failed(Cause::ForeignRow(Table::Object)));
     }
-    record_object(alloc, stored.record.as_slice())
+    let mut headings = Headings::new(alloc);
+    record_object(alloc, &mut headings, stored.record.as_slice())
 }
