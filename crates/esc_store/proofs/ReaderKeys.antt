@@ -5,9 +5,11 @@ use Rattle.esc_store.proofs.Common.{◌∙◌, arith, inl, inr, cases_Bool, same
 use Rattle.esc_store.proofs.Common.{IsSome, IfSome, IsSorted, int_eq}
 use Rattle.esc_store.proofs.Common.{IsAscending, Less, option_and_then, kind_rank}
 use Rattle.esc_store.proofs.Common.{KeyName, key_cmp, key_eq, keys_alike, same_key, ObjectValue}
+use Rattle.esc_store.proofs.Common.{nat_cmp, slice_cmp, get_or, ◌+◌, Kind}
 use Rattle.esc_store.proofs.Common.{record_of, State, Database, HoldsContent, Content, ObjectRow}
 use Rattle.esc_store.proofs.Common.{ObjectEntry}
 use Rattle.esc_store.proofs.Common.{object_at, stored_entry, IsRegistry, entry_row, record_row}
+use Rattle.std.proofs.Common.{rules}
 use Rattle.std.specs.Prelude.{IsPermutation}
 use Rattle.std.specs.List.{list_any}
 use Rattle.std.specs.Cmp.{IsTotalOrder}
@@ -23,6 +25,7 @@ use Rattle.sqlite_keyed.proofs.ListLemmas.{IsPermutation-same}
 use Rattle.sqlite_keyed.proofs.ListLemmas.{map-map, all_map, ascending-map}
 use Rattle.sqlite_keyed.proofs.ListLemmas.{ascending_from_map, ascending_weaker}
 use Rattle.sqlite_keyed.proofs.SortLemmas.{sorted_is-sort_by}
+use Rattle.esc_envelope.specs.contracts.kind.KindOrd.TheImpl as kind_ord
 use Rattle.esc_sql.specs.Content.{is_object_at, is_same_key}
 use Rattle.esc_sql.specs.Changes.{by_key, object_entry}
 use Rattle.esc_sql.specs.Rows.{object_number}
@@ -106,7 +109,7 @@ abbrev Name : Type 0
 Name = ℕ × List ℕ
 
 abbrev name_of : TableKey → Name
-name_of it = (kind_rank it.key.kind, it.key.text)
+name_of it = (kind_rank it.kind, it.text.items)
 
 abbrev row_name : ObjectRow → Name
 row_name o = (o.kind, o.key)
@@ -123,25 +126,51 @@ name_cmp = by_both number_in text_in
 name_total : IsTotalOrder name_cmp
 name_total = both_total number_in text_in
 
+abbrev by_kind : TableKey → TableKey → Ordering
+by_kind a b = nat_cmp (kind_rank a.kind) (kind_rank b.kind)
+
+abbrev by_text : TableKey → TableKey → Ordering
+by_text a b = slice_cmp nat_cmp a.text.items b.text.items
+
 abbrev by_name : TableKey → TableKey → Ordering
-by_name a b = key_cmp a.key b.key
+by_name a b = key_cmp (key_at a) (key_at b)
 
--- what is sorted by key and then by more is sorted by key
-key_first : (o p : Ordering) → is_lt (ordering_then o p) ≡ false → is_lt o ≡ false
-key_first Less p h = h
-key_first Equal p h = refl
-key_first Greater p h = refl
+-- the derived order of kinds
+abbrev kinds_cmp : Kind → Kind → Ordering
+kinds_cmp = (kind_ord.cmp-value).it
 
--- what is sorted by key, and then otherwise, is sorted by key
+-- it is that of their ranks
+by_rank : (a b : Kind) → kinds_cmp a b ≡ nat_cmp (kind_rank a) (kind_rank b)
+by_rank a b = search rules
+
+-- what is not below by kind, text and more is not below by kind and text
+text_first : (o p : Ordering) → is_lt (ordering_then o p) ≡ false → is_lt o ≡ false
+text_first Less p h = h
+text_first Equal p h = refl
+text_first Greater p h = refl
+
+key_first : (n o p : Ordering)
+    → is_lt (ordering_then n (ordering_then o p)) ≡ false → is_lt (ordering_then n o) ≡ false
+key_first Less o p h = h
+key_first Equal o p h = text_first o p h
+key_first Greater o p h = refl
+
+-- what is sorted by kind and text, and then otherwise, is sorted by key
 pub sorted_by_key : (next : TableKey → TableKey → Ordering) (keys : List TableKey)
-    → IsSorted (λ a b. ordering_then (key_cmp a.key b.key) (next a b)) keys → IsSorted by_name keys
-sorted_by_key next keys up k d low high = key_first _ _ (up k d low high)
+    → IsSorted (λ a b. ordering_then (kinds_cmp a.kind b.kind) (ordering_then (by_text a b) (next a b))) keys
+    → IsSorted by_name keys
+sorted_by_key next keys up k d low high =
+    let a = get_or keys (k + 1) d in
+    let b = get_or keys k d in
+    key_first (by_kind a b) (by_text a b) (next a b)
+    (subst (λ o. is_lt (ordering_then o (ordering_then (by_text a b) (next a b))) ≡ false)
+    (by_rank a.kind b.kind) (up k d low high))
 
 in_order : (keys : List TableKey)
     → IsAscending (λ a b. by_name a b ≡ Less) keys → IsStrictlySortedBy key_cmp (map key_at keys)
 unfolding IsStrictlySortedBy
 in_order [] up = tt
-in_order (k ∷ keys) up = (all_map (λ q. key_cmp k.key q ≡ Less) key_at keys up.0, in_order keys up.1)
+in_order (k ∷ keys) up = (all_map (λ q. key_cmp (key_at k) q ≡ Less) key_at keys up.0, in_order keys up.1)
 
 abbrev at_name : ℕ → List ℕ → Name → Bool
 at_name n text x = is_same_key n text x.0 x.1
@@ -149,7 +178,7 @@ at_name n text x = is_same_key n text x.0 x.1
 any_named : (q : KeyName) (keys : List TableKey) → list_any (key_eq q) (map key_at keys)
     ≡ list_any (at_name (kind_rank q.kind) q.text) (map name_of keys)
 any_named q [] = refl
-any_named q (k ∷ keys) = rw (same_tests q k.key, any_named q keys) refl
+any_named q (k ∷ keys) = rw (same_tests q (key_at k), any_named q keys) refl
 
 any_at : (n : ℕ) (text : List ℕ) (os : List ObjectRow)
     → list_any (at_name n text) (map row_name os) ≡ is_some (object_at n text os)
@@ -177,7 +206,8 @@ module _ (db : Database) (s : State) (c : Content) (keys sorted : List TableKey)
       let name : ℤ × ℕ × List ℕ → Name = λ p. (p.1, p.2) in
       IsPermutation-trans (map row_name c.objects) (map name_of keys) (map name_of sorted)
       (rw (map-map name key_of_object c.objects, map-map name numbered_key keys)
-      at (IsPermutation-map name (map key_of_object c.objects) (map numbered_key keys) (IsPermutation-same _ _ (sym says))))
+      at (IsPermutation-map name (map key_of_object c.objects) (map numbered_key keys)
+      (IsPermutation-same _ _ (sym says))))
       (IsPermutation-map name_of keys sorted turned)
 
   there : (q : KeyName) → is_some (object_at (kind_rank q.kind) q.text c.objects) ≡ is_some (s.content q)

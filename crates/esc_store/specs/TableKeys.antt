@@ -8,11 +8,11 @@ use Rattle.esc_apply.specs.Registry.{ObjectsByKey}
 use Rattle.esc_store.specs.declared.reader.objects.TableKey.{TableKey}
 
 abbrev pub key_at : TableKey → KeyName
-key_at it = it.key
+key_at it = record { kind = it.kind; text = it.text.items }
 
 -- the rowid of an object, the number of its kind and the bytes of its key's text
 abbrev pub numbered_key : TableKey → ℤ × ℕ × List ℕ
-numbered_key it = (it.rowid, kind_rank it.key.kind, it.key.text)
+numbered_key it = (it.rowid, kind_rank it.kind, it.text.items)
 
 -- these are the keys of the objects, in their order
 pub record AreKeysOf (content : ObjectsByKey) (keys : List KeyName) : Type 0 where

@@ -20,7 +20,7 @@ use esc_envelope::Kind;
 use esc_record::{no_record_begins_another, read_record, to_record};
 use esc_sql::object::StoredObject;
 use esc_sql::undo::StoredImage;
-use esc_tables::{Key, Object};
+use esc_tables::{Headings, Key, Object};
 use std::alloc::Global;
 use std::collections::BTreeMap;
 
@@ -83,12 +83,17 @@ pub(crate) fn record_bytes(alloc: Global, object: &Object) -> Result<Vec<u8>, St
     }
 }
 
-// The object of a record. `S1` where the bytes are no record; `S2`.
-pub(crate) fn record_object(alloc: Global, bytes: &[u8]) -> Result<Object, StoreFault>
+// The object of a record, whose rows share headings with those that were read before. `S1` where
+// the bytes are no record; `S2`.
+pub(crate) fn record_object(
+    alloc: Global,
+    headings: &mut Headings,
+    bytes: &[u8],
+) -> Result<Object, StoreFault>
     ensures object { IfOk result (λ object. record_of object ≡ Some bytes.now) }
     ensures cause { IfErr result IsFailure }
 {
-    match read_record(alloc, bytes)? {
+    match read_record(alloc, headings, bytes)? {
         Some(object) => Ok(object),
         None => Err(FOREIGN),
     }
@@ -102,7 +107,11 @@ pub(crate) fn object_in(alloc: Global, found: Option<Vec<u8>>) -> Result<Option<
 {
     no_record_begins_another();
     match found {
-        Some(record) => Ok(Some(record_object(alloc, record.as_slice())?)),
+        Some(record) => {
+            let mut headings = Headings::new(alloc);
+            let object = record_object(alloc, &mut headings, record.as_slice())?;
+            Ok(Some(object))
+        }
         None => Ok(None),
     }
 }
@@ -123,16 +132,21 @@ fn add_new<X: Drop>(all: &mut BTreeMap<Key, X>, key: Key, value: X) -> Result<()
 }
 
 // The key and the object of a row.
-fn entry_of(alloc: Global, stored: &StoredObject) -> Result<(Key, Object), StoreFault>
+fn entry_of(
+    alloc: Global,
+    headings: &mut Headings,
+    stored: &StoredObject,
+) -> Result<(Key, Object), StoreFault>
     ensures entry { IfOk result (λ entry. entry_row entry ≡ record_row (stored_entry stored.now)) }
     ensures cause { IfErr result IsFailure }
 {
     let key = key_of(alloc, stored.kind, stored.key.as_slice())?;
-    let object = record_object(alloc, stored.record.as_slice())?;
+    let object = record_object(alloc, headings, stored.record.as_slice())?;
     Ok((key, object))
 }
 
-// The keys and objects of rows, in their order. `S1` if a row is no object's; `S2`.
+// The keys and objects of rows, in their order. The objects share headings. `S1` if a row is no
+// object's; `S2`.
 pub(crate) fn entries_of(
     alloc: Global,
     stored: &[StoredObject],
@@ -141,22 +155,27 @@ pub(crate) fn entries_of(
         ≡ map (λ it. record_row (stored_entry it)) stored.now) }
     ensures cause { IfErr result IsFailure }
 {
+    let mut headings = Headings::new(alloc);
     let mut entries = Vec::new(alloc);
     for at in 0..stored.len() {
-        let entry = entry_of(alloc, &stored[at])?;
+        let entry = entry_of(alloc, &mut headings, &stored[at])?;
         entries.push(entry)?;
     }
     Ok(entries)
 }
 
 // What a key had before a step: the object of the row's record, or none.
-fn before_of(alloc: Global, stored: &StoredImage) -> Result<Option<Object>, StoreFault>
+fn before_of(
+    alloc: Global,
+    headings: &mut Headings,
+    stored: &StoredImage,
+) -> Result<Option<Object>, StoreFault>
     ensures before { IfOk result (λ before. option_map record_of before
         ≡ option_map (λ bytes. Some bytes) (stored_image stored.now).bytes) }
     ensures cause { IfErr result IsFailure }
 {
     match &stored.record {
-        Some(bytes) => Ok(Some(record_object(alloc, bytes.as_slice())?)),
+        Some(bytes) => Ok(Some(record_object(alloc, headings, bytes.as_slice())?)),
         None => Ok(None),
     }
 }
@@ -164,6 +183,7 @@ fn before_of(alloc: Global, stored: &StoredImage) -> Result<Option<Object>, Stor
 // Adds the before-image of a row.
 fn add_image(
     alloc: Global,
+    headings: &mut Headings,
     images: &mut BTreeMap<Key, Option<Object>>,
     stored: &StoredImage,
 ) -> Result<(), StoreFault>
@@ -173,11 +193,11 @@ fn add_image(
     ensures cause { IfErr result IsFailure }
 {
     let key = key_of(alloc, stored.kind, stored.key.as_slice())?;
-    let before = before_of(alloc, stored)?;
+    let before = before_of(alloc, headings, stored)?;
     add_new(images, key, before)
 }
 
-// The before-images of these rows, by their keys.
+// The before-images of these rows, by their keys. They share headings.
 fn images_by_key(
     alloc: Global,
     stored: &[StoredImage],
@@ -187,9 +207,10 @@ fn images_by_key(
         (λ images. AreImagesOf (map stored_image stored.now) images.entries) }
     ensures cause { IfErr result IsFailure }
 {
+    let mut headings = Headings::new(alloc);
     let mut images = BTreeMap::new(alloc);
     for at in 0..stored.len() {
-        add_image(alloc, &mut images, &stored[at])?;
+        add_image(alloc, &mut headings, &mut images, &stored[at])?;
     }
     Ok(images)
 }

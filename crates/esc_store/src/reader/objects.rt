@@ -7,6 +7,7 @@ ghost use Rattle.esc_scan.specs.KeyIndex.{AreShaped};
 ghost use Rattle.esc_scan.specs.ObjectKeys.{key_of_object};
 ghost use Rattle.esc_scan.specs.Scanning.{ReadsRow, IsScan};
 ghost use Rattle.esc_envelope.specs.Kinds.{kind_rank};
+ghost use Rattle.esc_tables.specs.KeyName.{key_cmp};
 ghost use Rattle.esc_store.specs.Faults.{IsFailure};
 ghost use Rattle.esc_store.specs.StoreState.{StoreState};
 ghost use Rattle.esc_store.specs.Reading.{IsHonestReader, IsReadOnly, ReaderRepresents, trees_of};
@@ -24,35 +25,42 @@ use esc_scan::object::{OBJECT_TREE, find_object};
 use esc_scan::page::{KEY_TREE, objects_from};
 use esc_scan::rows::{FromEntry, ScanError, value_at};
 use esc_sql::object::StoredObject;
-use esc_tables::{Key, Object};
+use esc_tables::{Headings, Key, Object};
+use smallvec::SmallVec;
 use sqlite_trees::store::{Shape, Store};
 use sqlite_value::keys::Order;
 use sqlite_value::row::Row;
 use std::alloc::Global;
+use std::cmp::Ordering;
 
-/// A key of the chain's tables, and the rowid of its object. They are ordered by key.
+/// A key of the chain's tables, and the rowid of its object. They are ordered by key. The text's
+/// bytes are those of the row: that they are UTF-8 is tested where a page is read.
+// A text of at most 24 bytes takes no allocation, since a million of them are in memory at once.
 #[derive(Debug, Drop, PartialEq, Eq, PartialOrd, Ord)]
 pub struct TableKey {
-    pub key: Key,
+    pub kind: Kind,
+    pub text: SmallVec<u8, 24>,
     pub(crate) rowid: i64,
 }
 
 impl TableKey {
-    /// The key, without the rowid.
-    pub fn into_key(self) -> Key
-        ensures { result ≡ key_at self }
+    /// How the key, without the rowid, is ordered beside another one.
+    pub fn cmp_key(&self, key: &Key) -> Ordering
+        ensures { result ≡ key_cmp (key_at self.now) key.now }
     {
-        self.key
+        self.kind
+            .cmp(&key.kind)
+            .then(self.text.as_slice().cmp(&key.text.as_bytes()))
     }
 }
 
-// The key's text stays where the row's bytes were read to: of a million objects each byte counts.
 impl FromEntry for TableKey {
     ghost is_read = { ReadsRow Objects numbered_key key_of_object };
 
     fn from_entry(alloc: Global, row: &Row) -> Result<TableKey, ScanError> {
         Ok(TableKey {
-            key: read_key(value_at(alloc, row, 1)?, value_at(alloc, row, 2)?)?,
+            kind: read_kind(value_at(alloc, row, 1)?)?,
+            text: short_text(value_at(alloc, row, 2)?),
             rowid: value_at(alloc, row, 0)?,
         })
     }
@@ -122,18 +130,27 @@ impl<S: Store> StoreReader<S> {
             return Err(StoreFault::Failed(Cause::ForeignRow(Table::Object)));
         }
         let found = find_object(alloc, &mut self.trees, key.rowid)?;
-        object_in_row(alloc, &key.key, found)
+        object_in_row(alloc, key, found)
     }
 }
 
-// The key of the kind with this number and these bytes as its text. `Foreign` where it is none.
-fn read_key(kind: u32, text: Vec<u8>) -> Result<Key, ScanError>
-    ensures { IfOk result (λ key. (kind ≡ kind_rank key.kind) × (text.items ≡ key.text)) }
+// The kind with this number. `Foreign` where it is none.
+fn read_kind(number: u32) -> Result<Kind, ScanError>
+    ensures { IfOk result (λ kind. number ≡ kind_rank kind) }
 {
-    match (kind_of(kind), String::from_utf8(text)) {
-        (Ok(kind), Ok(text)) => Ok(Key { kind, text }),
-        _ => Err(ScanError::Foreign),
+    match kind_of(number) {
+        Ok(kind) => Ok(kind),
+        Err(_) => Err(ScanError::Foreign),
     }
+}
+
+// The text, without an allocation where it is short.
+fn short_text(text: Vec<u8>) -> SmallVec<u8, 24>
+    ensures { result.items ≡ text.items }
+{
+    let mut text = SmallVec::from_vec(text);
+    text.shrink_to_fit();
+    text
 }
 
 // The keys, in the order of rowids.
@@ -148,18 +165,19 @@ fn stored_keys<S: Store>(alloc: Global, trees: &mut S) -> Result<Vec<TableKey>, 
 // object's; `S2`.
 fn object_in_row(
     alloc: Global,
-    key: &Key,
+    key: &TableKey,
     found: Option<StoredObject>,
 ) -> Result<Object, StoreFault>
     ensures entry { IfOk result (λ object. option_map (λ it. record_row (stored_entry it)) found
-        ≡ Some (entry_row (key.now, object))) }
+        ≡ Some (entry_row (key_at key.now, object))) }
     ensures cause { IfErr result IsFailure }
 {
     let Some(stored) = found else {
         return Err(StoreFault::Failed(Cause::ForeignRow(Table::Object)));
     };
-    if stored.kind != kind_number(key.kind) || stored.key.as_slice() != key.text.as_bytes() {
+    if stored.kind != kind_number(key.kind) || stored.key.as_slice() != key.text.as_slice() {
         return Err(StoreFault::Failed(Cause::ForeignRow(Table::Object)));
     }
-    record_object(alloc, stored.record.as_slice())
+    let mut headings = Headings::new(alloc);
+    record_object(alloc, &mut headings, stored.record.as_slice())
 }
