@@ -28,7 +28,7 @@ use Rattle.esc_tables.specs.ObjectValue.{RowValue, ObjectValue}
 use Rattle.esc_check.specs.declared.field.LinkField.{LinkField}
 use Rattle.esc_check.specs.declared.field.LinkField.TheVariants.{ClId, Registrant, IdnTableId}
 use Rattle.esc_check.specs.declared.field.LinkField.TheVariants.{ContactId, HostName}
-use Rattle.esc_check.specs.declared.walk.Gathering.{Gathering}
+use Rattle.esc_check.specs.declared.walk.Verification.{Verification}
 use Rattle.esc_check.specs.Counted.{came_of}
 use Rattle.esc_check.specs.Fields.{cell, field_name, field_target, is_target, parent_fields, child_field}
 use Rattle.esc_check.specs.FindingValue.{FindingValue}
@@ -106,7 +106,7 @@ link_findings-append present a b =
     (filter (λ (l : LinkValue). not (present l.to)) b)
 
 -- one more object is taken in
-pub leads_more : (w : ℤ) (shown : List ℕ) (g h : Gathering) (k : KeyName)
+pub leads_more : (w : ℤ) (shown : List ℕ) (g h : Verification) (k : KeyName)
     (o : ObjectValue) (left whole : List Entry) → InOrder whole → Leads w shown g ((k, o) ∷ left) whole
     → h.found.items ≡ g.found.items ++ own_findings w shown k o → h.met.keys
     ≡ (if is_target k.kind then insert_key key_cmp g.met.keys k else g.met.keys)
@@ -286,7 +286,7 @@ none_left : (n all : ℕ) → n + 0 ≡ all → n ≡ all
 none_left n all e = omega arith
 
 -- at the end of the walk
-pub gathered_all : (w : ℤ) (g : Gathering) (es : List Entry) (counts : List (Kind × ℕ))
+pub gathered_all : (w : ℤ) (g : Verification) (es : List Entry) (counts : List (Kind × ℕ))
     → Leads w (printed w) g [] es
     → (g.found.items ++ map missing_target (filter (λ l. not (sorted.contains key_cmp g.met l.to))
     g.waiting.items)) ++ flat_map (number_findings (came_of g.came)) counts ≡ walked es w counts
@@ -303,7 +303,7 @@ gathered_all w g es counts leads =
     λ i. (own i ++ links i) ++ flat_map (number_findings (λ kind. came kind i)) counts
 
 -- what was gathered of all objects are their findings
-pub walked_found : (w : ℤ) (g : Gathering) (es : List Entry)
+pub walked_found : (w : ℤ) (g : Verification) (es : List Entry)
     (counts : List (Kind × ℕ)) (found v : List FindingValue) → InOrder es → Leads w (printed w) g [] es
     → found ≡ (g.found.items
     ++ map missing_target (filter (λ l. not (sorted.contains key_cmp g.met l.to)) g.waiting.items))

@@ -15,7 +15,7 @@ use Rattle.esc_tables.specs.KeyName.{KeyName, key_cmp, key_eq}
 use Rattle.esc_tables.specs.ObjectValue.{RowValue, ObjectValue}
 use Rattle.esc_apply.specs.ObjectStreams.{Entry}
 use Rattle.esc_check.specs.declared.field.LinkField.{LinkField}
-use Rattle.esc_check.specs.declared.walk.Gathering.{Gathering}
+use Rattle.esc_check.specs.declared.walk.Verification.{Verification}
 use Rattle.esc_check.specs.Counted.{came_of}
 use Rattle.esc_check.specs.Export.{is_of_table}
 use Rattle.esc_check.specs.Fields.{cell, field_name, parent_fields, is_domain, is_target}
@@ -170,13 +170,13 @@ all_links es = flat_map (λ e. links_of e.0 e.1) es
 -- what a walk has gathered, together with the entries that are left, makes up what the whole has:
 -- what is found of each object by itself, the keys to which a link may lead, how many are of each
 -- kind, and the links that wait; a link that was dropped leads to a key that was met
-pub record Leads (w : ℤ) (shown : List ℕ) (g : Gathering) (left whole : List Entry) : Type 0 where
-  pub found : g.found.items ++ flat_map (λ e. own_findings w shown e.0 e.1) left
+pub record Leads (w : ℤ) (shown : List ℕ) (v : Verification) (left whole : List Entry) : Type 0 where
+  pub found : v.found.items ++ flat_map (λ e. own_findings w shown e.0 e.1) left
       ≡ flat_map (λ e. own_findings w shown e.0 e.1) whole
-  pub met : g.met.keys ++ targets (keys_of left) ≡ targets (keys_of whole)
-  pub came : (kind : Kind) → came_of g.came kind + count_of_kind (keys_of left) kind
+  pub met : v.met.keys ++ targets (keys_of left) ≡ targets (keys_of whole)
+  pub came : (kind : Kind) → came_of v.came kind + count_of_kind (keys_of left) kind
       ≡ count_of_kind (keys_of whole) kind
   pub waiting : (present : KeyName → Bool)
-      → ((q : KeyName) → sorted.contains key_cmp g.met q ≡ true → present q ≡ true)
-      → link_findings present g.waiting.items ++ link_findings present (all_links left)
+      → ((q : KeyName) → sorted.contains key_cmp v.met q ≡ true → present q ≡ true)
+      → link_findings present v.waiting.items ++ link_findings present (all_links left)
       ≡ link_findings present (all_links whole)

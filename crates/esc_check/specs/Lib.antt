@@ -13,4 +13,5 @@ pub mod Statuses
 pub mod ObjectReports
 pub mod Rules
 pub mod TableMap
+pub mod Verifying
 pub mod WritingLaws

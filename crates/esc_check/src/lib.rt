@@ -23,7 +23,8 @@
 //! date.
 //!
 //! `verify_from` returns the same for objects that come one at a time. It asks for all of the
-//! objects, and keeps none; so does `write_export`.
+//! objects, and keeps none; so does `write_export`. A [`Verification`] is given them one after the
+//! other, by a caller who looks at each of them for more than this.
 //!
 //! # Example
 //!
@@ -41,10 +42,11 @@
 //! strict order, so each of them once. `specs/Export.antt` has the lines of the export. Out of
 //! memory, either returns `NoMemory`.
 //!
-//! Over a source that is honest, `verify_from` returns and `write_export` writes exactly that for
-//! the objects that it lists; that findings are in strict order holds over any source. Where the
-//! source fails they return its fault, and a part of an export may be written. Whatever they
-//! return, the source `follows` from what it was.
+//! A `Verification` of objects that come in the order of keys, each key once, gives just these
+//! findings once all have come (`specs/Verifying.antt`). Over a source that is honest, `verify_from`
+//! returns and `write_export` writes exactly that for the objects that it lists; that findings are
+//! in strict order holds over any source. Where the source fails they return its fault, and a part
+//! of an export may be written. Whatever they return, the source `follows` from what it was.
 //!
 //! `specs/Gathered.antt` has what the functions here return to one another, as lists with repeats:
 //! what is found of one object, if these are the keys of the tables. `proofs/FindingLaws.antt`
@@ -86,4 +88,4 @@ pub use finding::Finding;
 pub use rule::Rule;
 pub use stream::StreamFault;
 pub use verification::verify;
-pub use walk::verify_from;
+pub use walk::{Verification, verify_from};

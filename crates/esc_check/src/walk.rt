@@ -1,19 +1,18 @@
 //! Verification of objects that come one at a time.
 
-ghost use Rattle.std.specs.Prelude.{◌≡◌, ◌↔◌, ℕ, ℤ, [], ◌∷◌, List, IfOk, IfErr, OnOk};
-ghost use Rattle.std.specs.Prelude.{if◌then◌else◌, string_bytes};
+ghost use Rattle.std.specs.Prelude.{◌≡◌, ◌↔◌, ℤ, [], ◌∷◌, List, IfOk, IfErr, OnOk};
+ghost use Rattle.std.specs.Prelude.{if◌then◌else◌};
 ghost use Rattle.std.specs.BTreeSet.{insert_key};
 ghost use Rattle.std.specs.List.{Contains};
 ghost use Rattle.std.specs.List.Sorted.{IsStrictlySortedBy};
-ghost use Rattle.esc_envelope.specs.Watermark.{printed};
 ghost use Rattle.esc_apply.specs.ObjectStreams.{Entry, InOrder};
 ghost use Rattle.esc_tables.specs.KeyName.{key_cmp};
 ghost use Rattle.esc_check.specs.Fields.{is_target};
 ghost use Rattle.esc_check.specs.FindingValue.{FindingValue, listing_cmp};
 ghost use Rattle.esc_check.specs.Findings.{IsFinding};
-ghost use Rattle.esc_check.specs.Gathered.{Leads};
 ghost use Rattle.esc_check.specs.ObjectReports.{IfSource, OfSource};
 ghost use Rattle.esc_check.specs.TableMap.{content_of_entries};
+ghost use Rattle.esc_check.specs.Verifying.{IsVerifying};
 
 use crate::came::Came;
 use crate::count::check_came;
@@ -31,30 +30,20 @@ use esc_tables::{Key, Object};
 use std::alloc::Global;
 use std::collections::{BTreeMap, BTreeSet};
 
-/// What a walk over objects keeps of them.
+/// A verification of objects that come one at a time, in the order of keys: what it keeps of them.
 #[derive(Drop)]
-pub struct Gathering {
-    /// The findings of each object by itself (V3 to V7).
-    pub found: Vec<Finding>,
-    /// The keys of the objects so far to which a link may lead. The others need not be kept: of a
-    /// registry's objects most are domains, and no link leads to a domain.
-    pub met: BTreeSet<Key>,
-    /// How many objects of each kind came so far.
-    pub came: Came,
-    /// The links to objects that had not come when the links did: they may still come.
-    pub waiting: Vec<Link>,
-}
-
-fn start(alloc: Global) -> Gathering
-    ensures { (w : ℤ) (shown : List ℕ) (whole : List Entry)
-        → Leads w shown result whole whole }
-{
-    Gathering {
-        found: Vec::new(alloc),
-        met: BTreeSet::new(alloc),
-        came: Came::none(),
-        waiting: Vec::new(alloc),
-    }
+pub struct Verification {
+    // The watermark.
+    limit: Limit,
+    // The findings of each object by itself (V3 to V7).
+    found: Vec<Finding>,
+    // The keys of the objects so far to which a link may lead. The others need not be kept: of a
+    // registry's objects most are domains, and no link leads to a domain.
+    met: BTreeSet<Key>,
+    // How many objects of each kind came so far.
+    came: Came,
+    // The links to objects that had not come when the links did: they may still come.
+    waiting: Vec<Link>,
 }
 
 // Keeps a key, if a link may lead to it.
@@ -68,70 +57,81 @@ fn meet(met: &mut BTreeSet<Key>, key: Key) -> Result<(), NoMemory>
     Ok(())
 }
 
-// Takes in the next object. Nearly all links lead to objects of an earlier kind, which have come
-// already, so that these links need not be kept.
-fn take_in(
-    alloc: Global,
-    gathering: &mut Gathering,
-    limit: &Limit,
-    key: Key,
-    object: &Object,
-) -> Result<(), NoMemory>
-    ensures { OnOk result ((left whole : List Entry) → InOrder whole
-        → Leads limit.now.moment (string_bytes limit.now.text) gathering.old
-        ((key, object.now) ∷ left) whole
-        → Leads limit.now.moment (string_bytes limit.now.text) gathering.new left whole) }
-{
-    check_own(alloc, &mut gathering.found, limit, &key, object)?;
-    let mut links = Vec::new(alloc);
-    add_links(alloc, &mut links, &key, object)?;
-    gathering.waiting.append(&mut unmet(&gathering.met, links))?;
-    gathering.came.add(&key)?;
-    meet(&mut gathering.met, key)?;
-    Ok(())
-}
+impl Verification {
+    /// That of objects of which none came yet, by the watermark of the registry, in nanoseconds since
+    /// 1970-01-01T00:00:00Z.
+    pub fn new(alloc: Global, watermark: i64) -> Result<Verification, NoMemory>
+        ensures { IfOk result (λ new. (whole : List Entry) → InOrder whole
+            → IsVerifying watermark new whole whole) }
+    {
+        Ok(Verification {
+            limit: limit_at(alloc, watermark)?,
+            found: Vec::new(alloc),
+            met: BTreeSet::new(alloc),
+            came: Came::none(),
+            waiting: Vec::new(alloc),
+        })
+    }
 
-// The findings of all the objects that were taken in. A source that isn't honest may give a key
-// twice: then findings may differ only in `other`, and one of them is listed.
-fn finish(
-    alloc: Global,
-    gathering: Gathering,
-    counts: &BTreeMap<Kind, u64>,
-) -> Result<Vec<Finding>, NoMemory>
-    ensures ordered { IfOk result (λ found. IsStrictlySortedBy listing_cmp found.items) }
-    ensures each { IfOk result (λ found. (es : List Entry) (w : ℤ) → InOrder es
-        → Leads w (printed w) gathering [] es → (f : FindingValue)
-        → Contains found.items f ↔ IsFinding (content_of_entries es) w counts.now.entries f) }
-{
-    let Gathering {
-        mut found,
-        met,
-        came,
-        waiting,
-    } = gathering;
-    add_all_missing(alloc, &mut found, &unmet(&met, waiting))?;
-    check_came(alloc, &mut found, &came, counts)?;
-    Ok(listed(settle(found)))
+    /// Takes in the next object. Nearly all links lead to objects of an earlier kind, which have come
+    /// already, so that these links need not be kept.
+    pub fn take_in(&mut self, alloc: Global, key: Key, object: &Object) -> Result<(), NoMemory>
+        ensures { OnOk result ((w : ℤ) (left whole : List Entry)
+            → IsVerifying w self.old ((key, object.now) ∷ left) whole
+            → IsVerifying w self.new left whole) }
+    {
+        check_own(alloc, &mut self.found, &self.limit, &key, object)?;
+        let mut links = Vec::new(alloc);
+        add_links(alloc, &mut links, &key, object)?;
+        self.waiting.append(&mut unmet(&self.met, links))?;
+        self.came.add(&key)?;
+        meet(&mut self.met, key)?;
+        Ok(())
+    }
+
+    /// The findings of the objects, all of which were taken in, by the declared numbers. Where
+    /// objects came in another order, or a key twice, findings may differ only in `other`, and one of
+    /// them is listed.
+    pub fn finish(
+        self,
+        alloc: Global,
+        counts: &BTreeMap<Kind, u64>,
+    ) -> Result<Vec<Finding>, NoMemory>
+        ensures ordered { IfOk result (λ found. IsStrictlySortedBy listing_cmp found.items) }
+        ensures each { IfOk result (λ found. (w : ℤ) (es : List Entry) → IsVerifying w self [] es
+            → (f : FindingValue) → Contains found.items f
+            ↔ IsFinding (content_of_entries es) w counts.now.entries f) }
+    {
+        let Verification {
+            limit: _,
+            mut found,
+            met,
+            came,
+            waiting,
+        } = self;
+        add_all_missing(alloc, &mut found, &unmet(&met, waiting))?;
+        check_came(alloc, &mut found, &came, counts)?;
+        Ok(listed(settle(found)))
+    }
 }
 
 // Takes in all objects of a source.
-fn gather<O: Objects>(
+fn take_in_all<O: Objects>(
     alloc: Global,
     objects: &mut O,
-    limit: &Limit,
-) -> Result<Gathering, StreamFault<O::Error>>
+    watermark: i64,
+) -> Result<Verification, StreamFault<O::Error>>
     ensures follows { O.follows objects.old objects.new }
     ensures source { IfErr result (λ fault. IfSource fault (O.has_failed objects.new)) }
     ensures cause { IfErr result (OfSource O.fails) }
-    ensures leads { IfOk result (λ g. O.is_honest objects.new → (es : List Entry)
-        → O.lists objects.old es
-        → InOrder es × Leads limit.now.moment (string_bytes limit.now.text) g [] es) }
+    ensures all { IfOk result (λ verification. O.is_honest objects.new → (es : List Entry)
+        → O.lists objects.old es → IsVerifying watermark verification [] es) }
 {
-    let mut gathered = start(alloc);
+    let mut verification = Verification::new(alloc, watermark)?;
     while let Some((key, object)) = objects.next().map_err(StreamFault::Source)? {
-        take_in(alloc, &mut gathered, limit, key, &object)?;
+        verification.take_in(alloc, key, &object)?;
     }
-    Ok(gathered)
+    Ok(verification)
 }
 
 /// What `verify` returns for the tables of a registry, from their objects as they come one at a
@@ -153,7 +153,6 @@ pub fn verify_from<O: Objects>(
         → (f : FindingValue) → Contains found.items f ↔ IsFinding
         (content_of_entries es) watermark counts.now.entries f) }
 {
-    let limit = limit_at(alloc, watermark)?;
-    let gathered = gather(alloc, objects, &limit)?;
-    Ok(finish(alloc, gathered, counts)?)
+    let verification = take_in_all(alloc, objects, watermark)?;
+    Ok(verification.finish(alloc, counts)?)
 }
