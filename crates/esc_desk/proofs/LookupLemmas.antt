@@ -1,7 +1,7 @@
 -- A search among keys in order, and what it finds among the entries that have these keys.
 use Rattle.std.proofs.Common.{◌≡◌, ℕ, zero, suc, ◌+◌, ◌<◌, ◌≤◌, false, List, [], ◌∷◌, length, map}
 use Rattle.std.proofs.Common.{get_or, slice_get, Option, Some, None, IfSome, Result, Ok, Err, is_some}
-use Rattle.std.proofs.Common.{Ordering, Less, Equal, Greater, refl, sym, ap, subst, ◌∙◌, arith}
+use Rattle.std.proofs.Common.{Ordering, Less, Equal, Greater, refl, sym, ap, ap₂, subst, ◌∙◌, arith}
 use Rattle.std.specs.Cmp.{both_ways}
 use Rattle.std.specs.List.{list_any}
 use Rattle.std.specs.List.Sorted.{IsBinarySearchResult, IsNonDecreasingBy, IsSearchInRange, IsStrictlySortedBy}
@@ -67,8 +67,8 @@ module _ (key : KeyName) where
       let here = get_or-map key_at keys k d (key_at d) (omega (arith, lt)) in
       let next = get_or-map key_at keys (k + 1) d (key_at d) lt in
       let low : key_cmp (key_at (get_or keys k d)) (key_at (get_or keys (k + 1) d)) ≡ Less =
-      rw (← here, ← next) (Less-from_sorted key_cmp (map key_at keys) k (k + 1) (key_at d) up
-      (omega arith) (omega (arith, lt, long))) in
+      sym (ap₂ key_cmp here next) ∙ Less-from_sorted key_cmp (map key_at keys) k (k + 1) (key_at d) up
+      (omega arith) (omega (arith, lt, long)) in
       ap is_lt (turned (key_at (get_or keys k d)) (key_at (get_or keys (k + 1) d)) Less low))
 
   -- where a search says that the key stands, it does

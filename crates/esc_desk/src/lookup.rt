@@ -52,7 +52,7 @@ fn position(keys: &[TableKey], key: &Key) -> Option<usize>
     ensures absent { result ≡ None → IsStrictlySortedBy key_cmp (map key_at keys.now)
         → list_any (key_eq key.now) (map key_at keys.now) ≡ false }
 {
-    keys.binary_search_by(|it| it.key.cmp(key)).ok()
+    keys.binary_search_by(|it| it.cmp_key(key)).ok()
 }
 
 /// What finds an object of the latest chain's tables by its key, without a walk over the others.

@@ -8,7 +8,7 @@ ghost use Rattle.esc_store.specs.Faults.{IsFailure};
 ghost use Rattle.esc_store.specs.Pages.{IsPage};
 ghost use Rattle.esc_store.specs.StoreState.{StoreState};
 ghost use Rattle.esc_desk.specs.Places.{first_kind, later_kind, kinds_left, IsPlaceBehind};
-ghost use Rattle.esc_desk.specs.Walking.{AreAllOf, AreToCome, IsPageRead, of_kinds};
+ghost use Rattle.esc_desk.specs.Walking.{AreAllOf, AreCountedToCome, AreToCome, IsPageRead, of_kinds};
 
 use esc_envelope::Kind;
 use esc_store::{Cause, StoreFault};
@@ -81,8 +81,8 @@ pub(crate) fn begin<P: Paged>(
     Ok(pages)
 }
 
-// The next object of a walk, or `None` if there is none. `S1`, also if more come than were left;
-// `S2`.
+// The next object of a walk, or `None` if there is none. `S1`, also if one comes where none was
+// left; `S2`.
 pub(crate) fn next<P: Paged>(
     store: &mut P,
     pages: &mut Pages,
@@ -100,11 +100,36 @@ pub(crate) fn next<P: Paged>(
         None => Ok(None),
         Some(entry) => {
             if pages.left == 0 {
-                return Err(StoreFault::Failed(Cause::WalkEnded));
+                return Err(StoreFault::Failed(Cause::Contradiction));
             }
             pages.left -= 1;
             Ok(Some(entry))
         }
+    }
+}
+
+// The next object of a walk that knows how many are left: it ends only where none is. `S1`, also
+// where the index of keys has fewer or more objects than were left; `S2`.
+pub(crate) fn next_counted<P: Paged>(
+    store: &mut P,
+    pages: &mut Pages,
+) -> Result<Option<(Key, Object)>, StoreFault>
+    ensures read { IsPageRead P.represents P.follows store.old store.new result }
+    ensures given { IfOk result (λ o. P.is_honest store.new → (es : List Entry)
+        → AreCountedToCome P.represents store.old pages.old es
+        → GivesFirst (AreCountedToCome P.represents store.new pages.new) es o) }
+    ensures left { IfOk result (λ o. MatchOption o (pages.old.left ≡ 0)
+        (λ _. pages.old.left ≡ pages.new.left + 1)) }
+    ensures cause { IfErr result IsFailure }
+{
+    match next(store, pages)? {
+        None => {
+            if pages.left != 0 {
+                return Err(StoreFault::Failed(Cause::Contradiction));
+            }
+            Ok(None)
+        }
+        Some(entry) => Ok(Some(entry)),
     }
 }
 

@@ -9,7 +9,7 @@ ghost use Rattle.esc_store.specs.Reading.{IsHonestReader, IsReadOnly, ReaderRepr
 ghost use Rattle.esc_store.specs.StoreState.{StoreState, AreCounts, AreHeld};
 ghost use Rattle.esc_desk.specs.Walking.{AreAllOf, of_kinds};
 
-use crate::pages::{Paged, Pages, begin, next};
+use crate::pages::{Paged, Pages, begin, next_counted};
 use crate::reads::Reads;
 use crate::status::{End, Status, end_in, last_row, status_of};
 use esc_apply::Step;
@@ -207,12 +207,7 @@ impl<S: Store> Reads for StoreReader<S> {
 
     #[tactic(auto, using(crate::proofs::ReaderLemmas::reader_reads))]
     fn walk_on(&mut self, place: &mut Pages) -> Result<Option<(Key, Object)>, StoreFault> {
-        let found = next(self, place)?;
-        // The index lacks an object of the table.
-        if found.is_none() && place.left > 0 {
-            return Err(StoreFault::Failed(Cause::Contradiction));
-        }
-        Ok(found)
+        next_counted(self, place)
     }
 
     ghost stands_for = { λ reader e h. record { kept = h.kept; stands_for = h.stands_for } };
