@@ -24,7 +24,7 @@ use std::collections::BTreeMap;
 /// The findings V1 to V7 in the tables, by what the end of their chain says, while it is told how many
 /// objects were read. Without a chain there are none. `S1`, `S2`.
 #[tactic(auto, using(crate::proofs::Reading::reads_stay))]
-pub fn findings_at<R: Reads>(
+pub(crate) fn findings_at<R: Reads>(
     alloc: Global,
     reader: &mut R,
     end: &Option<End>,

@@ -3,7 +3,7 @@
 //! | Call | Text |
 //! |---|---|
 //! | [`report`] | a [`Report`] of what a desk or a reader reads |
-//! | [`report_links`] | the report of links, told how far it is; [`findings_at`]: the findings |
+//! | [`report_links`] | the report of links, told how far it is |
 //! | [`write_export_of`] | an export, written while the store is read |
 //! | [`reply_text`] | a reply as JSON: an object of eight members, null where there is no value |
 //! | [`receipts_heading`], [`receipt_line`] | the heading of the receipts, and the line of one reply |
@@ -58,7 +58,6 @@ mod words;
 pub use catalog::Report;
 pub use esc_check::ExportFault;
 pub use export::write_export_of;
-pub use findings::findings_at;
 pub use receipts::{receipt_line, receipts_heading};
 pub use reply::reply_text;
 pub use reports::{report, report_links};
