@@ -3,4 +3,5 @@ pub mod Chains
 pub mod Guides
 pub mod Lines
 pub mod Listed
+pub mod Surveyed
 pub mod Tlds

@@ -11,7 +11,7 @@
 //!
 //! What is seen is found by `gaps_of`, which has the line of each listed place, by `is_latest`, which
 //! compares a chain with the latest one, by `is_as_listed`, which compares a body with its row, by
-//! [`Tlds`], by `survey_from`, which goes over all objects as they come, and by [`ChainFacts`], which
+//! [`Tlds`], by `survey_from`, which takes in all objects as they come, and by [`ChainFacts`], which
 //! takes one body of the chain after the other, the last first. (`esc_conformity` has the objects that
 //! fail a test by themselves.) Nothing here knows of a store.
 //!
@@ -32,8 +32,12 @@
 //! 0 exactly where the registry is accepted. `specs/Lines.antt` says what the text is: a line for
 //! each test, in order, with `ok` exactly where it passes, then one for each note. What a line says
 //! after the test's name has no contract. `specs/Guides.antt` says which fields have links, statuses
-//! and dates, which objects have them, and what looks like one of them under another name;
-//! `survey_from` returns just the fields that some object lacks (`IsCoverageOf`).
+//! and dates, which objects have them, and what looks like one of them under another name.
+//!
+//! `survey_from` takes in each object once, for all that is asked of all of them (`IsSurveyed`): it
+//! returns just the fields that some object lacks (`IsCoverageOf`), just the findings V1 to V7, as
+//! `esc_check` has them (`AreAllFindings`), and what the rules of RFC 9022 ask (`IsSurveyOf` of
+//! `esc_conformity`).
 //!
 //! `specs/Chains.antt` says what the bodies of a chain say: at each `add_earlier` whether all of them
 //! are deposits, and how many orphans these have. `specs/Listed.antt` says when a body is as listed.
