@@ -8,7 +8,8 @@ ghost use Rattle.esc_store.specs.Faults.{IsFailure};
 ghost use Rattle.esc_store.specs.Pages.{IsPage};
 ghost use Rattle.esc_store.specs.StoreState.{StoreState};
 ghost use Rattle.esc_desk.specs.Places.{first_kind, later_kind, kinds_left, IsPlaceBehind};
-ghost use Rattle.esc_desk.specs.Walking.{AreAllOf, AreCountedToCome, AreToCome, IsPageRead, of_kinds};
+ghost use Rattle.esc_desk.specs.Walking.{AreAllOf, AreCountedToCome, AreToCome, IsPageRead};
+ghost use Rattle.esc_desk.specs.Walking.{of_kinds};
 
 use esc_envelope::Kind;
 use esc_store::{Cause, StoreFault};
