@@ -168,8 +168,11 @@
 //!
 //! A [`Walk`] holds a page of 256 objects at most, and reads each page by a look-up in the index of
 //! keys. One by a reader first reads the kind of each object, to count them: that index isn't
-//! audited then, and if it lacks an object, the walk doesn't end but is refused (`S1`). While a walk
-//! exists it borrows the desk or the reader, so nothing arrives in between.
+//! audited then, and if it has fewer or more objects, the walk doesn't end but is refused (`S1`).
+//! While a walk exists it borrows the desk or the reader, so nothing arrives in between.
+//!
+//! A [`KeyIndex`] takes 56 bytes for a key, and an allocation beside them only where the key's text
+//! has more than 24 bytes.
 #![tactic(auto)]
 
 mod amendment;
