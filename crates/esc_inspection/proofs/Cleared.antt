@@ -105,16 +105,16 @@ module _ (law : OneLatestChainAt) (e : List EventValue) (accepted : IsAccepted (
       ∙ eqb-true f.chain.orphans 0 (orphans_pass is_strict (seen_in f) clear))))
 
   -- no finding was seen
-  no_findings : f.ending.findings.items ≡ []
-  no_findings = nil_from_length f.ending.findings.items
-      (eqb-true (length f.ending.findings.items) 0 (findings_pass is_strict (seen_in f) clear))
+  no_findings : f.contents.findings.items ≡ []
+  no_findings = nil_from_length f.contents.findings.items
+      (eqb-true (length f.contents.findings.items) 0 (findings_pass is_strict (seen_in f) clear))
 
   -- nothing in the tables is one
-  without_findings : IsWithoutFinding e end_row.0 kept.ending.entries
-  without_findings = none_found e end_row.0 kept.ending.entries kept.ending.end
-      (subst (λ (o : Option ℕ). IsEndAt e o kept.ending.end) (ap (λ (c : List ℕ). last c)
+  without_findings : IsWithoutFinding e end_row.0 kept.contents.entries
+  without_findings = none_found e end_row.0 kept.contents.entries f.ending.end
+      (subst (λ (o : Option ℕ). IsEndAt e o f.ending.end) (ap (λ (c : List ℕ). last c)
       (one_chain kept.ending.ends.chain kept.ending.ends.latest) ∙ end_row.1) kept.ending.ends.says)
-      (subst (AreFindings kept.ending.entries kept.ending.end) no_findings kept.ending.are_found)
+      (subst (AreFindings kept.contents.entries f.ending.end) no_findings kept.contents.are_found)
 
   -- so all is clear
   cleared : IsAllClear e
@@ -126,8 +126,8 @@ module _ (law : OneLatestChainAt) (e : List EventValue) (accepted : IsAccepted (
     greatest = greatest;
     newest = newest;
     without_orphans = without_orphans;
-    entries = kept.ending.entries;
-    tables = kept.ending.tables;
+    entries = kept.contents.entries;
+    tables = kept.contents.tables;
     without_findings = without_findings;
   }
 

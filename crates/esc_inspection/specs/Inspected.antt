@@ -40,7 +40,7 @@ seen_in f = record {
   gaps = f.listing.gaps.items;
   parked = length f.parked.items;
   early = early_count f.books.receipts.items;
-  findings = f.ending.findings.items;
+  findings = f.contents.findings.items;
   flaws = f.contents.flaws;
   objects = f.totals.objects.items;
   counts = f.ending.counts.items;
@@ -57,7 +57,7 @@ module _ (e : List EventValue) where
   -- what is said of bodies, chains and tables
   pub record AreKeptFacts (f : StoreFacts) : Type 0 where
     pub totals : AreTotalsOf e f.totals.end f.totals.objects.items
-    pub ending : AreEndingOf e f.ending.counts.items f.ending.findings.items
+    pub ending : AreEndingOf e f.ending.end f.ending.counts.items
     pub lines : AreLinesFor e f.listing.held.items f.listing.gaps.items
     pub parked : AreParkedOf e f.parked.items
     pub spoiled : AreSpoiledAmong e f.listing.held.items f.bodies.spoiled.items
@@ -65,8 +65,9 @@ module _ (e : List EventValue) where
     pub rows : IsChainOf e f.kept_chain.rows.items
     pub chain : AreChainFactsOf e f.chain
     pub rebuilt : IsRebuiltFrom e f.kept_chain.rows.items f.is_rebuilt
-    pub contents : AreContentsOf e (only_name (map string_bytes f.bodies.tlds.names.items))
-        f.contents.lacking.items f.contents.flaws
+    pub contents : AreContentsOf e f.ending.end
+        (only_name (map string_bytes f.bodies.tlds.names.items))
+        f.contents.findings.items f.contents.lacking.items f.contents.flaws
 
   -- what was seen is what the events leave
   pub record AreFactsAfter (f : StoreFacts) : Type 0 where

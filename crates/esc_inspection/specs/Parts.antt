@@ -11,14 +11,12 @@ use Rattle.esc_tables.specs.Reading.{reading}
 use Rattle.esc_chain.specs.declared.gap.GapLine.{GapLine}
 use Rattle.esc_chain.specs.Gap.{AreGapLinesAt}
 use Rattle.esc_apply.specs.ObjectStreams.{Entry}
-use Rattle.esc_check.specs.FindingValue.{FindingValue}
 use Rattle.esc_store.specs.StoreState.{AreHeld, AreCounts}
 use Rattle.esc_events.specs.Events.{EventValue, union, last_moment}
 use Rattle.esc_events.specs.LatestTables.{IsChainOf, tables_of_chain, AreEntries}
 use Rattle.esc_events.specs.StateAfter.{held_body}
 use Rattle.esc_desk.specs.declared.status.End.{End}
 use Rattle.esc_desk.specs.Reads.{last, IsEndOfChain}
-use Rattle.esc_reports.specs.Reports.{AreFindings}
 use Rattle.esc_acceptance.specs.declared.chain.ChainFacts.{ChainFacts}
 use Rattle.esc_acceptance.specs.declared.tlds.Tlds.{Tlds}
 use Rattle.esc_acceptance.specs.Chains.{AreFactsOf}
@@ -43,15 +41,10 @@ module _ (e : List EventValue) where
     pub end_is : end ≡ option_map (place_at (union e)) (last chain)
     pub objects_are : AreCounts (tables_of_chain e chain) objects
 
-  -- what the end of the latest chain declares, and the findings in its tables
-  pub record AreEndingOf (counts : List (Kind × ℕ)) (findings : List FindingValue)
-      : Type 0 where
-    pub entries : List Entry
-    pub tables : AreEntries e entries
-    pub end : Option End
+  -- what the end of the latest chain says, and what it declares
+  pub record AreEndingOf (end : Option End) (counts : List (Kind × ℕ)) : Type 0 where
     pub ends : IsEndOfChain e end
     pub counts_are : counts ≡ counts_at end
-    pub are_found : AreFindings entries end findings
 
   -- a line for each listed place, by the rows that are held and the moment that is set
   pub record AreLinesFor (rows : List ℕ) (lines : List GapLine) : Type 0 where

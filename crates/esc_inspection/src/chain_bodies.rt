@@ -1,13 +1,13 @@
 //! The bodies of a chain: what they say, and whether the tables are those that they make. Each is read
 //! once.
 
-ghost use Rattle.std.specs.Prelude.{◌≡◌, ◌∷◌, ℕ, List, map, Option, IfErr};
+ghost use Rattle.std.specs.Prelude.{◌≡◌, ◌∷◌, ℕ, List, map, Option, option_to_list, IfErr};
 ghost use Rattle.std.specs.Map.{keys_of};
 ghost use Rattle.esc_events.specs.Apart.{WhereApart};
 ghost use Rattle.esc_store.specs.Faults.{IsFailure};
 ghost use Rattle.esc_desk.specs.Lookups.{ForTables};
 ghost use Rattle.esc_desk.specs.Reading.{IsReadOf, OkForEvents};
-ghost use Rattle.esc_acceptance.specs.Chains.{AreFactsOf};
+ghost use Rattle.esc_acceptance.specs.Chains.{AreFactsOf, deposits_in};
 ghost use Rattle.esc_inspection.specs.Compared.{AreComparedWithBodies};
 ghost use Rattle.esc_inspection.specs.Parts.{IsRebuiltFrom, body_at};
 
@@ -17,6 +17,7 @@ use esc_acceptance::ChainFacts;
 use esc_apply::tables_are_listed;
 use esc_desk::{KeyIndex, Lookup, Reads, StoreFault};
 use esc_progress::Progress;
+use esc_tables::Deposit;
 use std::alloc::Global;
 
 /// What the bodies of a chain say, and whether the tables are those that they make.
@@ -105,8 +106,7 @@ fn read_row<R: Lookup>(
         → AreComparedWithBodies (body_at e row ∷ later) es bodies.new.comparison)) }
     ensures cause { IfErr result IsFailure }
 {
-    let body = reader.body_of(alloc, row)?;
-    match bodies.facts.add_earlier(alloc, body.as_deref())? {
+    match read_body(alloc, reader, row, &mut bodies.facts)? {
         Some(deposit) if bodies.comparison.is_same => {
             compare_deposit(alloc, reader, index, &deposit, &mut bodies.comparison)
         }
@@ -115,4 +115,26 @@ fn read_row<R: Lookup>(
             Ok(())
         }
     }
+}
+
+// Reads the body of a row, which comes before those that were read. Returns its deposit, if it is one:
+// the body is no longer in memory while that is compared.
+#[tactic(auto, using(crate::proofs::Reading::reads_stay))]
+fn read_body<R: Reads>(
+    alloc: Global,
+    reader: &mut R,
+    row: usize,
+    facts: &mut ChainFacts,
+) -> Result<Option<Deposit>, StoreFault>
+    ensures read { IsReadOf R.follows R.reflects reader.old reader.new result }
+    ensures facts { OkForEvents R.is_honest R.reflects reader.old reader.new result
+        (λ e deposit. WhereApart e ((later : List (Option (List ℕ))) → AreFactsOf later facts.old
+        → AreFactsOf (body_at e row ∷ later) facts.new)) }
+    ensures deposit { OkForEvents R.is_honest R.reflects reader.old reader.new result
+        (λ e deposit. WhereApart e (option_to_list deposit ≡ deposits_in (body_at e row))) }
+    ensures cause { IfErr result IsFailure }
+{
+    let body = reader.body_of(alloc, row)?;
+    let deposit = facts.add_earlier(alloc, body.as_deref())?;
+    Ok(deposit)
 }

@@ -1,4 +1,4 @@
-//! What the end of the latest chain declares, and the findings in its tables.
+//! What the end of the latest chain says.
 
 ghost use Rattle.std.specs.Prelude.{◌≡◌, IfOk, IfErr};
 ghost use Rattle.esc_events.specs.Apart.{WhereApart};
@@ -8,38 +8,30 @@ ghost use Rattle.esc_inspection.specs.Parts.{AreEndingOf, counts_at};
 
 use crate::totals::entries_of;
 use esc_bundle::NoMemory;
-use esc_check::Finding;
 use esc_desk::{End, Reads, StoreFault};
 use esc_envelope::Kind;
-use esc_progress::Progress;
-use esc_reports::findings_at;
 use std::alloc::Global;
 
-/// What the end of the latest chain declares, and the findings in its tables.
+/// What the end of the latest chain says.
 #[derive(Drop)]
 pub struct Ending {
-    /// How many objects of a kind the chain's last deposit declares, for the kinds that it does.
+    /// What the chain's last deposit says, if there is a chain.
+    pub end: Option<End>,
+    /// How many objects of a kind it declares, for the kinds that it does.
     pub counts: Vec<(Kind, u64)>,
-    /// The findings V1 to V7.
-    pub findings: Vec<Finding>,
 }
 
-/// Reads the end and the findings. Without a chain there are none.
+/// Reads the end.
 #[tactic(auto, using(crate::proofs::Reading::reads_stay))]
-pub(crate) fn read_ending<R: Reads>(
-    alloc: Global,
-    reader: &mut R,
-    progress: &mut Progress<'_>,
-) -> Result<Ending, StoreFault>
+pub(crate) fn read_ending<R: Reads>(alloc: Global, reader: &mut R) -> Result<Ending, StoreFault>
     ensures read { IsReadOf R.follows R.reflects reader.old reader.new result }
     ensures ending { OkForEvents R.is_honest R.reflects reader.old reader.new result
-        (λ e ending. WhereApart e (AreEndingOf e ending.counts.items ending.findings.items)) }
+        (λ e ending. WhereApart e (AreEndingOf e ending.end ending.counts.items)) }
     ensures cause { IfErr result IsFailure }
 {
     let end = reader.end(alloc)?;
-    let findings = findings_at(alloc, reader, &end, progress)?;
     let counts = declared_by(alloc, &end)?;
-    Ok(Ending { counts, findings })
+    Ok(Ending { end, counts })
 }
 
 fn declared_by(alloc: Global, end: &Option<End>) -> Result<Vec<(Kind, u64)>, NoMemory>

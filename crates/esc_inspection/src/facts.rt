@@ -31,7 +31,7 @@ pub struct StoreFacts {
     pub chain: ChainFacts,
     /// Whether the tables are those that the bodies of the chain make.
     pub is_rebuilt: bool,
-    /// What is asked of all objects of the tables.
+    /// What is found in the objects of the tables.
     pub contents: Contents,
 }
 
@@ -50,7 +50,7 @@ impl StoreFacts {
             gaps: &self.listing.gaps,
             parked: self.parked.len(),
             early: early_in(&self.books.receipts),
-            findings: &self.ending.findings,
+            findings: &self.contents.findings,
             flaws: &self.contents.flaws,
             objects: &self.totals.objects,
             counts: &self.ending.counts,

@@ -47,9 +47,9 @@ pub fn inspect<R: Lookup>(
     let kept_chain = read_kept_chain(alloc, reader, &listing.held, books.moment)?;
     let bodies = read_bodies(alloc, reader, &listing.held, progress)?;
     let chain = read_chain(alloc, reader, &kept_chain.rows, progress)?;
-    // The findings come after the chain, whose index is gone by then.
-    let ending = read_ending(alloc, reader, progress)?;
-    let contents = read_contents(alloc, reader, bodies.tlds.only(), progress)?;
+    let ending = read_ending(alloc, reader)?;
+    // The contents come after the chain, whose index is gone by then.
+    let contents = read_contents(alloc, reader, &ending.end, bodies.tlds.only(), progress)?;
     Ok(StoreFacts {
         clock,
         books,

@@ -4,12 +4,12 @@
 //!
 //! [`inspect`] takes a reader of a store (`Lookup` of `esc_desk`: a reader of trees) and
 //! the time, and gives [`StoreFacts`]: the moment and the receipts, the end of the chain and how
-//! many objects there are, what that end declares and the findings V1 to V7, the line of each listed
-//! place, the parked bodies, which held bodies aren't as listed, what the bodies of the chain say,
-//! whether the tables are what these make, and, by two walks over them, which fields their objects
-//! lack and which break a rule of RFC 9022. [`acceptance`] makes the lines or the page of it
-//! ([`Form`]), with the status. It tells a `Progress` how far it is. It changes nothing. Errors are
-//! those of reads: `S1`, `S2`.
+//! many objects there are, what that end declares, the line of each listed place, the parked bodies,
+//! which held bodies aren't as listed, what the bodies of the chain say, whether the tables are what
+//! these make, and, by two walks over them, the findings V1 to V7, which fields their objects lack
+//! and which break a rule of RFC 9022. [`acceptance`] makes the lines or the page of it ([`Form`]),
+//! with the status. It tells a `Progress` how far it is. It changes nothing. Errors are those of
+//! reads: `S1`, `S2`.
 //!
 //! ```text
 //! let form = Form::Lines { is_strict: false };
@@ -19,7 +19,7 @@
 //!
 //! The bodies of the chain are read last first, and each is parsed once: what it says is compared with
 //! the tables where no later body says it already. In memory are the keys of the tables, and one body
-//! at a time, with its deposit.
+//! at a time, or the deposit that was read of it.
 //!
 //! # What the contracts mean
 //!

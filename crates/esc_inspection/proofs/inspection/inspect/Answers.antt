@@ -54,8 +54,9 @@ returns-clause-facts g c = λ clean e serves.
         };
         rebuilt = subst (λ (rows : List ℕ). IsRebuiltFrom e rows c.in_ok-chain.chain.is_rebuilt)
             c.deref-3.ensures.value (c.in_ok-chain.ensures.rebuilt honest7 e serves6 apart);
-        contents = subst (λ (tld : Option (List ℕ)). AreContentsOf e tld
-            c.in_ok-contents.contents.lacking.items c.in_ok-contents.contents.flaws)
+        contents = subst (λ (tld : Option (List ℕ)). AreContentsOf e c.in_ok-ending.ending.end tld
+            c.in_ok-contents.contents.findings.items c.in_ok-contents.contents.lacking.items
+            c.in_ok-contents.contents.flaws)
             c.only.ensures (c.in_ok-contents.ensures.contents clean e serves8 apart);
       };
     }

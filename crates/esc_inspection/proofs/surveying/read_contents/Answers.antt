@@ -15,6 +15,7 @@ returns-clause-contents g c = λ clean e serves apart.
     record {
       entries = entries.0;
       tables = entries.1;
+      are_found = surveyed.2;
       are_lacking = c.in_ok-lacking.ensures entries.0 surveyed.1;
       flawed = c.in_ok-flaws.ensures.each clean e there apart entries.0 entries.1 entries.2 surveyed.0;
     }
