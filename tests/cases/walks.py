@@ -62,21 +62,14 @@ def test_pages(stage: Stage) -> None:
     check_exports(stage, 'Many')
 
 
-def test_two_large_deposits(stage: Stage) -> None:
-    """More objects than one deposit may have."""
-    check_exports(stage, 'Hosts', 'Domains')
-
-
-def test_file_cut_while_it_is_printed(stage: Stage) -> None:
-    """The first pass reads all. If the file is cut in the second one, the status tells it, and what
-    was printed is where the export begins."""
-    check_exports(stage, 'Domains')
-    line = 'export --store a.db domain'
+def check_cut(stage: Stage, line: str) -> None:
+    """An export that reads its file once to test it, and a second time to print it. If the file is
+    cut in between, the status tells it, and what was printed is where the export begins."""
     whole, size = run(stage, line), os.path.getsize(stage.at('a.db'))
     child = stage.begin(line.split())
     if child.stdout is None:
         raise Failed('no pipe')
-    # The pipe is full soon after its first byte, so the second pass waits.
+    # The pipe is full soon after its first byte, so the rest waits.
     front = child.stdout.read(1)
     os.truncate(stage.at('a.db'), size // 2)
     got = stage.end(child)
@@ -84,3 +77,9 @@ def test_file_cut_while_it_is_printed(stage: Stage) -> None:
     stage.compare(line, Wanted(3, part='', err='S1\n'), got)
     if not whole.startswith(printed) or len(printed) == len(whole):
         raise Failed(f'of {len(whole)} bytes came {len(printed)}')
+
+
+def test_two_large_deposits(stage: Stage) -> None:
+    """More objects than one deposit may have, and a file that is cut while they are printed."""
+    check_exports(stage, 'Hosts', 'Domains')
+    check_cut(stage, 'export --store a.db domain')
