@@ -105,6 +105,12 @@ FOREIGN = {
     'a record that is none': (
         "UPDATE object SET record = X'00' WHERE key = CAST('b.example' AS BLOB)",
         ('links', 'domain'), False),
+    'a record of more rows than it has bytes for': (
+        "UPDATE object SET record = X'FFFFFFFF' WHERE key = CAST('b.example' AS BLOB)",
+        ('links', 'domain'), False),
+    'a row of more cells than the record has bytes for': (
+        "UPDATE object SET record = X'0000000100000000FFFFFFFF'"
+        " WHERE key = CAST('b.example' AS BLOB)", ('links', 'domain'), False),
     'a parked body that is a text': ("UPDATE parked SET body = 'abc'", ('parked',), False),
     'a moment that is a text': ("UPDATE moment SET watermark = 'noon'", ('moment', 'gaps'), False),
     'a before-image of another kind': (
